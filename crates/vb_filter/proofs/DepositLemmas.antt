@@ -1,4 +1,4 @@
--- Bits written behind others that stay.
+-- Bits written after others that are unchanged.
 use Rattle.std.proofs.Common.{◌≡◌, inl, inr, ℕ, ◌+◌, ◌-◌, Bool, false, List, ◌++◌, length, get_or}
 use Rattle.std.proofs.Common.{sym, ap, ◌∙◌, arith, zero-add}
 use Rattle.std.proofs.lemmas.List.{length-append, get_or_append_left, get_or-append_right}
@@ -7,7 +7,7 @@ use Rattle.vb_bits.specs.Writes.{Writes}
 use Rattle.vb_bits.proofs.BitsLemmas.{length-bits, at-bits}
 use Rattle.vb_bits.proofs.WritesLemmas.{Writes_by_bits, Writes-at}
 
--- a write of the bits before bit o as they are, and of others behind them
+-- a write that leaves the bits before bit o unchanged is a write from bit o on
 pub Writes_behind_same : (b c : List ℕ) (o : ℕ) (m : List Bool)
     → Writes b c 0 (bits b 0 o ++ m) → Writes b c o m
 Writes_behind_same b c o m w =

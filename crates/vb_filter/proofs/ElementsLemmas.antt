@@ -21,7 +21,7 @@ use Rattle.vb_bits.proofs.ShiftLemmas.{digits_shr}
 use Rattle.vb_filter.proofs.FilteredBits.{front-add}
 use Rattle.vb_filter.specs.declared.filter_elements.TheConstants.{KEPT_BYTES}
 
--- what holds of each list of four
+-- a property of each list of four items
 pub four_of : (P : List ℕ → Type 0) → ((a b c d : ℕ) → P (a ∷ b ∷ c ∷ d ∷ []))
     → (xs : List ℕ) → length xs ≡ 4 → P xs
 four_of P p (a ∷ b ∷ c ∷ d ∷ []) h = p a b c d
@@ -38,7 +38,7 @@ below_four P p0 p1 p2 p3 (suc (suc zero)) h = p2
 below_four P p0 p1 p2 p3 (suc (suc (suc zero))) h = p3
 below_four P p0 p1 p2 p3 (suc (suc (suc (suc n)))) h = absurd (omega arith)
 
--- what holds of each number below 16
+-- a property of each number below 16
 below_sixteen : (P : ℕ → Type 0) → P 0 → P 1 → P 2 → P 3 → P 4 → P 5 → P 6 → P 7 → P 8 → P 9
     → P 10 → P 11 → P 12 → P 13 → P 14 → P 15 → (k : ℕ) → k < 16 → P k
 below_sixteen P a0 a1 a2 a3 b0 b1 b2 b3 c0 c1 c2 c3 d0 d1 d2 d3 k h =
@@ -95,7 +95,7 @@ module _ {T : Type 0} where
     length-before : length (take i old) ≡ i
     length-before = length-take-le i old (omega arith)
 
-    -- some of them
+    -- the first n of them
     pub some_written : (n : ℕ) → n ≤ 4
         → take (i + n) new ≡ take i old ++ take n (a ∷ b ∷ c ∷ d ∷ [])
     some_written n few =
@@ -106,7 +106,7 @@ module _ {T : Type 0} where
         ∙ ap (λ l. take i old ++ l)
         (take-append-le n (a ∷ b ∷ c ∷ d ∷ []) (drop (i + 4) old) (omega arith))
 
-    -- those from them on
+    -- the list from them on
     pub from_four : drop i new ≡ a ∷ b ∷ c ∷ d ∷ drop (i + 4) old
     from_four = ap (drop i) is ∙ drop_at (take i old) _ i length-before
 
@@ -165,7 +165,7 @@ four_forms w x y z a b c d fw fx fy fz p q r s =
     ∙ ap (λ l. to_le_bytes w32 y ++ l) (four_bytes 0 z 0 fz ∙ append-nil (to_le_bytes w32 z))))
     ∙ (λ i. p i ++ (q i ++ (r i ++ s i)))
 
--- which of them a mask keeps
+-- the elements of four that a mask selects
 abbrev pub KeepsFour : (T : Type 0) → (List ℕ → T) → List ℕ → List ℕ → List ℕ → List ℕ → ℕ
     → Type 0
 KeepsFour T value a b c d m =
@@ -232,7 +232,7 @@ module _ (keep n m : ℕ) (mask : m ≡ 2 ^ n - 1) (clear : keep < 2 ^ (n + n)) 
       )
 
   module _ {T : Type 0} (values : List T) (long : length values ≡ n + n) where
-    -- what they keep
+    -- the elements that they select
     halves_kept : kept_by (digits low 0 n) (slice_range values 0 n)
         ++ kept_by (digits (keep / 2 ^ n) 0 n) (slice_range values n (n + n))
         ≡ kept_by (digits keep 0 (n + n)) values
@@ -273,7 +273,7 @@ module _ (keep n m : ℕ) (mask : m ≡ 2 ^ n - 1) (clear : keep < 2 ^ (n + n)) 
         (kept_by (digits (keep / 2 ^ n) 0 n) (slice_range values n (n + n)))
         ∙ ap (λ l. take len old ++ l) halves_kept
 
-    -- and what was behind them is there
+    -- the items after them are unchanged
     pub halves_behind : (old mid new : List T) (len : ℕ)
         → drop (len + count_ones low + 4) mid ≡ drop (len + count_ones low + 4) old
         → drop (len + count_ones low + count_ones (keep / 2 ^ n) + 4) new

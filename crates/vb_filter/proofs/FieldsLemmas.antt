@@ -1,4 +1,4 @@
--- Parts of a word that a mask keeps, and lanes in pairs.
+-- Parts of a word that a mask selects, and lanes in pairs.
 use Rattle.std.proofs.Common.{◌≡◌, ℕ, zero, suc, ◌+◌, ◌-◌, ◌*◌, ◌/◌, ◌%◌, ◌^◌, ◌<◌, ◌≤◌, List}
 use Rattle.std.proofs.Common.{[], ◌∷◌, length, get_or, refl, sym, ap, ◌∙◌, arith}
 use Rattle.std.proofs.Common.{pow-suc, div-add-mod', div-lt_iff_lt-mul, replicate}
@@ -20,7 +20,7 @@ use Rattle.vb_filter.specs.Fields.{ArePacked, ArePairs, kept_number}
 use Rattle.vb_filter.proofs.PackedDigits.{kept_digits, kept_digits-add, length-kept_digits}
 
 -- ---- parts that are joined
--- k digits have no more ones
+-- k bits have at most k ones
 ones_of_part : (mask a k : ℕ) → count (digits mask a k) ≤ k
 ones_of_part mask a k = omega (arith, count-le (digits mask a k), length-digits mask a k)
 
@@ -31,7 +31,7 @@ kept_number-lt mask word a k =
     pow_mono (omega (arith, few, ones_of_part mask a k)) in
     omega (arith, mask_l-lt (kept_digits mask word a k), wide)
 
--- what is kept of two neighbours
+-- the selected bits of two neighbours
 kept_number-add : (mask word a k : ℕ) → kept_number mask word a k
     + kept_number mask word (a + k) k * 2 ^ count (digits mask a k)
     ≡ kept_number mask word a (k + k)
@@ -43,14 +43,14 @@ kept_number-add mask word a k =
     ∙ sym (ap mask_l (kept_digits-add mask word a k k) ∙ mask_l-append low high
     ∙ ap (λ n. mask_l low + 2 ^ n * mask_l high) many)
 
--- 2 to the number of it
+-- 2 to the number of the selected bits of two neighbours
 powers-add : (mask a k : ℕ) → 2 ^ count (digits mask a k) * 2 ^ count (digits mask (a + k) k)
     ≡ 2 ^ count (digits mask a (k + k))
 powers-add mask a k =
     sym (ap (λ n. 2 ^ n) (count-digits-add mask a k k)
     ∙ pow-add 2 (count (digits mask a k)) (count (digits mask (a + k) k)))
 
--- lanes below q, in which two neighbours have room
+-- lanes below q, in which two neighbours fit
 module _ (mask word k a q : ℕ) (room : 2 ^ (k + k) < q) where
   pub joined_kept : (x y p : ℕ) → x ≡ kept_number mask word a k
       → y ≡ kept_number mask word (a + k) k → p ≡ 2 ^ count (digits mask a k)
@@ -89,7 +89,7 @@ number_l-lt p (x ∷ xs) h =
     let less : rest * p + x < p ^ length xs * p = digits_lt (number_l-lt p xs h.1) h.0 in
     omega (arith, less, mul_comm p rest, pow-suc p (length xs))
 
--- lanes that go through bytes
+-- lanes written as bytes and read again
 pub through_bytes : (p m : ℕ) (xs : List ℕ) → Each1 (λ x. x < p) xs → p ^ length xs ≡ 256 ^ m
     → number_l 256 (digits_l 256 m (number_l p xs)) ≡ number_l p xs
 through_bytes p m xs small same =
@@ -109,7 +109,7 @@ chunk_two p zero (x ∷ y ∷ xs) h =
     ap (λ t. x + p * t) last
 chunk_two p (suc j) (x ∷ xs) h = chunk_two p j xs (omega arith)
 
--- a lane of k digits beside another, as one of twice as many
+-- two neighbouring lanes of k bits, as one of twice as many
 module _ (k a b : ℕ) (small : a < 2 ^ k) where
   first_of : bit_and (a + 2 ^ k * b) (2 ^ k - 1) ≡ a
   first_of =

@@ -1,4 +1,4 @@
--- A word of a mask, and what it keeps.
+-- A word of a mask, and the values that it selects.
 use Rattle.std.proofs.Common.{◌≡◌, ℕ, zero, suc, ◌+◌, ◌-◌, ◌*◌, ◌^◌, ◌<◌, ◌≤◌, Bool, false, List}
 use Rattle.std.proofs.Common.{[], ◌∷◌, ◌++◌, inl, inr, min, length, take, drop, replicate, refl}
 use Rattle.std.proofs.Common.{sym, ap, ◌∙◌, arith}
@@ -14,13 +14,13 @@ use Rattle.vb_bits.proofs.BitsLemmas.{count-append, count-take-le}
 use Rattle.vb_bits.proofs.KeptLemmas.{kept_by-append}
 use Rattle.vb_pack.proofs.WordsLemmas.{digits_above}
 
--- a mask that is false keeps nothing
+-- a mask that is false selects nothing
 pub kept_none : {T : Type 0} (n : ℕ) (xs : List T) → kept_by (replicate n false) xs ≡ []
 kept_none zero xs = refl
 kept_none (suc n) [] = refl
 kept_none (suc n) (x ∷ xs) = kept_none n xs
 
--- a mask of n digits keeps none behind them
+-- a mask of n bits selects nothing after them
 pub kept_by-narrow : (keep w n : ℕ) → keep < 2 ^ n → n ≤ 64
     → kept_by (digits keep 0 64) (digits w 0 64) ≡ kept_by (digits keep 0 n) (digits w 0 n)
 kept_by-narrow keep w n clear few =
@@ -50,7 +50,7 @@ same_fronts [] (y ∷ l) (suc i) e = absurd (omega arith)
 same_fronts (x ∷ k) [] (suc i) e = absurd (omega arith)
 same_fronts (x ∷ k) (y ∷ l) (suc i) e = ap suc (same_fronts k l i (omega arith))
 
--- what n bits more of a mask keep
+-- the values that n more bits of a mask select
 pub kept_by-add : {T : Type 0} (mask : List Bool) (values : List T) (a n : ℕ)
     → length values ≡ length mask
     → kept_by (take (a + n) mask) (take (a + n) values)
@@ -70,7 +70,7 @@ word_end l t n e = elim (cases_lt (length l) (64 * (t + 1))) [
   | inr full ↦ ap (λ k. take k l) (omega arith)
 ]
 
--- what n bits from bit 64 t on keep, and how many they are, with those before them
+-- the values that n bits of a word select, and their number, with those of the words before it
 pub record WordKept {T : Type 0} (mask : List Bool) (values : List T) (t n : ℕ) : Type 0 where
   pub front : kept_by (take (64 * (t + 1)) mask) (take (64 * (t + 1)) values)
       ≡ kept_by (take (64 * t) mask) (take (64 * t) values)
@@ -103,7 +103,7 @@ pub ones-of : (mask : List Bool) (keep a n : ℕ) → keep < 2 ^ n
     → count (slice_range mask a (a + n)) ≡ count_ones keep
 ones-of mask keep a n clear same = ap count (sym same) ∙ count-digits_below keep n clear
 
--- what it keeps of a word of bits
+-- the bits that a word of the mask selects from a word of bits
 pub kept_by-of : (mask values : List Bool) (keep w a n : ℕ) → keep < 2 ^ n → n ≤ 64
     → digits keep 0 n ≡ slice_range mask a (a + n)
     → digits w 0 n ≡ slice_range values a (a + n)
@@ -113,7 +113,7 @@ kept_by-of mask values keep w a n clear few of_mask of_values =
     kept_by-narrow keep w n clear few ∙ ap (λ l. kept_by l (digits w 0 n)) of_mask
     ∙ ap (kept_by (slice_range mask a (a + n))) of_values
 
--- a word without a one keeps nothing
+-- a word without a one selects nothing
 pub kept_by-zero : {T : Type 0} (keep n : ℕ) (xs : List T) → keep ≡ 0
     → kept_by (digits keep 0 n) xs ≡ []
 kept_by-zero keep n xs gone =

@@ -1,4 +1,4 @@
--- Vectors of four digits of a word, lane by lane.
+-- Vectors of four bits of a word, lane by lane.
 use Rattle.std.proofs.Common.{◌≡◌, ℕ, zero, suc, ◌+◌, ◌-◌, ◌*◌, ◌/◌, ◌%◌, ◌^◌, ◌<◌, ◌≤◌, List}
 use Rattle.std.proofs.Common.{[], ◌∷◌, length, map, get_or, replicate, refl, sym, ap, ◌∙◌}
 use Rattle.std.proofs.Common.{arith, zero-add, pow-suc}
@@ -31,7 +31,7 @@ byte_at word i fits h =
     ∙ get_or_narrower (2 ^ 64) 8 256 8 (word ∷ []) 0 i refl (fits, tt) h (omega arith)
     ∙ ap (λ p. word / p % 256) (byte_power i)
 
--- ---- a byte as two fields of four digits, in a lane of 16
+-- ---- a byte as two fields of four bits, in a lane of 16
 abbrev mix : ℕ → ℕ
 mix x = bit_and (bit_or x (x * 2 ^ 4 % 2 ^ 16)) 3855
 
@@ -115,7 +115,7 @@ module _ (word : ℕ) (bytes : List ℕ) (long : length bytes ≡ 8)
       ∙ ap (λ y. y % 2 ^ 4) (shr-shr word (8 * j) (4 * r))
       ∙ ap (λ n. word / 2 ^ n % 2 ^ 4) digit
 
--- ---- digits that move down
+-- ---- bits that move down
 abbrev pub down : ℕ → ℕ → ℕ → ℕ
 down x s by = x - bit_and x s + bit_and x s / 2 ^ by
 

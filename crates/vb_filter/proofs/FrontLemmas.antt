@@ -1,4 +1,4 @@
--- The values that the words of a mask keep, put in front of a list.
+-- The values that the words of a mask select, written to the front of a list.
 use Rattle.std.proofs.Common.{◌≡◌, ℕ, ◌+◌, ◌-◌, ◌*◌, ◌^◌, ◌<◌, ◌≤◌, Bool, List, ◌++◌}
 use Rattle.std.proofs.Common.{length, take, drop, min, refl, sym, ap, subst, ◌∙◌, arith}
 use Rattle.std.specs.Prelude.{count_ones, slice_range}
@@ -11,20 +11,20 @@ use Rattle.vb_filter.specs.Gathered.{PutsAt}
 use Rattle.vb_filter.proofs.FilteredBits.{WordKept, same_fronts, word-kept_by, ones-of}
 use Rattle.vb_filter.proofs.GatherLemmas.{length-kept_by_any, puts-add, puts_none, puts_front}
 
--- those of the first t words are in front, and are len
+-- the values that the first t words select are in front, and number len
 pub record FrontKept {T : Type 0} (mask : List Bool) (values : List T) (t len : ℕ)
     (old new : List T) : Type 0 where
   pub number : len ≡ count (take (64 * t) mask)
   pub put : PutsAt 0 (kept_by (take (64 * t) mask) (take (64 * t) values)) old new
 
--- of no word
+-- no word
 pub front_none : {T : Type 0} (mask : List Bool) (values old : List T)
     → FrontKept mask values 0 0 old old
 front_none mask values old = record { number = refl; put = puts_none 0 old }
 
 module _ {T : Type 0} {mask : List Bool} {values old mid : List T} {t len : ℕ}
     (so_far : FrontKept mask values t len old mid) (same : length values ≡ length mask) where
-  -- of all words
+  -- all words
   pub front_all : length mask ≤ 64 * t → mid ≡ kept_by mask values ++ drop len old
   front_all end =
       let all_mask = take_all (64 * t) mask end in
@@ -35,7 +35,7 @@ module _ {T : Type 0} {mask : List Bool} {values old mid : List T} {t len : ℕ}
       (so_far.number ∙ ap count all_mask ∙ sym (length-kept_by_any mask values (sym same)))
       (subst (λ l. PutsAt 0 l old mid) all so_far.put)
 
-  -- the next word, of which n digits are bits of the mask, which has all
+  -- the next word, n bits of the mask; the mask has `all` bits
   module _ (n keep all : ℕ) (size : n ≡ min (all - 64 * t) 64) (len_is : all ≡ length mask)
       (clear : keep < 2 ^ n) (of_mask : digits keep 0 n ≡ slice_range mask (64 * t) (64 * t + n))
     where
@@ -45,18 +45,18 @@ module _ {T : Type 0} {mask : List Bool} {values old mid : List T} {t len : ℕ}
       ones : count (slice_range mask (64 * t) (64 * t + n)) ≡ count_ones keep
       ones = ones-of mask keep (64 * t) n clear of_mask
 
-      -- there is room for what it keeps where there is for what the mask does
+      -- its values fit where those of the mask do
       pub front_room : len + count_ones keep ≤ count mask
       front_room = omega (arith, so_far.number, ones, word.room)
 
-      -- and their number fits where the mask's length does
+      -- their number fits where the length of the mask does
       pub front_fits : len + count_ones keep ≤ all
       front_fits = omega (arith, front_room, count-le mask, len_is)
 
       abbrev chunk : List T
       chunk = slice_range values (64 * t) (64 * t + n)
 
-      -- the values that it keeps
+      -- the values that it selects
       added : kept_by (digits keep 0 (length chunk)) chunk
           ≡ kept_by (slice_range mask (64 * t) (64 * t + n)) chunk
       added =
@@ -64,7 +64,7 @@ module _ {T : Type 0} {mask : List Bool} {values old mid : List T} {t len : ℕ}
           simp (length-take, length-drop) (omega (arith, size, len_is, same)) in
           ap (λ k. kept_by (digits keep 0 k) chunk) long ∙ ap (λ l. kept_by l chunk) of_mask
 
-      -- with these behind those that are in front
+      -- they are written after those in front
       pub front_more : {new : List T} → (x : ℕ) → x ≡ count_ones keep
           → PutsAt len (kept_by (digits keep 0 (length chunk)) chunk) mid new
           → FrontKept mask values (t + 1) (len + x) old new
@@ -86,7 +86,7 @@ module _ {T : Type 0} {mask : List Bool} {values old mid : List T} {t len : ℕ}
                 (puts-add 0 front _ old mid new so_far.put more);
           }
 
--- once t is the number of the whole words, with the last word, of n bits
+-- the last word, of n bits, after all whole words
 module _ {T : Type 0} {mask : List Bool} {values old mid : List T} {t len : ℕ} (whole : ℕ)
     (so_far : FrontKept mask values t len old mid) (end : t ≡ whole)
     (same : length values ≡ length mask) (n keep : ℕ) (size : n ≡ length mask - 64 * whole)
@@ -95,17 +95,17 @@ module _ {T : Type 0} {mask : List Bool} {values old mid : List T} {t len : ℕ}
   all_whole : FrontKept mask values whole len old mid
   all_whole = subst (λ k. FrontKept mask values k len old mid) end so_far
 
-  -- there is room for what it keeps
+  -- its values fit
   pub last_room : len + count_ones keep ≤ count mask
   last_room =
       front_room all_whole same n keep (length mask) (omega (arith, size, few)) refl clear of_mask
 
-  -- and their number fits
+  -- and so does their number
   pub last_fits : len + count_ones keep ≤ length mask
   last_fits =
       front_fits all_whole same n keep (length mask) (omega (arith, size, few)) refl clear of_mask
 
-  -- how many values are kept, and all of them in front
+  -- all selected values are in front, and this is their number
   pub front_last : {new : List T} → (x : ℕ) → x ≡ count_ones keep
       → PutsAt len (kept_by (digits keep 0 (length (slice_range values (64 * whole) (64 * whole
       + n)))) (slice_range values (64 * whole) (64 * whole + n))) mid new

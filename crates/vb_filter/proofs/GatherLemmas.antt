@@ -1,4 +1,4 @@
--- The values at the digits of a word, and items that are put behind others.
+-- The values at the ones of a word, and items written after others.
 use Rattle.std.proofs.Common.{◌≡◌, ℕ, ◌+◌, ◌-◌, ◌<◌, ◌≤◌, ◌^◌, Bool, true, false, List}
 use Rattle.std.proofs.Common.{[], ◌∷◌, ◌++◌, eqb, length, map, get_or, take, drop, refl}
 use Rattle.std.proofs.Common.{sym, ap, subst, ◌∙◌, arith, append_assoc, length-append}
@@ -20,11 +20,11 @@ use Rattle.vb_walk.specs.Walks.{places_in}
 use Rattle.vb_walk.proofs.OnesLemmas.{lowest_off, lowest_below}
 use Rattle.vb_walk.proofs.PlacesLemmas.{places_in_first, places_in_empty, places-digits}
 
--- the places of the digits that are 1, of the first n of a word
+-- the positions of the ones among the first n bits of a word
 abbrev pub ones : ℕ → ℕ → List ℕ
 ones n w = places_in (has_bit w) 0 n
 
--- none of 0
+-- 0 has none
 pub ones_none : (n : ℕ) → ones n 0 ≡ []
 ones_none n =
     places_in_empty (has_bit 0) 0 n (λ i lo hi. ap (λ x. eqb x 1) (bit_at-zero i))
@@ -33,7 +33,7 @@ module _ (n w : ℕ) (some : 0 < w) (clear : w < 2 ^ n) (few : n ≤ 64) where
   word_fits : w < 2 ^ 64
   word_fits = let more : 2 ^ n ≤ 2 ^ 64 = pow_mono few in omega arith
 
-  -- it, and those of the word without it
+  -- the lowest one, and those of the word without it
   pub ones_first : ones n w ≡ trailing_zeros w64 w ∷ ones n (bit_and w (w - 1))
   ones_first =
       let low : ℕ = trailing_zeros w64 w in
@@ -51,13 +51,13 @@ map-ones d w xs =
     ap (map (λ i. get_or xs i d)) (sym (places-digits w (length xs)))
     ∙ map-places d (digits w 0 (length xs)) xs (length-digits w 0 (length xs))
 
--- as many as the word has ones
+-- their number is that of the ones of the word
 pub length-ones : (n w : ℕ) → w < 2 ^ n → length (ones n w) ≡ count_ones w
 length-ones n w clear =
     ap length (sym (places-digits w n)) ∙ length-places (digits w 0 n)
     ∙ count-digits_below w n clear
 
--- as many as the mask has true bits
+-- the number of selected values is that of the set bits of the mask
 pub length-kept_by_any : {T : Type 0} (bits : List Bool) (xs : List T) → length bits ≡ length xs
     → length (kept_by bits xs) ≡ count bits
 length-kept_by_any [] [] same = refl
@@ -65,14 +65,14 @@ length-kept_by_any [] (x ∷ xs) same = refl
 length-kept_by_any (b ∷ bits) [] same = absurd (omega arith)
 length-kept_by_any (b ∷ bits) (x ∷ xs) same = length-kept_by x (b ∷ bits) (x ∷ xs) same
 
--- as many values as the word has ones
+-- the number of values that a word selects is that of its ones
 pub length-kept_by_ones : {T : Type 0} (xs : List T) (w : ℕ) → w < 2 ^ length xs
     → length (kept_by (digits w 0 (length xs)) xs) ≡ count_ones w
 length-kept_by_ones xs w clear =
     length-kept_by_any (digits w 0 (length xs)) xs (length-digits w 0 (length xs))
     ∙ count-digits_below w (length xs) clear
 
--- a mask that is true keeps all
+-- a mask that is true selects all
 pub kept_all : {T : Type 0} (bits : List Bool) (xs : List T) → length bits ≡ length xs
     → count bits ≡ length bits → kept_by bits xs ≡ xs
 kept_all [] [] same full = refl
@@ -85,7 +85,7 @@ kept_all (false ∷ bits) (x ∷ xs) same full =
     let none : count (false ∷ bits) ≡ 0 + count bits = count-append (false ∷ []) bits in
     absurd (omega (arith, none, count-le bits))
 
--- items put behind items
+-- items written after items
 pub puts-add : {T : Type 0} (s : ℕ) (xs ys old mid new : List T) → PutsAt s xs old mid
     → PutsAt (s + length xs) ys mid new → PutsAt s (xs ++ ys) old new
 puts-add s xs ys old mid new before more =
@@ -99,13 +99,13 @@ puts-add s xs ys old mid new before more =
           ∙ sym (ap (λ k. drop k old) end);
     }
 
--- nothing put
+-- no items written
 pub puts_none : {T : Type 0} (s : ℕ) (xs : List T) → PutsAt s [] xs xs
 puts_none s xs =
     let end : s + 0 ≡ s = omega arith in
     record { front = ap (λ k. take k xs) end ∙ sym (append-nil (take s xs)); behind = refl }
 
--- items put in front
+-- items written in front
 pub puts_front : {T : Type 0} (xs old new : List T) (n : ℕ) → n ≡ length xs → PutsAt 0 xs old new
     → new ≡ xs ++ drop n old
 puts_front xs old new n same put =
@@ -115,8 +115,8 @@ puts_front xs old new n same put =
     ∙ ap (λ l. xs ++ l) (ap (λ k. drop k new) (sym end) ∙ put.behind
     ∙ ap (λ k. drop k old) end)
 
--- the values at the ones of a word, put behind others; an item of either list is any other one's
--- stand-in past the end
+-- the values at the ones of a word, written after others; where a list ends before an index, any
+-- item of the lists is its default
 pub puts_ones : {T : Type 0} (xs old new : List T) (w s end : ℕ) → length new ≡ length old
     → w < 2 ^ length xs → s + count_ones w ≤ length old → end ≡ s + count_ones w
     → ((d : T) → take end new ≡ take s old ++ map (λ i. get_or xs i d) (ones (length xs) w))

@@ -1,4 +1,4 @@
--- Digits that a mask keeps, in parts.
+-- Bits that a mask selects, in parts.
 use Rattle.std.proofs.Common.{◌≡◌, inl, inr, ℕ, ◌+◌, ◌*◌, ◌%◌, ◌^◌, ◌<◌, ◌≤◌, Bool, false, List}
 use Rattle.std.proofs.Common.{◌++◌, length, sym, ap, subst, ◌∙◌, arith, zero-add}
 use Rattle.std.specs.Int.Bits.{bit_or, or_shifted_r}
@@ -16,18 +16,18 @@ use Rattle.vb_bits.proofs.DigitsLemmas.{count-digits-add}
 use Rattle.vb_bits.proofs.KeptLemmas.{kept_by-append, length-kept_by}
 use Rattle.vb_pack.proofs.MaskLemmas.{mask_l-append}
 
--- the k digits of the word from digit a on that the mask keeps
+-- the selected ones of the k bits of the word from bit a on
 abbrev pub kept_digits : ℕ → ℕ → ℕ → ℕ → List Bool
 kept_digits mask word a k = kept_by (digits mask a k) (digits word a k)
 
--- there are as many as the mask has digits that are 1
+-- their number is that of the ones of the mask
 pub length-kept_digits : (mask word a k : ℕ)
     → length (kept_digits mask word a k) ≡ count (digits mask a k)
 length-kept_digits mask word a k =
     length-kept_by false (digits mask a k) (digits word a k)
     (length-digits mask a k ∙ sym (length-digits word a k))
 
--- those of two neighbouring parts
+-- the selected bits of two neighbouring parts
 pub kept_digits-add : (mask word a m n : ℕ)
     → kept_digits mask word a (m + n) ≡ kept_digits mask word a m ++ kept_digits mask word (a + m) n
 kept_digits-add mask word a m n =
@@ -36,7 +36,7 @@ kept_digits-add mask word a m n =
     ∙ kept_by-append (digits mask a m) (digits mask (a + m) n) (digits word a m)
     (digits word (a + m) n) (length-digits mask a m ∙ sym (length-digits word a m))
 
--- a word of 64 digits has no more ones
+-- a word of 64 bits has at most 64 ones
 ones_few : (mask m : ℕ) → mask < 2 ^ 64 → count (digits mask 0 m) ≤ 64
 ones_few mask m fits = elim (cases_lt 64 m) [
   | inl past ↦
@@ -53,7 +53,7 @@ ones_few mask m fits = elim (cases_lt 64 m) [
   | inr few ↦ omega (arith, count-le (digits mask 0 m), length-digits mask 0 m)
 ]
 
--- k digits behind the first a
+-- k bits after the first a
 pub packed-more : (mask word n a k : ℕ) → mask < 2 ^ 64
     → n ≡ count (digits mask 0 a)
     → bit_or (mask_l (kept_digits mask word 0 a))

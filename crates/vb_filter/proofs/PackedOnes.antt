@@ -1,4 +1,4 @@
--- Digits that a mask keeps, one by one.
+-- Bits that a mask selects, one by one.
 use Rattle.std.proofs.Common.{◌≡◌, ℕ, ◌+◌, ◌-◌, ◌^◌, ◌<◌, Bool, false, [], ◌∷◌, ◌++◌}
 use Rattle.std.proofs.Common.{length, length-append, map, get_or, sym, ap, subst, ◌∙◌, arith}
 use Rattle.std.proofs.Common.{zero-add}
@@ -17,18 +17,18 @@ module _ (word : ℕ) where
   abbrev value : ℕ → Bool
   value i = get_or (digits word 0 64) i false
 
-  -- the digits at the ones of a mask
+  -- the bits at the ones of a mask
   at_ones : (w : ℕ) → map value (ones 64 w) ≡ kept_digits w word 0 64
   at_ones w =
       subst (λ n. map value (ones n w) ≡ kept_by (digits w 0 n) (digits word 0 64))
       (length-digits word 0 64) (map-ones false w (digits word 0 64))
 
-  -- none at 0
+  -- a mask of 0 selects none
   pub kept_digits-zero : (w : ℕ) → w ≡ 0 → kept_digits w word 0 64 ≡ []
   kept_digits-zero w gone =
       sym (at_ones w) ∙ ap (λ x. map value (ones 64 x)) gone ∙ ap (map value) (ones_none 64)
 
-  -- that at the lowest one, and those at the others
+  -- the bit at the lowest one, and those at the others
   pub kept_digits-first : (w : ℕ) → 0 < w → w < 2 ^ 64 → kept_digits w word 0 64
       ≡ has_bit word (trailing_zeros w64 w) ∷ kept_digits (bit_and w (w - 1)) word 0 64
   kept_digits-first w some fits =
@@ -39,7 +39,7 @@ module _ (word : ℕ) where
       ∙ ap (λ b. b ∷ kept_digits (bit_and w (w - 1)) word 0 64)
       (at-digits word 0 64 low false within ∙ ap (has_bit word) (zero-add low))
 
-  -- how many there are so far, with those that are left
+  -- the number of bits packed so far, and of those that are left
   pub ones_so_far : (packed n left mask : ℕ)
       → digits packed 0 n ++ kept_digits left word 0 64 ≡ kept_digits mask word 0 64
       → n + length (kept_digits left word 0 64) ≡ count (digits mask 0 64)

@@ -1,4 +1,4 @@
--- Digits that a mask keeps, a step for each.
+-- Bits that a mask selects, by one step for each.
 use Rattle.std.proofs.Common.{◌≡◌, inl, inr, ℕ, suc, ◌+◌, ◌-◌, ◌*◌, ◌%◌, ◌^◌, ◌<◌, ◌≤◌, eqb, nat_eq}
 use Rattle.std.proofs.Common.{Bool, false, [], ◌∷◌, ◌++◌, length, append_assoc}
 use Rattle.std.proofs.Common.{sym, ap, subst, ◌∙◌, arith}
@@ -19,7 +19,7 @@ use Rattle.vb_filter.proofs.PackedDigits.{kept_digits}
 use Rattle.vb_filter.proofs.PackedOnes.{kept_digits-zero, kept_digits-first, ones_so_far}
 use Rattle.vb_filter.proofs.PackedOnes.{ones_inside}
 
--- the lowest 1 of a number alone
+-- a number with the lowest one alone
 pub lowest_alone : (w : ℕ)
     → 0 < w → w < 2 ^ 64 → bit_xor w (bit_and w (w - 1)) ≡ 2 ^ trailing_zeros w64 w
 lowest_alone w some fits =
@@ -58,7 +58,7 @@ lowest_alone w some fits =
       ]
     ])
 
--- whether a digit, moved up, isn't 0
+-- a bit, moved up, is tested for not being 0
 pub tested : (b p : ℕ) → b < 2 → 0 < p → not (nat_eq (b * p) 0) ≡ eqb b 1
 tested b p few some = elim (cases_lt b 1) [
   | inl none ↦ let e : b ≡ 0 = omega arith in
@@ -68,7 +68,7 @@ tested b p few some = elim (cases_lt b 1) [
       subst (λ x. not (nat_eq (x * p) 0) ≡ eqb x 1) (sym e) (grind arith)
 ]
 
--- how many ones n steps take
+-- the number of ones that n steps take
 abbrev pub ones_taken : ℕ → ℕ → ℕ
 ones_taken mask n = n - (n - count (digits mask 0 64))
 
@@ -79,7 +79,7 @@ module _ (word packed n left mask : ℕ) (fits : left < 2 ^ 64)
   many : ones_taken mask n + length (kept_digits left word 0 64) ≡ count (digits mask 0 64)
   many = ones_so_far word packed (ones_taken mask n) left mask kept
 
-  -- where a one is left, n steps took n
+  -- if a one is left, n steps took n
   all_taken : 0 < left → (ones_taken mask n ≡ n) × (ones_taken mask (n + 1) ≡ n + 1)
   all_taken some =
       let first = ap length (kept_digits-first word left some fits) in
@@ -108,7 +108,7 @@ module _ (word packed n left mask : ℕ) (fits : left < 2 ^ 64)
             (packed_below packed n bit within small),
       )
 
-  -- where none is left, all were taken
+  -- if none is left, all were taken
   pub none_left : left ≡ 0 → ones_taken mask n ≡ count (digits mask 0 64)
   none_left gone = omega (arith, many, ap length (kept_digits-zero word left gone))
 
@@ -129,7 +129,7 @@ module _ (word packed n left mask : ℕ) (fits : left < 2 ^ 64)
             (subst (λ k. packed < 2 ^ k) (sym stays) clear),
       )
 
-  -- after as many steps as there are ones, none is left
+  -- after as many steps as the mask has ones, none is left
   pub steps_done : count (digits mask 0 64) ≤ n → left ≡ 0
   steps_done enough = elim (cases_lt 0 left) [
     | inl some ↦

@@ -1,4 +1,4 @@
--- Digits behind digits, in a word and across its end.
+-- Bits appended to bits, in a word and across its end.
 use Rattle.std.proofs.Common.{◌≡◌, inl, inr, ℕ, ◌+◌, ◌-◌, ◌*◌, ◌/◌, ◌%◌, ◌^◌, ◌<◌, ◌≤◌, Bool}
 use Rattle.std.proofs.Common.{true, false, ◌||◌, List, ◌++◌, length, eqb, refl, sym, ap, subst}
 use Rattle.std.proofs.Common.{◌∙◌, arith, zero-add, append_assoc}
@@ -23,7 +23,7 @@ or_none : (b : Bool) → (b || false) ≡ b
 or_none true = refl
 or_none false = refl
 
--- a word with the digits of another one from digit s on
+-- a word with the bits of another one from bit s on
 abbrev pub joined : ℕ → ℕ → ℕ → ℕ
 joined p w s = bit_or p (w * 2 ^ s % 2 ^ 64)
 
@@ -60,7 +60,7 @@ module _ (p w s : ℕ) (clear : p < 2 ^ s) where
       ap (has_bit (joined p w s)) place ∙ high_digit i (omega arith)
       ∙ ap (has_bit w) (sym (zero-add i))))
 
-  -- where the word isn't full yet
+  -- the word isn't full yet
   pub joined-lt : (n : ℕ) → w < 2 ^ n → s + n ≤ 64 → joined p w s < 2 ^ (s + n)
   joined-lt n small within =
       let more : 2 ^ s ≤ 2 ^ (s + n) = pow_mono (omega arith) in
@@ -70,7 +70,7 @@ module _ (p w s : ℕ) (clear : p < 2 ^ s) where
       subst (λ k. w * 2 ^ s < 2 ^ k) turned (shl_lt n s small) in
       or_lt (s + n) p (w * 2 ^ s % 2 ^ 64) (omega arith) (omega arith)
 
--- digits that are added within the pending word
+-- bits appended within the pending word
 pub first_bits-in_word : (b : List ℕ) (p w len n : ℕ) → p < 2 ^ (len % 64) → len % 64 + n < 64
     → first_bits b (joined p w (len % 64)) (len + n) ≡ first_bits b p len ++ digits w 0 n
 first_bits-in_word b p w len n clear within =
@@ -83,7 +83,7 @@ first_bits-in_word b p w len n clear within =
     ∙ ap (λ l. bits b 0 (64 * (len / 64)) ++ l) (joined-digits p w s clear n (omega arith))
     ∙ sym (append_assoc (bits b 0 (64 * (len / 64))) (digits p 0 s) (digits w 0 n))
 
--- the bytes up to the end of a word that was written behind q others
+-- the bytes up to the end of a word that was written after q others
 pub bits-word : (b c : List ℕ) (x q : ℕ) → Writes b c (64 * q) (digits x 0 64)
     → bits c 0 (64 * (q + 1)) ≡ bits b 0 (64 * q) ++ digits x 0 64
 bits-word b c x q w =
@@ -97,7 +97,7 @@ bits-word b c x q w =
     ∙ ap (λ l. bits b 0 (64 * q) ++ l)
     (ap (bits c (64 * q)) (sym len) ∙ w.window)
 
--- digits that are added across the end of the pending word
+-- bits appended across the end of the pending word
 pub first_bits-past_word : (b c : List ℕ) (p w len n : ℕ) → p < 2 ^ (len % 64)
     → 64 ≤ len % 64 + n → n ≤ 64
     → Writes b c (64 * (len / 64)) (digits (joined p w (len % 64)) 0 64)
@@ -129,13 +129,13 @@ first_bits-past_word b c p w len n clear past few write =
     ∙ ap (λ l. front ++ (digits p 0 s ++ l)) (sym cut)
     ∙ sym (append_assoc front (digits p 0 s) (digits w 0 n))
 
--- what is left of a word has no other digits
+-- the rest of a word has no other ones
 pub rest-lt : (w s n : ℕ) → w < 2 ^ n → s < 64 → 64 ≤ s + n → w / 2 ^ (64 - s) < 2 ^ (s + n - 64)
 rest-lt w s n small inside past =
     let all : n ≡ s + n - 64 + (64 - s) = omega arith in
     shr_lt (s + n - 64) (64 - s) (subst (λ k. w < 2 ^ k) all small)
 
--- bytes up to bit n are written over, whatever they are then
+-- bytes may be overwritten up to bit n
 pub Writes_up_to : (b c : List ℕ) (n : ℕ) → length c ≡ length b
     → ((i : ℕ) → n ≤ i → bit_of c i ≡ bit_of b i) → Writes b c 0 (bits c 0 n)
 Writes_up_to b c n same behind = record {
@@ -147,7 +147,7 @@ Writes_up_to b c n same behind = record {
   ];
 }
 
--- the same after two writes, the second no shorter than the first
+-- the same after two writes, the second at least as long as the first
 pub Writes_up_to-more : (b c d : List ℕ) (m n : ℕ) → m ≤ n → Writes b c 0 (bits c 0 m)
     → Writes c d 0 (bits d 0 n) → Writes b d 0 (bits d 0 n)
 Writes_up_to-more b c d m n le one two =
@@ -156,7 +156,7 @@ Writes_up_to-more b c d m n le one two =
     ∙ one.others i (inr (omega (arith, length-bits c 0 m))))
 
 -- ---- the bytes in front
--- what is written in the first e bytes is written in all of them
+-- a write to the first e bytes is a write to all of them
 pub Writes_in_front : (b c : List ℕ) (o e : ℕ) (m : List Bool) → e ≤ length b
     → o + length m ≤ 8 * e → Writes (take e b) c o m → Writes b (c ++ drop e b) o m
 Writes_in_front b c o e m inside within w =

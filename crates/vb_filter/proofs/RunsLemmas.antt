@@ -1,4 +1,4 @@
--- The lowest run of ones of a word, and what it keeps.
+-- The lowest run of ones of a word, and the values that it selects.
 use Rattle.std.proofs.Common.{◌≡◌, ℕ, zero, suc, ◌+◌, ◌-◌, ◌^◌, ◌<◌, ◌≤◌, inl, inr, Bool, true}
 use Rattle.std.proofs.Common.{false, List, [], ◌∷◌, ◌++◌, length, take, drop, replicate, refl, sym}
 use Rattle.std.proofs.Common.{ap, ◌∙◌, arith, zero-add, length-append, get_or-take, get_or-drop}
@@ -13,14 +13,14 @@ use Rattle.vb_filter.proofs.FilteredBits.{kept_none}
 use Rattle.vb_pack.proofs.WordsLemmas.{has_bit_above}
 use Rattle.vb_walk.specs.Ones.{CutsOnes}
 
--- a mask that is true keeps all
+-- a mask that is true selects all
 kept_true : {T : Type 0} (n : ℕ) (xs : List T) → length xs ≡ n → kept_by (replicate n true) xs ≡ xs
 kept_true zero [] same = refl
 kept_true zero (x ∷ xs) same = absurd (omega arith)
 kept_true (suc n) [] same = absurd (omega arith)
 kept_true (suc n) (x ∷ xs) same = ap (λ ys. x ∷ ys) (kept_true n xs (omega arith))
 
--- digits that are all the same
+-- bits that are all the same
 pub digits_same : (w s k : ℕ) (v : Bool) → ((i : ℕ) → i < k → has_bit w (s + i) ≡ v)
     → digits w s k ≡ replicate k v
 digits_same w s k v h =
@@ -31,7 +31,7 @@ digits_same w s k v h =
 
 module _ (w a b rest n : ℕ) (some : a < b) (below : (i : ℕ) → i < a → has_bit w i ≡ false)
     (cut : CutsOnes w a b rest) (clear : w < 2 ^ n) (few : n ≤ 64) where
-  -- it lies within the digits
+  -- the run is within the n bits
   pub run_within : b ≤ n
   run_within = elim (cases_lt n b) [
     | inl past ↦
@@ -42,7 +42,7 @@ module _ (w a b rest n : ℕ) (some : a < b) (below : (i : ℕ) → i < a → ha
     | inr inside ↦ inside
   ]
 
-  -- the digits, those of the run by themselves
+  -- the bits, cut at the run
   digits_cut : digits w 0 n
       ≡ replicate a false ++ (replicate (b - a) true ++ digits w b (n - b))
   digits_cut =
@@ -57,7 +57,7 @@ module _ (w a b rest n : ℕ) (some : a < b) (below : (i : ℕ) → i < a → ha
       (digits_same w (0 + a) (b - a) true (λ i h. cut.ones (0 + a + i) (omega arith) (omega arith)))
       ∙ ap (λ k. replicate (b - a) true ++ digits w k (n - b)) place)
 
-  -- those without it
+  -- the bits without the run
   digits_rest : digits rest 0 n ≡ replicate b false ++ digits w b (n - b)
   digits_rest =
       let inside = run_within in
@@ -69,7 +69,7 @@ module _ (w a b rest n : ℕ) (some : a < b) (below : (i : ℕ) → i < a → ha
       ∙ ap (λ l. replicate b false ++ l) (ap (λ k. digits rest k (n - b)) place
       ∙ same_digits rest w b b (n - b) (λ i h. cut.kept (b + i) (omega arith) (omega arith)))
 
-  -- the word keeps what the run keeps, and what it keeps without it
+  -- the word selects what the run selects, and then what it selects without the run
   pub kept_run : {T : Type 0} (xs : List T) → length xs ≡ n
       → kept_by (digits w 0 n) xs
       ≡ take (b - a) (drop a xs) ++ kept_by (digits rest 0 n) xs
@@ -104,7 +104,7 @@ module _ (w a b rest n : ℕ) (some : a < b) (below : (i : ℕ) → i < a → ha
       ∙ ap (λ l. l ++ kept_by ends end) (kept_none b (take b xs)) in
       of_word ∙ ap (λ l. run ++ l) (sym of_rest)
 
-  -- that is as many as the run has, and those without it
+  -- its values number as many as the run is long, and those that it selects without the run
   pub length-kept_run : {T : Type 0} (xs : List T) → length xs ≡ n
       → length (kept_by (digits w 0 n) xs) ≡ b - a + length (kept_by (digits rest 0 n) xs)
   length-kept_run xs same =
@@ -114,7 +114,7 @@ module _ (w a b rest n : ℕ) (some : a < b) (below : (i : ℕ) → i < a → ha
       ap length (kept_run xs same) ∙ length-append run (kept_by (digits rest 0 n) xs)
       ∙ ap (λ k. k + length (kept_by (digits rest 0 n) xs)) long
 
--- some of the digits of a word
+-- a range of the bits of a word
 pub part_of_digits : (w a k : ℕ) → a + k ≤ 64 → take k (drop a (digits w 0 64)) ≡ digits w a k
 part_of_digits w a k inside =
     let all : List Bool = digits w 0 64 in

@@ -1,4 +1,4 @@
--- The digits of a word at the ones of a mask.
+-- The bits of a word, deposited at the ones of a mask.
 use Rattle.std.proofs.Common.{◌≡◌, inl, inr, ℕ, ◌+◌, ◌-◌, ◌*◌, ◌/◌, ◌%◌, ◌^◌, ◌<◌, ◌≤◌, Bool, true}
 use Rattle.std.proofs.Common.{false, ◌&&◌, ◌||◌, length, get_or, take, drop, map, replicate, eqb}
 use Rattle.std.proofs.Common.{refl, sym, ap, subst, ◌∙◌, arith, zero-add}
@@ -31,24 +31,24 @@ use Rattle.vb_filter.proofs.PendingLemmas.{joined}
 use Rattle.vb_filter.proofs.RunsLemmas.{digits_same}
 use Rattle.vb_filter.proofs.SpreadLemmas.{at-spread_by, length-spread_by, spread_by-append}
 
--- digit i of a word whose digits stand at the ones of a mask
+-- bit i of a word whose bits are deposited at the ones of a mask
 abbrev pub spread_digit : ℕ → ℕ → ℕ → Bool
 spread_digit mask word i = has_bit mask i && has_bit word (count (digits mask 0 i))
 
--- fewer ones than digits
+-- a range has at most as many ones as bits
 pub ones-le : (w a k : ℕ) → count (digits w a k) ≤ k
 ones-le w a k = omega (arith, count-le (digits w a k), length-digits w a k)
 
--- no digits
+-- the bits of 0
 pub zero_digits : (n : ℕ) → digits 0 0 n ≡ replicate n false
 zero_digits n = digits_same 0 0 n false (λ i h. ap (λ x. eqb x 1) (bit_at-zero (0 + i)))
 
--- the first digits of some
+-- the first bits of a range
 pub front : (w i k : ℕ) → i ≤ k → take i (digits w 0 k) ≡ digits w 0 i
 unfolding digits
 front w i k le = take-map-range_with_len (has_bit w) 0 k i le
 
--- it is a value of the digits as lists
+-- it is a value of the deposit of lists
 pub at-spread_digits : (mask word k i : ℕ) (d : Bool) → i < k
     → get_or (spread_by (digits mask 0 k) (digits word 0 k)) i d ≡ spread_digit mask word i
 at-spread_digits mask word k i d within =
@@ -66,7 +66,7 @@ at-spread_digits mask word k i d within =
     ∙ at-digits word 0 k (count (digits mask 0 i)) false few
     ∙ ap (has_bit word) (zero-add (count (digits mask 0 i))))
 
--- a word that has those digits
+-- a word that has those bits
 pub is_spread : (r mask word : ℕ)
     → ((i : ℕ) → i < 64 → has_bit r i ≡ spread_digit mask word i)
     → digits r 0 64 ≡ spread_by (digits mask 0 64) (digits word 0 64)
@@ -78,25 +78,25 @@ is_spread r mask word each =
     at-digits r 0 64 i d here ∙ ap (has_bit r) (zero-add i) ∙ each i here
     ∙ sym (at-spread_digits mask word 64 i d here))
 
--- a digit of a word whose lowest ones are those of another one
+-- two words with the same lowest bits
 pub same_digit : (v w n i : ℕ) → digits v 0 n ≡ digits w 0 n → i < n → has_bit v i ≡ has_bit w i
 same_digit v w n i same within =
     sym (at-digits v 0 n i false within ∙ ap (has_bit v) (zero-add i))
     ∙ ap (λ l. get_or l i false) same
     ∙ at-digits w 0 n i false within ∙ ap (has_bit w) (zero-add i)
 
--- ---- digits that are put to a place of a word
--- below that place
+-- ---- bits moved up in a word
+-- below that position
 placed_low : (v a i : ℕ) → i < 64 → i < a → has_bit (v * 2 ^ a % 2 ^ 64) i ≡ false
 placed_low v a i within below =
     ap (λ x. eqb x 1) (bit_at_cut (v * 2 ^ a) 64 i within ∙ shl_low v a i below)
 
--- from it on
+-- from that position on
 placed_high : (v a i : ℕ) → i < 64 → a ≤ i → has_bit (v * 2 ^ a % 2 ^ 64) i ≡ has_bit v (i - a)
 placed_high v a i within above =
     ap (λ x. eqb x 1) (bit_at_cut (v * 2 ^ a) 64 i within ∙ shl_high v a i above)
 
--- ---- the lowest ones of what is left of a mask
+-- ---- the lowest run of the ones of a mask that are left
 module _ (left source v a b rest : ℕ) (some : a < b)
     (below : (i : ℕ) → i < a → has_bit left i ≡ false)
     (ones : (i : ℕ) → a ≤ i → i < b → has_bit left i ≡ true)
@@ -104,7 +104,7 @@ module _ (left source v a b rest : ℕ) (some : a < b)
     (kept : (i : ℕ) → b ≤ i → i < 64 → has_bit rest i ≡ has_bit left i)
     (few : v < 2 ^ (b - a))
     (same : (j : ℕ) → j < b - a → has_bit v j ≡ has_bit source j) where
-  -- how many ones are before a digit of them
+  -- the number of ones before a bit of the run
   count_in : (i : ℕ) → a ≤ i → i ≤ b → count (digits left 0 i) ≡ i - a
   count_in i lo hi =
       let cut : i ≡ a + (i - a) = omega arith in
@@ -118,7 +118,7 @@ module _ (left source v a b rest : ℕ) (some : a < b)
       ∙ count-digits-add left 0 a (i - a)
       ∙ omega (arith, none, all, ap (λ x. count (digits left x (i - a))) (zero-add a))
 
-  -- and before a digit behind them
+  -- the number of ones before a bit after the run
   count_past : (i : ℕ) → b ≤ i → i < 64
       → count (digits left 0 i) ≡ b - a + count (digits rest 0 i)
   count_past i lo hi =
@@ -143,7 +143,7 @@ module _ (left source v a b rest : ℕ) (some : a < b)
         alike,
       )
 
-  -- a digit is one of theirs, or one of those behind them
+  -- a bit is one of the run, or one of those after it
   cut_digit : (i : ℕ) → i < 64 → spread_digit left source i
       ≡ (has_bit (v * 2 ^ a % 2 ^ 64) i || spread_digit rest (source / 2 ^ (b - a)) i)
   cut_digit i within = elim (cases_lt i b) [
@@ -171,17 +171,17 @@ module _ (left source v a b rest : ℕ) (some : a < b)
         ∙ has_bit_above v (b - a) (i - a) few (omega arith)))
   ]
 
--- the digits so far, and those at the ones that are left, are those of the mask
+-- the bits deposited so far, and those for the ones that are left, are those of the mask
 abbrev pub SpreadSoFar : ℕ → ℕ → ℕ → ℕ → ℕ → Type 0
 SpreadSoFar spread left source mask word =
     (i : ℕ) → i < 64 → (has_bit spread i || spread_digit left source i) ≡ spread_digit mask word i
 
--- none so far
+-- no bits so far
 pub spread_first : (mask word : ℕ) → SpreadSoFar 0 mask word mask word
 spread_first mask word i within =
     ap (λ x. eqb x 1 || spread_digit mask word i) (bit_at-zero i)
 
--- some more
+-- the bits of one more run
 pub spread_more : (spread left source mask word v a b rest : ℕ)
     → SpreadSoFar spread left source mask word → a < b
     → ((i : ℕ) → i < a → has_bit left i ≡ false)
@@ -199,7 +199,7 @@ spread_more spread left source mask word v a b rest so_far some below ones gone 
     (sym (cut_digit left source v a b rest some below ones gone kept few same i within))
     ∙ so_far i within
 
--- all
+-- all bits
 pub spread_last : (spread left source mask word : ℕ) → left ≡ 0
     → SpreadSoFar spread left source mask word
     → digits spread 0 64 ≡ spread_by (digits mask 0 64) (digits word 0 64)
@@ -211,14 +211,14 @@ spread_last spread left source mask word gone so_far =
     ∙ ap (λ x. has_bit spread i || (x && has_bit source (count (digits left 0 i)))) (sym none)
     ∙ so_far i within)
 
--- ---- six digits at a time
--- the table has the numbers of those of all masks and words of six digits
+-- ---- six bits at a time
+-- the table has the deposits of all words of six bits, by all masks of six bits
 spread_table : map (λ i. mask_l (spread_by (digits (i / 64) 0 6) (digits (i % 64) 0 6)))
     (range_with_len 0 4096) ≡ SPREAD
 unfolding digits
 spread_table = refl
 
--- a number of the table
+-- an entry of the table
 in_table : (m w : ℕ) → m < 64 → w < 64
     → get_or SPREAD (64 * m + w) 0 ≡ mask_l (spread_by (digits m 0 6) (digits w 0 6))
 in_table m w few small =
@@ -235,7 +235,7 @@ in_table m w few small =
 length-six : (m w : ℕ) → length (spread_by (digits m 0 6) (digits w 0 6)) ≡ 6
 length-six m w = length-spread_by (digits m 0 6) (digits w 0 6) ∙ length-digits m 0 6
 
--- the six lowest digits of a word
+-- the six lowest bits of a word
 low_six : (w j : ℕ) → j < 6 → has_bit (bit_and w 63) j ≡ has_bit w j
 low_six w j h =
     has_bit-and w 63 j ∙ ap (λ x. has_bit w j && eqb x 1) (bit_at_ones 6 j h)
@@ -255,7 +255,7 @@ module _ (spread source mask word s : ℕ)
   found_is = in_table six (bit_and source 63) (omega (arith, and_le_r (mask / 2 ^ s) 63))
       (omega (arith, and_le_r source 63))
 
-  -- a digit of those found
+  -- a bit of the entry
   found_digit : (j : ℕ) → j < 6 → has_bit found j ≡ spread_digit mask word (s + j)
   found_digit j h =
       let l = spread_by (digits six 0 6) (digits (bit_and source 63) 0 6) in
@@ -317,11 +317,11 @@ module _ (spread source mask word s : ℕ)
       ap (λ x. x / 2 ^ count_ones six) at_source ∙ shr-shr word n (count_ones six)
       ∙ ap (λ x. word / 2 ^ x) rank
 
--- ---- a word that is spread, and a mask of n digits
+-- ---- a deposit by a mask of n bits
 module _ (r mask word n : ℕ)
     (spread : digits r 0 64 ≡ spread_by (digits mask 0 64) (digits word 0 64))
     (few : n ≤ 64) where
-  -- its first digits
+  -- its first n bits
   pub spread-narrow : digits r 0 n ≡ spread_by (digits mask 0 n) (digits word 0 64)
   spread-narrow =
       let w = digits word 0 64 in
@@ -334,7 +334,7 @@ module _ (r mask word n : ℕ)
       ∙ take_at (spread_by m w) (spread_by behind (drop (count m) w)) n
       (length-spread_by m w ∙ length-digits mask 0 n)
 
-  -- none behind them
+  -- it has no ones after them
   pub spread-lt : r < 2 ^ 64 → mask < 2 ^ n → r < 2 ^ n
   spread-lt fits clear =
       let none : (i : ℕ) → n ≤ i → i < 64 → bit_at r i ≡ 0 =

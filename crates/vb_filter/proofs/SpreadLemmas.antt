@@ -1,4 +1,4 @@
--- Bits at the true places of a mask.
+-- Bits deposited at the set bits of a mask.
 use Rattle.std.proofs.Common.{◌≡◌, ℕ, zero, suc, ◌+◌, ◌-◌, ◌*◌, ◌<◌, ◌≤◌, Bool, true, false}
 use Rattle.std.proofs.Common.{◌&&◌, List, [], ◌∷◌, ◌++◌, length, min, take, drop, replicate, refl}
 use Rattle.std.proofs.Common.{sym, ap, ◌∙◌, arith}
@@ -10,27 +10,27 @@ use Rattle.vb_bits.proofs.BitsLemmas.{count-cons}
 use Rattle.vb_filter.specs.Spread.{spread_by}
 use Rattle.vb_filter.proofs.FilteredBits.{front-add, word_end}
 
--- how many are true, by the first value
+-- the count of a list that begins with true
 one_more : (l : List Bool) → count (true ∷ l) ≡ suc (count l)
 one_more l = omega (arith, count-cons true l)
 
 none_more : (l : List Bool) → count (false ∷ l) ≡ count l
 none_more l = omega (arith, count-cons false l)
 
--- as many as the mask has
+-- the deposit is as long as the mask
 pub length-spread_by : (mask bits : List Bool) → length (spread_by mask bits) ≡ length mask
 length-spread_by [] bits = refl
 length-spread_by (false ∷ mask) bits = ap suc (length-spread_by mask bits)
 length-spread_by (true ∷ mask) [] = ap suc (length-spread_by mask [])
 length-spread_by (true ∷ mask) (b ∷ bits) = ap suc (length-spread_by mask bits)
 
--- a mask that is false has no place for any
+-- a mask that is false deposits no bits
 pub spread_none : (n : ℕ) (bits : List Bool)
     → spread_by (replicate n false) bits ≡ replicate n false
 spread_none zero bits = refl
 spread_none (suc n) bits = ap (λ l. false ∷ l) (spread_none n bits)
 
--- by two masks, one after the other
+-- a deposit by two masks, one after the other
 pub spread_by-append : (k l bits : List Bool)
     → spread_by (k ++ l) bits ≡ spread_by k bits ++ spread_by l (drop (count k) bits)
 spread_by-append [] l bits = refl
@@ -43,7 +43,7 @@ spread_by-append (true ∷ k) l [] =
 spread_by-append (true ∷ k) l (b ∷ bits) =
     rw (one_more k) (ap (λ m. b ∷ m) (spread_by-append k l bits))
 
--- no more bits count than the mask has places
+-- a deposit uses as many bits as the mask has ones
 pub spread_by-take : (mask bits : List Bool) (n : ℕ) → count mask ≤ n
     → spread_by mask (take n bits) ≡ spread_by mask bits
 spread_by-take [] bits n few = refl
@@ -54,7 +54,7 @@ spread_by-take (true ∷ mask) (b ∷ bits) zero few = absurd (omega (arith, one
 spread_by-take (true ∷ mask) (b ∷ bits) (suc n) few =
     ap (λ m. b ∷ m) (spread_by-take mask bits n (omega (arith, one_more mask)))
 
--- the mask keeps just these bits
+-- the mask selects these bits again
 pub kept_by-spread_by : (mask bits : List Bool) → length bits ≡ count mask
     → kept_by mask (spread_by mask bits) ≡ bits
 kept_by-spread_by [] [] same = refl
@@ -65,7 +65,7 @@ kept_by-spread_by (true ∷ mask) [] same = absurd (omega (arith, one_more mask)
 kept_by-spread_by (true ∷ mask) (b ∷ bits) same =
     ap (λ l. b ∷ l) (kept_by-spread_by mask bits (omega (arith, one_more mask)))
 
--- all others are false
+-- the others are false
 pub others-spread_by : (mask bits : List Bool)
     → kept_by (complement mask) (spread_by mask bits) ≡ replicate (count (complement mask)) false
 others-spread_by [] bits = refl
@@ -76,7 +76,7 @@ others-spread_by (true ∷ mask) [] =
 others-spread_by (true ∷ mask) (b ∷ bits) =
     rw (none_more (complement mask)) (others-spread_by mask bits)
 
--- one of the bits: that of its rank, where the mask is true
+-- a bit is the one of its rank, if the mask is true there
 pub at-spread_by : (mask bits : List Bool) (i : ℕ) → i < length mask
     → at (spread_by mask bits) i ≡ (at mask i && at bits (count (take i mask)))
 at-spread_by [] bits i within = absurd (omega arith)
@@ -90,7 +90,7 @@ at-spread_by (true ∷ mask) [] (suc i) within =
 at-spread_by (true ∷ mask) (b ∷ bits) (suc i) within =
     rw (one_more (take i mask)) (at-spread_by mask bits i (omega arith))
 
--- by a word of a mask more
+-- one more word of a mask
 pub word-spread_by : (mask bits : List Bool) (t n : ℕ) → n ≡ min (length mask - 64 * t) 64
     → spread_by (take (64 * (t + 1)) mask) bits
     ≡ spread_by (take (64 * t) mask) bits

@@ -1,15 +1,15 @@
--- Parts of a word, and what a mask keeps of each.
+-- Parts of a word, and the bits of each that a mask selects.
 use Rattle.std.specs.Prelude.{◌≡◌, ℕ, ◌+◌, ◌*◌, ◌^◌, ◌<◌, List, length, slice_index}
 use Rattle.std.specs.Simd.Lanes.{mask_l}
 use Rattle.vb_bits.specs.Bits.{count}
 use Rattle.vb_bits.specs.Digits.{digits}
 use Rattle.vb_bits.specs.Kept.{kept_by}
 
--- the digits that the mask keeps of the k from digit a on, as a number
+-- the selected ones of the k bits from bit a on, packed, as a number
 abbrev pub kept_number : ℕ → ℕ → ℕ → ℕ → ℕ
 kept_number mask word a k = mask_l (kept_by (digits mask a k) (digits word a k))
 
--- for n parts of k digits, lowest first: what the mask keeps of each, and 2 to the number of these
+-- for n parts of k bits, the lowest first: the selected bits of each, packed, and 2 to their number
 pub record ArePacked (mask word k n : ℕ) (kept powers : List ℕ) : Type 0 where
   pub lengths : (length kept ≡ n) × (length powers ≡ n)
   pub each : (i : ℕ) → i < n → slice_index kept i ≡ kept_number mask word (k * i) k

@@ -1,4 +1,4 @@
-//! Bits put back to the places that a mask keeps.
+//! Bits deposited at the set bits of a mask.
 ghost use Rattle.std.specs.Prelude.{◌≡◌, ◌+◌, ◌^◌, ◌<◌, ◌≤◌, false, drop, length, replicate};
 ghost use Rattle.std.specs.Prelude.{slice_range};
 ghost use Rattle.vb_bits.specs.Bits.{bits, complement, count};
@@ -14,16 +14,16 @@ use crate::spread::spread_digits;
 use vb_bits::{full_word, read_bits};
 use vb_view::{BitBufferView, view_word};
 
-/// Writes a bit for each of the mask to the bits of `out` from bit `offset` on: the bits of
-/// `values`, in order, where the mask is true, and false elsewhere. The other bits of `out` stay.
+/// Writes one bit for each bit of the mask to the bits of `out` from bit `offset` on: the bits of
+/// `values`, in order, where the mask is true, and false elsewhere. The other bits of `out` are
+/// unchanged.
 ///
-/// It undoes [`filter_into`](crate::filter_into): those that the mask keeps of the new bits are
-/// `values`. There have to be as many `values` as the mask has true bits, and in `out` room for as
-/// many bits as the mask has, behind the first `offset`; `offset` plus the mask's length has to fit
-/// in a `usize`.
+/// It undoes [`filter_into`](crate::filter_into): the mask selects `values` from the new bits.
+/// `values` must have one bit for each set bit of the mask. `out` must have `offset` bits and one
+/// more for each bit of the mask, and `offset` plus the length of the mask must fit in a `usize`.
 ///
-/// It goes by 64 bits of the mask, and writes a word at a time. Where none of 64 is true, the
-/// values aren't looked at. No memory is asked for.
+/// Processes 64 bits of the mask at a time, and writes a word at a time. If none of 64 is true, it
+/// reads no values. Does not allocate.
 pub fn deposit_into(
     out: &mut [u8],
     offset: usize,
@@ -54,8 +54,8 @@ pub fn deposit_into(
     write_pending(out, pending, offset + total);
 }
 
-/// The values from place `taken` on at the true ones of the `n` bits of the mask from place `start`
-/// on, as digits of a word, and how many of the values these are.
+/// Returns a word with the values from index `taken` on at the set bits among the `n` bits of the
+/// mask from index `start` on, and the number of these values.
 #[inline(always)]
 fn spread_digits_of(
     values: BitBufferView<'_>,
@@ -84,9 +84,10 @@ fn spread_digits_of(
     )
 }
 
-/// The `n` bits from place `start` on, as the lowest digits of a word; any digits may follow.
+/// Returns the `n` bits from index `start` on as the lowest bits of a word; its higher bits may be
+/// any.
 ///
-/// Where nine bytes are left it is two loads, however many bits are asked for.
+/// If nine bytes are left, it makes two loads for any `n`.
 #[inline(always)]
 #[tactic(auto, using(vb_bits::proofs::WindowLemmas::windows))]
 fn word_from(view: BitBufferView<'_>, start: usize, n: usize) -> u64

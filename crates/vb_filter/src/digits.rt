@@ -1,4 +1,4 @@
-//! The digits of a word that a mask keeps.
+//! The bits of a word that a mask selects.
 ghost use Rattle.std.specs.Int.{trailing_zeros, w64};
 ghost use Rattle.std.specs.Int.Bits.{bit_and};
 ghost use Rattle.std.specs.Prelude.{◌≡◌, ◌-◌, ◌^◌, ◌<◌, ◌≤◌, false};
@@ -10,11 +10,12 @@ use crate::fields::pack_fields;
 use vb_bits::{digit, low_digits};
 use vb_walk::lowest_run;
 
-/// The digits of `word` where `mask` has a 1, packed to the lowest ones; 0 behind them.
+/// Returns the bits of `word` where `mask` has a 1, packed to the lowest bits; the higher bits are
+/// 0.
 ///
-/// Where the ones of the mask are few it goes by these, where they stand in long runs by the runs,
-/// else by fields of four digits. The processor has an instruction for it from x86-64-v3 on
-/// (`pext`), which the language doesn't name.
+/// Visits the ones of the mask if they are few, its runs of ones if these are long, else fields of
+/// four bits. From x86-64-v3 on the processor has an instruction for it (`pext`), which Rattle
+/// doesn't name.
 #[inline(always)]
 pub(crate) fn pack_digits(word: u64, mask: u64) -> u64
     ensures kept { digits result 0 (count (digits mask 0 64))
@@ -33,16 +34,16 @@ pub(crate) fn pack_digits(word: u64, mask: u64) -> u64
     }
 }
 
-/// Up to so many ones take no longer in a loop, which ends with them, than in eight steps.
+/// The most ones for which a loop over them is not slower than eight steps.
 const LOOP_ONES: u32 = 4;
 
-/// Up to so many ones take less time in as many steps than by fields.
+/// The most ones for which a step for each is faster than fields.
 const STEP_ONES: u32 = 8;
 
-/// Runs that are longer than this take less time than fields.
+/// Runs longer than this are faster than fields.
 const LONG_RUN: u32 = 12;
 
-/// [`pack_digits`] by the runs of ones of the mask.
+/// Does [`pack_digits`] by the runs of ones of the mask.
 #[inline(always)]
 fn pack_runs(word: u64, mask: u64) -> u64
     ensures kept { digits result 0 (count (digits mask 0 64))
@@ -62,7 +63,7 @@ fn pack_runs(word: u64, mask: u64) -> u64
     packed
 }
 
-/// [`pack_digits`] by the ones of the mask.
+/// Does [`pack_digits`] by the ones of the mask.
 #[inline(always)]
 fn pack_ones(word: u64, mask: u64) -> u64
     ensures kept { digits result 0 (count (digits mask 0 64))
@@ -81,10 +82,10 @@ fn pack_ones(word: u64, mask: u64) -> u64
     packed
 }
 
-/// [`pack_digits`] by so many steps, of which each takes a one of the mask, if any is left.
+/// Does [`pack_digits`] in `steps` steps; each takes a one of the mask, if any is left.
 ///
-/// No branch is on the mask: where the number of ones changes from word to word, the end of a loop
-/// over them can't be foreseen.
+/// It has no branch on the mask: if the number of ones changes from word to word, no processor can
+/// predict the end of a loop over them.
 #[inline(always)]
 fn pack_steps(word: u64, mask: u64, steps: u32) -> u64
     requires enough { count (digits mask 0 64) ≤ steps }
@@ -103,8 +104,8 @@ fn pack_steps(word: u64, mask: u64, steps: u32) -> u64
     packed
 }
 
-/// The digit of `word` at the lowest one of `left`, and `left` without that one; false and 0 where
-/// it has none.
+/// Returns the bit of `word` at the lowest one of `left`, and `left` without that one; false and 0
+/// if `left` is 0.
 #[inline(always)]
 fn lowest_kept(word: u64, left: u64) -> (bool, u64)
     ensures some { 0 < left → (result.0 ≡ has_bit word (trailing_zeros w64 left))

@@ -1,5 +1,5 @@
-//! The digits of a word that a mask keeps, by vectors: sixteen fields of four are packed at once,
-//! and then joined, two neighbours at a time.
+//! The bits of a word that a mask selects, by vectors: packs sixteen fields of four bits at once,
+//! and then joins two neighbours at a time.
 ghost use Rattle.std.specs.Int.Bits.{bit_and};
 ghost use Rattle.std.specs.Prelude.{◌≡◌, ℕ, ◌+◌, ◌-◌, ◌*◌, ◌/◌, ◌%◌, ◌^◌, ◌<◌, length};
 ghost use Rattle.std.specs.Prelude.{slice_index};
@@ -10,21 +10,23 @@ ghost use Rattle.vb_filter.specs.Fields.{ArePacked, ArePairs, kept_number};
 
 use std::simd::prelude::*;
 
-/// For each mask of four digits, those that move down by one place: one or three digits before
-/// them aren't kept.
+/// For each mask of four bits, the bits that move down by one: the mask has one or three zeros
+/// below them.
 const BY_ONE: [u8; 16] = [0, 0, 2, 0, 0, 4, 6, 0, 8, 0, 2, 8, 0, 12, 14, 0];
 
-/// Those that then move down by two: two or three digits before them weren't kept.
+/// For each mask of four bits, the bits that then move down by two: the mask has two or three zeros
+/// below them, before the first move.
 const BY_TWO: [u8; 16] = [0, 0, 0, 0, 4, 0, 0, 0, 4, 8, 8, 0, 12, 0, 0, 0];
 
 /// For each mask of four digits, 2 to the number of its ones.
 const POWERS: [u8; 16] = [1, 2, 2, 4, 2, 4, 4, 8, 2, 4, 4, 8, 4, 8, 8, 16];
 
-/// The digits of `word` where `mask` has a 1, packed to the lowest ones; 0 behind them.
+/// Returns the bits of `word` where `mask` has a 1, packed to the lowest bits; the higher bits are
+/// 0.
 ///
-/// Within a field digits move down by one place and by two, as in the compress of Hacker's Delight;
-/// a field that is joined to the one before it is multiplied by 2 to the number of digits kept
-/// there. No branch is on the mask, and each table is a vector of 16 entries.
+/// Within a field bits move down by one and then by two, as in the compress of Hacker's Delight. To
+/// join a field to the one below it, it multiplies it by 2 to the number of bits that the mask
+/// selects there. It has no branch on the mask, and each table is a vector of 16 entries.
 #[inline(always)]
 pub(crate) fn pack_fields(word: u64, mask: u64) -> u64
     ensures kept { digits result 0 (count (digits mask 0 64))
@@ -38,7 +40,8 @@ pub(crate) fn pack_fields(word: u64, mask: u64) -> u64
     low | high << (mask & 0xffff_ffff).count_ones()
 }
 
-/// For each four digits of the word those that the mask keeps, and 2 to the number of these.
+/// Returns for each four bits of the word the bits that the mask selects, packed, and 2 to the
+/// number of these.
 #[inline(always)]
 fn pack_fours(word: u64, mask: u64) -> (u8x16, u8x16)
     ensures { ArePacked mask word 4 16 result.0 result.1 }
@@ -47,7 +50,7 @@ fn pack_fours(word: u64, mask: u64) -> (u8x16, u8x16)
     (pack_each(fours(word), masks), look_up(POWERS, masks))
 }
 
-/// Each four digits of a word, lowest first.
+/// Returns each four bits of a word, the lowest first.
 #[inline(always)]
 fn fours(word: u64) -> u8x16
     ensures len { length result ≡ 16 }
@@ -57,7 +60,7 @@ fn fours(word: u64) -> u8x16
     ((bytes | bytes << u16x8::splat(4)) & u16x8::splat(0x0f0f)).to_le_bytes()
 }
 
-/// Each byte of a word, lowest first.
+/// Returns each byte of a word, the lowest first.
 #[inline(always)]
 fn bytes_of(word: u64) -> u16x8
     ensures len { length result ≡ 8 }
@@ -66,7 +69,7 @@ fn bytes_of(word: u64) -> u16x8
     Simd::<u64, 1>::splat(word).to_le_bytes().cast::<u16>()
 }
 
-/// The entry of the table for each mask.
+/// Returns for each lane the entry of the table for its mask.
 #[inline(always)]
 fn look_up(table: [u8; 16], masks: u8x16) -> u8x16
     requires len { length masks ≡ 16 }
@@ -78,7 +81,7 @@ fn look_up(table: [u8; 16], masks: u8x16) -> u8x16
     u8x16::from_array(table).swizzle_dyn(masks)
 }
 
-/// In each lane the digits of four that the mask there keeps, packed to the lowest ones.
+/// Returns for each lane the bits of four that its mask selects, packed to the lowest bits.
 #[inline(always)]
 fn pack_each(words: u8x16, masks: u8x16) -> u8x16
     requires lens { (length words ≡ 16) × (length masks ≡ 16) }
@@ -92,7 +95,7 @@ fn pack_each(words: u8x16, masks: u8x16) -> u8x16
     move_down(near, look_up(BY_TWO, masks), 2)
 }
 
-/// In each lane the digits of the word that `which` has are moved down by so many places.
+/// Returns for each lane the word with the bits that are set in `which` moved down by `places`.
 #[inline(always)]
 fn move_down(words: u8x16, which: u8x16, places: u8) -> u8x16
     requires lens { (length words ≡ 16) × (length which ≡ 16) }
@@ -106,7 +109,7 @@ fn move_down(words: u8x16, which: u8x16, places: u8) -> u8x16
     (words - moved) + (moved >> u8x16::splat(places))
 }
 
-/// Two neighbours of four digits as one part of eight.
+/// Joins neighbours of four bits to parts of eight.
 #[inline(always)]
 fn join_fours(kept: u8x16, powers: u8x16) -> (u16x8, u16x8)
     ensures { (mask word : ℕ) → ArePacked mask word 4 16 kept powers
@@ -117,7 +120,7 @@ fn join_fours(kept: u8x16, powers: u8x16) -> (u16x8, u16x8)
     (kept + above * power, power * power_above)
 }
 
-/// Two neighbours of eight digits as one part of 16.
+/// Joins neighbours of eight bits to parts of 16.
 #[inline(always)]
 fn join_eights(kept: u16x8, powers: u16x8) -> (u32x4, u32x4)
     ensures { (mask word : ℕ) → ArePacked mask word 8 8 kept powers
@@ -128,7 +131,7 @@ fn join_eights(kept: u16x8, powers: u16x8) -> (u32x4, u32x4)
     (kept + above * power, power * power_above)
 }
 
-/// Two neighbours of 16 digits as one part of 32.
+/// Joins neighbours of 16 bits to parts of 32.
 #[inline(always)]
 fn join_sixteens(kept: u32x4, powers: u32x4) -> u64x2
     ensures { (mask word i : ℕ) → ArePacked mask word 16 4 kept powers → i < 2
@@ -138,7 +141,7 @@ fn join_sixteens(kept: u32x4, powers: u32x4) -> u64x2
     kept + above * pair_sixteens(powers).0
 }
 
-/// The lanes at even places and those behind them, in lanes twice as wide.
+/// Returns the lanes of even numbers, and those of odd ones, as lanes twice as wide.
 #[inline(always)]
 fn pair_fours(lanes: u8x16) -> (u16x8, u16x8)
     ensures { ArePairs lanes 8 result.0 result.1 }
@@ -147,7 +150,7 @@ fn pair_fours(lanes: u8x16) -> (u16x8, u16x8)
     (pairs & u16x8::splat(0xff), pairs >> u16x8::splat(8))
 }
 
-/// The lanes at even places and those behind them, in lanes twice as wide.
+/// Returns the lanes of even numbers, and those of odd ones, as lanes twice as wide.
 #[inline(always)]
 fn pair_eights(lanes: u16x8) -> (u32x4, u32x4)
     ensures { ArePairs lanes 4 result.0 result.1 }
@@ -156,7 +159,7 @@ fn pair_eights(lanes: u16x8) -> (u32x4, u32x4)
     (pairs & u32x4::splat(0xffff), pairs >> u32x4::splat(16))
 }
 
-/// The lanes at even places and those behind them, in lanes twice as wide.
+/// Returns the lanes of even numbers, and those of odd ones, as lanes twice as wide.
 #[inline(always)]
 fn pair_sixteens(lanes: u32x4) -> (u64x2, u64x2)
     ensures { ArePairs lanes 2 result.0 result.1 }

@@ -1,4 +1,4 @@
-//! The bits that a mask keeps, written into bytes.
+//! The bits that a mask selects, written into bytes.
 ghost use Rattle.std.specs.Prelude.{◌≡◌, ◌+◌, ◌*◌, ◌/◌, ◌%◌, ◌^◌, ◌<◌, ◌≤◌, ◌++◌, length};
 ghost use Rattle.std.specs.Prelude.{slice_range};
 ghost use Rattle.vb_bits.specs.Bits.{bits, count};
@@ -14,12 +14,12 @@ use crate::pending::{push_digits, write_pending};
 use vb_bits::read_bits;
 use vb_view::{BitBufferView, view_word};
 
-/// Writes the bits whose bit in the mask is true, in order, to the first bits of `out`, and answers
-/// how many they are. The other bits of `out` stay.
+/// Writes the bits of `values` whose bit of the mask is true, in order, to the first bits of `out`,
+/// and returns their number. The other bits of `out` are unchanged.
 ///
-/// The mask has to be as long as the bits, and `out` to have room for those that it keeps. It goes
-/// by 64 bits: those that the mask keeps are packed, and written a word at a time. Where it keeps
-/// none of 64, the bits aren't looked at.
+/// The mask must have one bit for each bit of `values`, and `out` one bit for each set bit of the
+/// mask. Processes 64 bits at a time: packs the selected ones, and writes a word at a time. If the
+/// mask selects none of 64, it reads no values. Does not allocate.
 pub fn filter_into(out: &mut [u8], values: BitBufferView<'_>, mask: BitBufferView<'_>) -> usize
     requires same_len { length (bits_of values) ≡ length (bits_of mask) }
     requires room { count (bits_of mask) ≤ 8 * length out.old }
@@ -83,11 +83,11 @@ fn filter_behind(
     end - offset
 }
 
-/// Adds those of the `n` bits from place `start` on that the mask keeps to the `len` bits that were
-/// written so far, and answers the word that is pending then, and how many bits are written then.
+/// Appends the selected ones of the `n` bits from index `start` on to the `len` bits written so
+/// far. Returns the word that is pending then, and the number of bits written then.
 ///
-/// Where the mask keeps none of them, that is one test: under a mask that keeps few bits most words
-/// keep none.
+/// If the mask selects none, one test is enough: a mask that selects few bits selects none in most
+/// words.
 #[inline(always)]
 fn push_kept(
     out: &mut [u8],
@@ -120,8 +120,8 @@ fn push_kept(
     (push_digits(out, pending, len, packed, added), len + added)
 }
 
-/// Those of the `n` bits from place `start` on that the mask keeps, as digits of a word, and how
-/// many they are.
+/// Returns the selected ones of the `n` bits from index `start` on, as the lowest bits of a word,
+/// and their number.
 #[inline(always)]
 fn kept_digits(
     values: BitBufferView<'_>,

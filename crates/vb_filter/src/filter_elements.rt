@@ -1,4 +1,4 @@
-//! The elements of a slice that a mask keeps, written into another slice, and four of them at once.
+//! The elements of a slice that a mask selects, written into another slice, four at once.
 ghost use Rattle.std.specs.Int.{w32, to_le_bytes};
 ghost use Rattle.std.specs.Prelude.{◌≡◌, ◌+◌, ◌^◌, ◌<◌, ◌≤◌, [], ◌∷◌, ◌++◌, count_ones, length};
 ghost use Rattle.std.specs.Prelude.{take, drop};
@@ -13,7 +13,8 @@ use std::simd::prelude::*;
 use vb_core::Element;
 use vb_view::{BitBufferView, view_word};
 
-/// For each mask of four elements, which of their 16 bytes it keeps; then the first one.
+/// For each mask of four elements, the numbers of the bytes that it selects from their 16, and then
+/// 0.
 static KEPT_BYTES: [[u8; 16]; 16] = [
     [0, 0, 0, 0, 0, 0, 0, 0, 0, 0, 0, 0, 0, 0, 0, 0],
     [0, 1, 2, 3, 0, 0, 0, 0, 0, 0, 0, 0, 0, 0, 0, 0],
@@ -33,16 +34,17 @@ static KEPT_BYTES: [[u8; 16]; 16] = [
     [0, 1, 2, 3, 4, 5, 6, 7, 8, 9, 10, 11, 12, 13, 14, 15],
 ];
 
-/// Up to so many elements of a word take less time one by one.
+/// The most elements of a word that are faster one by one.
 const SINGLE_ELEMENTS: usize = 16;
 
-/// Writes the elements whose bit in the mask is true, in order, to the front of `out`, and answers
-/// how many they are. The other items of `out` stay.
+/// Writes the elements whose bit of the mask is true, in order, to the front of `out`, and returns
+/// their number. The other items of `out` are unchanged.
 ///
-/// The mask has to be as long as the values, and `out` to have room for those that it keeps. It
-/// goes by 64 bits, as [`filter_values_into`](crate::filter_values_into) does. Elements of four
-/// bytes it moves four at once, by a shuffle of their bytes, where more than a few of 64 are kept
-/// and not all, and `out` has room for four items more: these are written over and put back.
+/// The mask must have one bit for each value, and `out` one item for each set bit of the mask.
+/// Processes 64 bits at a time, as [`filter_values_into`](crate::filter_values_into) does. Moves
+/// elements of four bytes four at once, by a shuffle of their bytes, if more than a few of 64 are
+/// selected, but not all, and `out` has four items more: it overwrites these four and restores
+/// them. Does not allocate.
 pub fn filter_elements_into<T: Element>(
     out: &mut [T],
     values: &[T],
@@ -67,8 +69,8 @@ pub fn filter_elements_into<T: Element>(
     len + put_word(out, len, &values[64 * whole..64 * whole + n], keep)
 }
 
-/// Writes those of 64 elements whose digit of `keep` is 1 behind the first `len` items of `out`,
-/// and answers how many they are.
+/// Writes those of 64 elements whose bit of `keep` is 1 after the first `len` items of `out`, and
+/// returns their number.
 #[inline(always)]
 fn put_elements<T: Element>(out: &mut [T], len: usize, values: &[T], keep: u64) -> usize
     requires long { length values.now ≡ 64 }
@@ -84,7 +86,7 @@ fn put_elements<T: Element>(out: &mut [T], len: usize, values: &[T], keep: u64) 
     }
 }
 
-/// [`put_elements`] of four bytes each.
+/// Does [`put_elements`] for elements of four bytes each.
 #[inline(always)]
 fn put_of_four_bytes<T: Element>(out: &mut [T], len: usize, values: &[T], keep: u64) -> usize
     requires size { T.SIZE ≡ 4 }
@@ -106,8 +108,7 @@ fn put_of_four_bytes<T: Element>(out: &mut [T], len: usize, values: &[T], keep: 
     }
 }
 
-/// Writes the elements whose digit of `keep` is 1 behind the first `len` items of `out`, four at
-/// once.
+/// Writes the elements whose bit of `keep` is 1 after the first `len` items of `out`, four at once.
 #[inline(always)]
 fn put_fours<T: Element>(out: &mut [T], len: usize, values: &[T], keep: u64)
     requires size { T.SIZE ≡ 4 }
@@ -121,7 +122,7 @@ fn put_fours<T: Element>(out: &mut [T], len: usize, values: &[T], keep: u64)
     write_four(out, end, behind);
 }
 
-/// [`put_fours`], but the four items behind them may be any.
+/// Does [`put_fours`], but may overwrite the four items after the elements.
 #[inline(always)]
 fn put_over<T: Element>(out: &mut [T], len: usize, values: &[T], keep: u64)
     requires size { T.SIZE ≡ 4 }
@@ -143,7 +144,7 @@ fn put_over<T: Element>(out: &mut [T], len: usize, values: &[T], keep: u64)
     }
 }
 
-/// [`put_over`] of 16 elements.
+/// Does [`put_over`] for 16 elements.
 #[inline(always)]
 #[tactic(auto, using(crate::proofs::ElementsLemmas::halves))]
 fn put_sixteen<T: Element>(out: &mut [T], len: usize, values: &[T], keep: u64)
@@ -167,7 +168,7 @@ fn put_sixteen<T: Element>(out: &mut [T], len: usize, values: &[T], keep: u64)
     );
 }
 
-/// [`put_over`] of eight elements.
+/// Does [`put_over`] for eight elements.
 #[inline(always)]
 #[tactic(auto, using(crate::proofs::ElementsLemmas::halves))]
 fn put_eight<T: Element>(out: &mut [T], len: usize, values: &[T], keep: u64)
@@ -191,7 +192,7 @@ fn put_eight<T: Element>(out: &mut [T], len: usize, values: &[T], keep: u64)
     );
 }
 
-/// [`put_over`] of four elements.
+/// Does [`put_over`] for four elements.
 #[inline(always)]
 fn put_four<T: Element>(out: &mut [T], len: usize, values: &[T], keep: u64)
     requires size { T.SIZE ≡ 4 }
@@ -208,7 +209,7 @@ fn put_four<T: Element>(out: &mut [T], len: usize, values: &[T], keep: u64)
     write_four(out, len, kept);
 }
 
-/// Those of four elements whose digit of `keep` is 1, and any behind them.
+/// Returns those of four elements whose bit of `keep` is 1, and then any elements.
 #[inline(always)]
 fn keep_four<T: Element>(four: (T, T, T, T), keep: u64) -> (T, T, T, T)
     requires size { T.SIZE ≡ 4 }
@@ -226,10 +227,10 @@ fn keep_four<T: Element>(four: (T, T, T, T), keep: u64) -> (T, T, T, T)
     )
 }
 
-/// The bytes of four elements, each of which is one of its type.
+/// Returns the bytes of four elements, and shows that each of these is in its type.
 ///
-/// They go through words, which the compiler loads as one vector; it doesn't where bytes are
-/// written side by side.
+/// It takes them as words, which the compiler loads as one vector; bytes written next to each other
+/// it doesn't.
 #[inline(always)]
 fn bytes_of_four<T: Element>(four: (T, T, T, T)) -> u8x16
     requires size { T.SIZE ≡ 4 }
@@ -249,7 +250,7 @@ fn bytes_of_four<T: Element>(four: (T, T, T, T)) -> u8x16
     u32x4::from_array(words).to_le_bytes()
 }
 
-/// The number that has the bytes of an element, which is one of its type.
+/// Returns the number that has the bytes of an element, and shows that the element is in its type.
 #[inline(always)]
 fn word_of<T: Element>(item: T) -> u32
     requires size { T.SIZE ≡ 4 }
@@ -263,7 +264,7 @@ fn word_of<T: Element>(item: T) -> u32
     u32::from_le_bytes(form)
 }
 
-/// Writes four items behind the first `len` of `out`.
+/// Writes four items after the first `len` items of `out`.
 #[inline(always)]
 fn write_four<T: Copy>(out: &mut [T], len: usize, four: (T, T, T, T))
     requires { len + 4 ≤ length out.old }

@@ -1,4 +1,4 @@
-//! The values of a slice that a mask keeps, written into another slice.
+//! The values of a slice that a mask selects, written into another slice.
 ghost use Rattle.std.specs.Prelude.{◌≡◌, ◌+◌, ◌^◌, ◌<◌, ◌≤◌, ◌++◌, count_ones, length, drop};
 ghost use Rattle.vb_bits.specs.Bits.{count};
 ghost use Rattle.vb_bits.specs.Digits.{digits};
@@ -8,12 +8,12 @@ ghost use Rattle.vb_view.specs.View.{bits_of};
 
 use vb_view::{BitBufferView, view_word};
 
-/// Writes the values whose bit in the mask is true, in order, to the front of `out`, and answers
-/// how many they are. The other items of `out` stay.
+/// Writes the values whose bit of the mask is true, in order, to the front of `out`, and returns
+/// their number. The other items of `out` are unchanged.
 ///
-/// The mask has to be as long as the values, and `out` to have room for those that it keeps. It
-/// goes by 64 bits: where all of them are true their values are copied as a block, else each value
-/// that is kept by itself, and the others aren't looked at.
+/// The mask must have one bit for each value, and `out` one item for each set bit of the mask.
+/// Processes 64 bits at a time: copies 64 values as a block if all bits are true, else each
+/// selected value on its own, and reads no others. Does not allocate.
 pub fn filter_values_into<T: Copy>(out: &mut [T], values: &[T], mask: BitBufferView<'_>) -> usize
     requires same_len { length values.now ≡ length (bits_of mask) }
     requires room { count (bits_of mask) ≤ length out.old }
@@ -34,8 +34,8 @@ pub fn filter_values_into<T: Copy>(out: &mut [T], values: &[T], mask: BitBufferV
     len + put_word(out, len, &values[64 * whole..64 * whole + n], keep)
 }
 
-/// Writes the values whose digit of `keep` is 1 behind the first `len` items of `out`, and answers
-/// how many they are.
+/// Writes the values whose bit of `keep` is 1 after the first `len` items of `out`, and returns
+/// their number.
 #[inline(always)]
 pub(crate) fn put_word<T: Copy>(out: &mut [T], len: usize, values: &[T], keep: u64) -> usize
     requires few { length values.now ≤ 64 }
@@ -54,7 +54,7 @@ pub(crate) fn put_word<T: Copy>(out: &mut [T], len: usize, values: &[T], keep: u
     count
 }
 
-/// Writes the values whose digit of `keep` is 1 behind the first `len` items of `out`, one by one.
+/// Writes the values whose bit of `keep` is 1 after the first `len` items of `out`, one by one.
 #[inline(always)]
 pub(crate) fn put_places<T: Copy>(out: &mut [T], len: usize, values: &[T], keep: u64)
     requires few { length values.now ≤ 64 }

@@ -1,6 +1,8 @@
-//! Bits and values that a mask keeps, in order, over slices, and bits put back to their places.
+//! Filters of bits and values by a mask, over slices, and the deposit that undoes them.
 //!
-//! Lengths and places are counted in bits, or in values. No call takes memory.
+//! A filter selects the bits or values whose bit of the mask is true, in order. Lengths, offsets
+//! and indices are in bits, or in values. What "must" hold is for the caller to prove. No call
+//! allocates.
 #![tactic(auto)]
 
 mod deposit;

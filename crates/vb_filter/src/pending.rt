@@ -1,4 +1,4 @@
-//! Bits written one behind the other, by words.
+//! Bits appended to bytes, a word at a time.
 ghost use Rattle.std.specs.Prelude.{◌≡◌, ◌+◌, ◌*◌, ◌/◌, ◌%◌, ◌^◌, ◌<◌, ◌≤◌, ◌++◌, length};
 ghost use Rattle.vb_bits.specs.Bits.{bits};
 ghost use Rattle.vb_bits.specs.Digits.{digits};
@@ -8,8 +8,8 @@ ghost use Rattle.vb_filter.specs.Pending.{first_bits};
 
 use vb_bits::{copy_bits, write_word};
 
-/// Adds the `n` lowest digits of `word` to the `len` bits that were written so far, and answers the
-/// word that is pending then: it is written once it is full.
+/// Appends the `n` lowest bits of `word` to the `len` bits written so far, and returns the word
+/// that is pending then. Writes the pending word once it is full.
 pub(crate) fn push_digits(out: &mut [u8], pending: u64, len: usize, word: u64, n: usize) -> u64
     requires few { n ≤ 64 }
     requires clear { word < 2 ^ n }
@@ -26,12 +26,12 @@ pub(crate) fn push_digits(out: &mut [u8], pending: u64, len: usize, word: u64, n
         return joined;
     }
     write_word(out, 8 * (len / 64), joined);
-    // By two shifts, since the sum of them may be 64.
+    // Two shifts, since their sum may be 64.
     (word >> 1) >> (63 - shift)
 }
 
-/// Writes the digits that are pending after `len` bits, and stores no byte behind that of the last
-/// one: another thread may write there.
+/// Writes the pending bits after the `len` bits' last whole word. Stores no byte after that of the
+/// last bit, where another thread may write.
 pub(crate) fn write_pending(out: &mut [u8], pending: u64, len: usize)
     requires room { len ≤ 8 * length out.old }
     ensures { Writes out.old out.new (64 * (len / 64)) (digits pending 0 (len % 64)) }

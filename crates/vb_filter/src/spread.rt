@@ -1,4 +1,4 @@
-//! The digits of a word, at the places that a mask keeps.
+//! The bits of a word, deposited at the ones of a mask.
 ghost use Rattle.std.specs.Prelude.{◌≡◌};
 ghost use Rattle.vb_bits.specs.Digits.{digits};
 ghost use Rattle.vb_filter.specs.Spread.{spread_by};
@@ -7,12 +7,12 @@ use crate::spread_table::SPREAD;
 use vb_bits::low_digits;
 use vb_walk::lowest_run;
 
-/// The lowest digits of `word`, in order, where `mask` has a 1; 0 elsewhere. As many digits count
-/// as the mask has ones.
+/// Returns the lowest bits of `word`, in order, where `mask` has a 1, and 0 elsewhere. It uses as
+/// many bits as the mask has ones.
 ///
-/// Where the ones of the mask are few it goes by these, where they stand in long runs by the runs,
-/// else by six digits. The processor has an instruction for it from x86-64-v3 on (`pdep`), which
-/// the language doesn't name.
+/// Visits the ones of the mask if they are few, its runs of ones if these are long, else six bits
+/// at a time. From x86-64-v3 on the processor has an instruction for it (`pdep`), which Rattle
+/// doesn't name.
 #[inline(always)]
 pub(crate) fn spread_digits(word: u64, mask: u64) -> u64
     ensures { digits result 0 64 ≡ spread_by (digits mask 0 64) (digits word 0 64) }
@@ -27,13 +27,13 @@ pub(crate) fn spread_digits(word: u64, mask: u64) -> u64
     }
 }
 
-/// Up to so many ones take less time one by one than eleven looks at a table.
+/// The most ones that are faster one by one than eleven reads of a table.
 const SPREAD_ONES: u32 = 8;
 
-/// Runs that are longer than this take less time than eleven looks at a table.
+/// Runs longer than this are faster than eleven reads of a table.
 const LONG_RUN: u32 = 12;
 
-/// [`spread_digits`] by the ones of the mask.
+/// Does [`spread_digits`] by the ones of the mask.
 #[inline(always)]
 fn spread_ones(word: u64, mask: u64) -> u64
     ensures { digits result 0 64 ≡ spread_by (digits mask 0 64) (digits word 0 64) }
@@ -49,7 +49,7 @@ fn spread_ones(word: u64, mask: u64) -> u64
     spread
 }
 
-/// [`spread_digits`] by the runs of ones of the mask.
+/// Does [`spread_digits`] by the runs of ones of the mask.
 #[inline(always)]
 fn spread_runs(word: u64, mask: u64) -> u64
     ensures { digits result 0 64 ≡ spread_by (digits mask 0 64) (digits word 0 64) }
@@ -61,15 +61,15 @@ fn spread_runs(word: u64, mask: u64) -> u64
         let run = lowest_run(left);
         let len = run.end - run.start;
         spread |= low_digits(source, len) << run.start;
-        // By two shifts, since the sum of them may be 64.
+        // Two shifts, since their sum may be 64.
         source = (source >> 1) >> (len - 1);
         left = run.rest;
     }
     spread
 }
 
-/// [`spread_digits`] by six digits of the mask, with a table. The last six have two behind the
-/// word.
+/// Does [`spread_digits`] by six bits of the mask at a time, with a table. The last six reach two
+/// bits beyond the word.
 #[inline(always)]
 fn spread_sixes(word: u64, mask: u64) -> u64
     ensures { digits result 0 64 ≡ spread_by (digits mask 0 64) (digits word 0 64) }

@@ -1,6 +1,6 @@
-//! Six digits at the places that masks of six keep.
+//! Six bits deposited by masks of six bits.
 
-/// For each mask of six digits, and each six digits, the lowest of these where the mask has a 1.
+/// Entry `64 * mask + word`: the lowest bits of `word` at the ones of `mask`, for six bits of each.
 pub(crate) static SPREAD: [u8; 4096] = [
     0, 0, 0, 0, 0, 0, 0, 0, 0, 0, 0, 0, 0, 0, 0, 0, 0, 0, 0, 0, 0, 0, 0, 0, 0, 0, 0, 0, 0, 0, 0, 0,
     0, 0, 0, 0, 0, 0, 0, 0, 0, 0, 0, 0, 0, 0, 0, 0, 0, 0, 0, 0, 0, 0, 0, 0, 0, 0, 0, 0, 0, 0, 0, 0,

@@ -6,7 +6,7 @@ use Rattle.vb_filter.specs.Pending.{first_bits}
 use Rattle.vb_filter.specs.Spread.{spread_by}
 use Rattle.vb_filter.proofs.deposit.deposit_into.Given as goal
 
--- behind the bits before the window are those of the words so far
+-- the bits of the words so far are after the bits before the window
 abbrev pub invariant-loop-t : goal.invariant-loop-t
 invariant-loop-t l = record {
   written : first_bits l.out l.pending (l.offset + 64 * l.t)

@@ -15,7 +15,7 @@ use Rattle.vb_walk.specs.Ones.{CutsOnes}
 
 module _ (word left a b rest : ℕ) (fits : left < 2 ^ 64) (some : a < b)
     (below : (i : ℕ) → i < a → has_bit left i ≡ false) (cut : CutsOnes left a b rest) where
-  -- what the lowest run keeps, and what is kept without it
+  -- the bits that the lowest run selects, and those that the others select
   run_first : kept_digits left word 0 64
       ≡ digits word a (b - a) ++ kept_digits rest word 0 64
   run_first =
@@ -29,7 +29,7 @@ module _ (word left a b rest : ℕ) (fits : left < 2 ^ 64) (some : a < b)
   run_many = length-kept_run left a b rest 64 some below cut fits (omega arith)
       (digits word 0 64) (length-digits word 0 64)
 
-  -- there is room for it behind the digits so far
+  -- they fit in the word after the bits packed so far
   run_room : (packed n mask : ℕ)
       → digits packed 0 n ++ kept_digits left word 0 64 ≡ kept_digits mask word 0 64
       → n + (b - a) ≤ 64

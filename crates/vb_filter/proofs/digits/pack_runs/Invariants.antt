@@ -3,7 +3,7 @@ use Rattle.vb_bits.specs.Digits.{digits}
 use Rattle.vb_filter.proofs.PackedDigits.{kept_digits}
 use Rattle.vb_filter.proofs.digits.pack_runs.Given as goal
 
--- the digits so far, and those at the ones that are left
+-- the bits packed so far, and those at the ones that are left
 abbrev pub invariant-loop-left : goal.invariant-loop-left
 invariant-loop-left l = record {
   kept : digits l.packed 0 l.n ++ kept_digits l.left l.word 0 64

@@ -27,7 +27,7 @@ loop-k-init g c =
       behind = refl;
     }
 
--- the next digits of what is left
+-- the next 16 bits of those that are left
 module _ (keep left k : ℕ) (at : left ≡ keep / 2 ^ (16 * k)) where
   part_digits : digits (bit_and left 65535) 0 16 ≡ digits keep (16 * k) 16
   part_digits =

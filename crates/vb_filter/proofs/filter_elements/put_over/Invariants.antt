@@ -5,7 +5,8 @@ use Rattle.vb_bits.specs.Digits.{digits}
 use Rattle.vb_bits.specs.Kept.{kept_by}
 use Rattle.vb_filter.proofs.filter_elements.put_over.Given as goal
 
--- what the sixteens so far keep is in front, and what isn't to change is as it was
+-- the elements that the parts of 16 so far select are in front, and the items after those that it
+-- may overwrite are unchanged
 abbrev pub invariant-loop-k : goal.invariant-loop-k
 invariant-loop-k g l = record {
   len : length l.out ≡ length l.fn.out;

@@ -2,7 +2,7 @@ use Rattle.std.proofs.Common.{◌≡◌, ◌+◌, ◌^◌, ◌<◌, ◌++◌, le
 use Rattle.vb_filter.proofs.GatherLemmas.{ones}
 use Rattle.vb_filter.proofs.filter_values.put_places.Given as goal
 
--- the values so far, and those at the digits that are left
+-- the values so far, and those at the ones that are left
 abbrev pub invariant-loop-left : goal.invariant-loop-left
 invariant-loop-left g l = record {
   front : (d : g.row.T.Denot) → take l.end l.out

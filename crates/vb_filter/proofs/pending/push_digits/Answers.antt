@@ -28,7 +28,7 @@ returns-then-shift-n-lt64-clause-others c =
     Writes_up_to c.args.out.now c.args.out.now (64 * ((c.args.len + c.args.n) / 64)) refl
     (λ i h. refl)
 
--- the answer, as one shift
+-- the result, as one shift
 rest_is : (w s : ℕ) → s < 64 → w / 2 / 2 ^ (63 - s) ≡ w / 2 ^ (64 - s)
 rest_is w s inside =
     let one : 1 + (63 - s) ≡ 64 - s = omega arith in

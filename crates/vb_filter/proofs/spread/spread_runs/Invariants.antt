@@ -1,7 +1,7 @@
 use Rattle.vb_filter.proofs.SpreadDigits.{SpreadSoFar}
 use Rattle.vb_filter.proofs.spread.spread_runs.Given as goal
 
--- the digits so far, and those at the ones that are left
+-- the bits so far, and those at the ones that are left
 abbrev pub invariant-loop-left : goal.invariant-loop-left
 invariant-loop-left l = record { digits : SpreadSoFar l.spread l.left l.source l.mask l.word }
 
