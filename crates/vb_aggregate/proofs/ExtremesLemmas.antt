@@ -8,7 +8,7 @@ use Rattle.std.proofs.lemmas.List.Elements.{Contains-push, Contains-append_left}
 use Rattle.vb_aggregate.specs.Extremes.{IsLeast, IsGreatest}
 
 module _ {T : Type 0} (number : T → ℤ) where
-  -- of one value
+  -- one value
   pub least_one : (x : T) → IsLeast number (x ∷ []) x
   least_one x = record {
     there = Contains-push [] x;
@@ -24,7 +24,7 @@ module _ {T : Type 0} (number : T → ℤ) where
   }
 
   module _ (xs : List T) (m x : T) where
-    -- with one more that is below it
+    -- one more value, which is less than the least
     pub least_below : IsLeast number xs m → int_lt (number x) (number m) ≡ true
         → IsLeast number (xs ++ (x ∷ [])) x
     least_below so_far less = record {
@@ -34,7 +34,7 @@ module _ {T : Type 0} (number : T → ℤ) where
           (λ y le. omega (arith, ints)) xs so_far.least) (omega (arith, ints));
     }
 
-    -- with one more that isn't
+    -- one more value, which isn't
     pub least_stays : IsLeast number xs m → int_lt (number x) (number m) ≡ false
         → IsLeast number (xs ++ (x ∷ [])) m
     least_stays so_far not_less = record {
@@ -42,7 +42,7 @@ module _ {T : Type 0} (number : T → ℤ) where
       least = All-push (λ y. number m ≤ℤ number y) xs x so_far.least (omega (arith, ints));
     }
 
-    -- with one more that is above it
+    -- one more value, which is greater than the greatest
     pub greatest_above : IsGreatest number xs m → int_lt (number m) (number x) ≡ true
         → IsGreatest number (xs ++ (x ∷ [])) x
     greatest_above so_far less = record {
@@ -52,7 +52,7 @@ module _ {T : Type 0} (number : T → ℤ) where
           (λ y le. omega (arith, ints)) xs so_far.greatest) (omega (arith, ints));
     }
 
-    -- with one more that isn't
+    -- one more value, which isn't
     pub greatest_stays : IsGreatest number xs m → int_lt (number m) (number x) ≡ false
         → IsGreatest number (xs ++ (x ∷ [])) m
     greatest_stays so_far not_less = record {
@@ -60,5 +60,5 @@ module _ {T : Type 0} (number : T → ℤ) where
       greatest = All-push (λ y. number y ≤ℤ number m) xs x so_far.greatest (omega (arith, ints));
     }
 
--- those, for `search`
+-- these lemmas, for `search`
 pub ruleset extremes = (least_below, least_stays, greatest_above, greatest_stays)

@@ -1,4 +1,4 @@
--- The first value that a mask keeps.
+-- The first value that a mask selects.
 use Rattle.std.proofs.Common.{◌≡◌, ℕ, zero, suc, ◌+◌, ◌-◌, ◌<◌, Bool, true, false, List, []}
 use Rattle.std.proofs.Common.{◌∷◌, length, get_or, drop, refl, sym, ap, subst, ◌∙◌, arith}
 use Rattle.std.specs.Prelude.{Some, slice_range}
@@ -8,7 +8,7 @@ use Rattle.vb_bits.specs.Bits.{at}
 use Rattle.vb_bits.specs.Kept.{kept_by}
 use Rattle.vb_bits.specs.Nearest.{IsNext}
 
--- a mask that is false keeps none
+-- a mask that is false selects none
 pub kept_none : {T : Type 0} (mask : List Bool) (values : List T)
     → ((i : ℕ) → at mask i ≡ false) → kept_by mask values ≡ []
 kept_none [] values off = refl
@@ -16,7 +16,7 @@ kept_none (b ∷ mask) [] off = refl
 kept_none (true ∷ mask) (v ∷ values) off = absurd (false≢true (sym (off 0)))
 kept_none (false ∷ mask) (v ∷ values) off = kept_none mask values (λ i. off (suc i))
 
--- the first one that is true, and what is kept behind it
+-- the value at the first set bit, and those that are selected after it
 pub kept_first : {T : Type 0} (d : T) (mask : List Bool) (values : List T) (p : ℕ)
     → length values ≡ length mask → p < length mask → at mask p ≡ true
     → ((i : ℕ) → i < p → at mask i ≡ false)
@@ -32,12 +32,12 @@ kept_first d (false ∷ mask) (v ∷ values) (suc p) same inside on off =
     kept_first d mask values p (omega arith) (omega arith) on (λ i l. off (suc i) (omega arith))
     ∙ ap (λ k. get_or values p d ∷ kept_by (drop k (false ∷ mask)) (drop k (v ∷ values))) up
 
--- the range from a place to the end
+-- the range from an index to the end
 range_to_end : {T : Type 0} (xs : List T) (a n : ℕ) → n ≡ length xs
     → slice_range xs a n ≡ drop a xs
 range_to_end xs a n end = take_all (n - a) (drop a xs) (simp length-drop (omega (arith, end)))
 
--- a state that has taken up the first value that a mask keeps, and those behind it
+-- a state with the first value that a mask selects, and with those after it
 pub first_taken : {S T : Type 0} (shows : S → List T → Type 0) (state : S) (first : T)
     (mask rest : List Bool) (values : List T) (p n : ℕ) → length values ≡ length mask
     → IsNext mask 0 (Some p) → first ≡ get_or values p first

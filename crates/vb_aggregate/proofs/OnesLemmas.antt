@@ -1,4 +1,4 @@
--- The values at the ones of a word, taken up one by one.
+-- Folds of the values at the ones of a word.
 use Rattle.std.proofs.Common.{◌≡◌, ℕ, ◌+◌, ◌-◌, ◌<◌, ◌≤◌, ◌^◌, Bool, List, [], ◌∷◌, ◌++◌, length}
 use Rattle.std.proofs.Common.{map, get_or, refl, sym, ap, subst, ◌∙◌, arith, append_assoc}
 use Rattle.std.proofs.Common.{length-append}
@@ -19,7 +19,7 @@ kept_nil : {T : Type 0} (bits : List Bool) → kept_by {T = T} bits [] ≡ []
 kept_nil [] = refl
 kept_nil (b ∷ bits) = refl
 
--- a word without a one keeps nothing
+-- a word without a one selects nothing
 pub kept_zero : {T : Type 0} (keep : ℕ) (xs : List T) → keep ≡ 0 → keep < 2 ^ length xs
     → kept_by (digits keep 0 (length xs)) xs ≡ []
 kept_zero keep xs gone clear =
@@ -27,7 +27,7 @@ kept_zero keep xs gone clear =
     (length-kept_by_ones xs keep clear ∙ sym (length-ones (length xs) keep clear)
     ∙ ap (λ k. length (ones (length xs) k)) gone ∙ ap length (ones_none (length xs)))
 
--- one with as many ones as there are values keeps all
+-- a word with one 1 for each value selects all
 pub kept_full : {T : Type 0} (keep : ℕ) (xs : List T) → count_ones keep ≡ length xs
     → keep < 2 ^ length xs → kept_by (digits keep 0 (length xs)) xs ≡ xs
 kept_full keep xs full clear =
@@ -35,7 +35,7 @@ kept_full keep xs full clear =
     kept_all (digits keep 0 (length xs)) xs long
     (count-digits_below keep (length xs) clear ∙ full ∙ sym long)
 
--- it keeps no more than there are
+-- a word selects at most all values
 pub kept_few : {T : Type 0} (keep : ℕ) (xs : List T) → keep < 2 ^ length xs
     → length (kept_by (digits keep 0 (length xs)) xs) ≤ length xs
 kept_few keep xs clear =
@@ -47,7 +47,7 @@ kept_few keep xs clear =
       length-digits keep 0 (length xs),
     )
 
--- a state has taken up the values at the ones of a word that aren't left
+-- a state has the values at the ones of a word that aren't left
 pub record TakesOnes {S T : Type 0} (shows : S → List T → Type 0) (start state : S)
     (values : List T) (keep left : ℕ) : Type 0 where
   pub done : List T
@@ -98,7 +98,7 @@ module _ {S T : Type 0} {shows : S → List T → Type 0} {start state : S} {val
             (add (xs ++ so_far.done) (so_far.shown xs h));
       }
 
-  -- what has been taken up, once none is left
+  -- the values folded so far, once none is left
   done_is : (vs : List T) → vs ≡ values → left ≡ 0 → keep < 2 ^ length vs
       → so_far.done ≡ kept_by (digits keep 0 (length vs)) vs
   done_is [] same gone clear =
@@ -118,7 +118,7 @@ module _ {S T : Type 0} {shows : S → List T → Type 0} {start state : S} {val
       ∙ ap (λ l. map (λ i. get_or l i v) (ones (length l) keep)) (sym same)
       ∙ map-ones v keep (v ∷ vs)
 
-  -- all values that the word keeps
+  -- all values that the word selects
   pub takes_all : left ≡ 0 → keep < 2 ^ length values → (xs : List T) → shows start xs
       → shows state (xs ++ kept_by (digits keep 0 (length values)) values)
   takes_all gone clear xs h =

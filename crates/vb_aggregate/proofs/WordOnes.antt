@@ -17,11 +17,11 @@ use Rattle.vb_walk.specs.Walks.{places_in}
 use Rattle.vb_walk.proofs.OnesLemmas.{lowest_off, lowest_below}
 use Rattle.vb_walk.proofs.PlacesLemmas.{places_in_first, places_in_empty, places-digits}
 
--- the places of the digits that are 1, of the first n of a word
+-- the positions of the ones among the first n bits of a word
 abbrev pub ones : ℕ → ℕ → List ℕ
 ones n w = places_in (has_bit w) 0 n
 
--- none of 0
+-- 0 has none
 pub ones_none : (n : ℕ) → ones n 0 ≡ []
 ones_none n =
     places_in_empty (has_bit 0) 0 n (λ i lo hi. ap (λ x. eqb x 1) (bit_at-zero i))
@@ -30,7 +30,7 @@ module _ (n w : ℕ) (some : 0 < w) (clear : w < 2 ^ n) (few : n ≤ 64) where
   word_fits : w < 2 ^ 64
   word_fits = let more : 2 ^ n ≤ 2 ^ 64 = pow_mono few in omega arith
 
-  -- it, and those of the word without it
+  -- the lowest one, and those of the word without it
   pub ones_first : ones n w ≡ trailing_zeros w64 w ∷ ones n (bit_and w (w - 1))
   ones_first =
       let low : ℕ = trailing_zeros w64 w in
@@ -48,13 +48,13 @@ map-ones d w xs =
     ap (map (λ i. get_or xs i d)) (sym (places-digits w (length xs)))
     ∙ map-places d (digits w 0 (length xs)) xs (length-digits w 0 (length xs))
 
--- as many as the word has ones
+-- their number is that of the ones of the word
 pub length-ones : (n w : ℕ) → w < 2 ^ n → length (ones n w) ≡ count_ones w
 length-ones n w clear =
     ap length (sym (places-digits w n)) ∙ length-places (digits w 0 n)
     ∙ count-digits_below w n clear
 
--- as many as the mask has true bits
+-- the number of selected values is that of the set bits of the mask
 pub length-kept_by_any : {T : Type 0} (bits : List Bool) (xs : List T) → length bits ≡ length xs
     → length (kept_by bits xs) ≡ count bits
 length-kept_by_any [] [] same = refl
@@ -62,14 +62,14 @@ length-kept_by_any [] (x ∷ xs) same = refl
 length-kept_by_any (b ∷ bits) [] same = absurd (omega arith)
 length-kept_by_any (b ∷ bits) (x ∷ xs) same = length-kept_by x (b ∷ bits) (x ∷ xs) same
 
--- as many values as the word has ones
+-- the number of values that a word selects is that of its ones
 pub length-kept_by_ones : {T : Type 0} (xs : List T) (w : ℕ) → w < 2 ^ length xs
     → length (kept_by (digits w 0 (length xs)) xs) ≡ count_ones w
 length-kept_by_ones xs w clear =
     length-kept_by_any (digits w 0 (length xs)) xs (length-digits w 0 (length xs))
     ∙ count-digits_below w (length xs) clear
 
--- a mask that is true keeps all
+-- a mask that is true selects all
 pub kept_all : {T : Type 0} (bits : List Bool) (xs : List T) → length bits ≡ length xs
     → count bits ≡ length bits → kept_by bits xs ≡ xs
 kept_all [] [] same full = refl

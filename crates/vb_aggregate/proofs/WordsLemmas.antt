@@ -1,4 +1,4 @@
--- The values that a mask keeps, a word after the other.
+-- The values that a mask selects, word after word.
 use Rattle.std.proofs.Common.{◌≡◌, ℕ, ◌+◌, ◌-◌, ◌≤◌, Bool, true, false}
 use Rattle.std.proofs.Common.{List, [], ◌∷◌, ◌++◌}
 use Rattle.std.proofs.Common.{length, take, drop, sym, ap, subst, ◌∙◌, arith}
@@ -10,14 +10,14 @@ use Rattle.vb_bits.specs.Digits.{digits}
 use Rattle.vb_bits.specs.Kept.{kept_by}
 use Rattle.vb_bits.proofs.KeptLemmas.{kept_by-append}
 
--- a front, and n values more
+-- the first a values, and n more
 front-add : {T : Type 0} (xs : List T) (a n : ℕ)
     → take (a + n) xs ≡ take a xs ++ slice_range xs a (a + n)
 front-add xs a n =
     let len : a + n - a ≡ n = omega arith in
     take-add a n xs ∙ ap (λ k. take a xs ++ take k (drop a xs)) (sym len)
 
--- a mask keeps no more values than there are
+-- a mask selects at most all values
 pub kept-le : {T : Type 0} (mask : List Bool) (values : List T)
     → length (kept_by mask values) ≤ length values
 kept-le [] values = omega arith
@@ -27,7 +27,7 @@ kept-le (false ∷ mask) (v ∷ values) = let rest = kept-le mask values in omeg
 
 module _ {S T : Type 0} (shows : S → List T → Type 0) (start state : S) (mask : List Bool)
     (values : List T) where
-  -- the state has taken up those of the first a values that the mask keeps
+  -- the state has the selected ones of the first a values
   abbrev pub TakesFront : ℕ → Type 0
   TakesFront a = (xs : List T) → shows start xs
       → shows state (xs ++ kept_by (take a mask) (take a values))
@@ -43,7 +43,7 @@ module _ {S T : Type 0} (shows : S → List T → Type 0) (start state : S) (mas
       subst (λ l. shows state (xs ++ l))
       (ap (λ l. kept_by l (take a values)) all_mask ∙ ap (kept_by mask) all_values) (so_far xs h)
 
-  -- and those of n more, where a word has their bits of the mask
+  -- and those of n more, if a word has their bits of the mask
   pub front_more : (a n keep : ℕ) (next : S) → a + n ≤ length mask
       → digits keep 0 n ≡ slice_range mask a (a + n)
       → ((xs : List T) → shows state xs → shows next (xs ++ kept_by (digits keep 0

@@ -1,4 +1,4 @@
-//! The least and the greatest value that a mask keeps.
+//! The least and the greatest value that a mask selects.
 ghost use Rattle.std.specs.Prelude.{◌≡◌, [], ◌∷◌, length, MatchOption};
 ghost use Rattle.vb_aggregate.specs.Extremes.{IsLeast, IsGreatest};
 ghost use Rattle.vb_bits.specs.Kept.{kept_by};
@@ -39,9 +39,9 @@ impl<T: Summand> Fold<T> for Greatest {
     }
 }
 
-/// Returns the least of the values whose bit in the mask is true, or `None` where none is.
+/// Returns the least of the values whose bit of the mask is true; `None` if no bit is true.
 ///
-/// The mask has to be as long as the values.
+/// The mask must have one bit for each value. Does not allocate.
 pub fn masked_min<T: Summand>(values: &[T], mask: BitBufferView<'_>) -> Option<T>
     requires same_len { length values.now ≡ length (bits_of mask) }
     ensures { MatchOption result (kept_by (bits_of mask.entry) values.now ≡ [])
@@ -50,9 +50,9 @@ pub fn masked_min<T: Summand>(values: &[T], mask: BitBufferView<'_>) -> Option<T
     fold_from_first::<T, Least>(values, mask)
 }
 
-/// Returns the greatest of the values whose bit in the mask is true, or `None` where none is.
+/// Returns the greatest of the values whose bit of the mask is true; `None` if no bit is true.
 ///
-/// The mask has to be as long as the values.
+/// The mask must have one bit for each value. Does not allocate.
 pub fn masked_max<T: Summand>(values: &[T], mask: BitBufferView<'_>) -> Option<T>
     requires same_len { length values.now ≡ length (bits_of mask) }
     ensures { MatchOption result (kept_by (bits_of mask.entry) values.now ≡ [])
@@ -61,7 +61,7 @@ pub fn masked_max<T: Summand>(values: &[T], mask: BitBufferView<'_>) -> Option<T
     fold_from_first::<T, Greatest>(values, mask)
 }
 
-/// The first value that the mask keeps, once it has taken up the others.
+/// Folds the selected values, starting from the first one; `None` if no value is selected.
 #[inline(always)]
 fn fold_from_first<T: Summand, F: Fold<T, State = T>>(
     values: &[T],

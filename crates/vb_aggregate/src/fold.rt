@@ -1,22 +1,22 @@
-//! The values that a word of a mask keeps, taken up by a state one by one.
+//! Folds of the values that a word of a mask selects, one by one.
 ghost use Rattle.std.specs.Prelude.{◌≡◌, ◌^◌, ◌<◌, ◌≤◌, List, [], ◌∷◌, ◌++◌, length};
 ghost use Rattle.vb_bits.specs.Digits.{digits};
 ghost use Rattle.vb_bits.specs.Kept.{kept_by};
 
-/// How a state takes up one value after the other. It is a type, so that each has loops of its own.
+/// A fold of one value after the other. Each fold is a type, so that it has its own loops.
 pub(crate) trait Fold<T> {
-    /// What is known of the values so far.
+    /// The state, of the values so far.
     type State: Copy;
 
-    // Holds of a state and the values that it has taken up, in order.
+    // The relation of a state to the values folded into it, in order.
     ghost shows: { Self.State → List T → Type 0 };
 
-    /// The state once it has taken up one value more.
+    /// Returns the state with one more value added.
     fn add(state: Self::State, value: T) -> Self::State
         ensures { (xs : List T) → shows state xs → shows result (xs ++ (value ∷ [])) };
 }
 
-/// The state once it has taken up those of at most 64 values whose digit of `keep` is 1.
+/// Folds those of at most 64 values into `start` whose bit of `keep` is 1, and returns the state.
 #[inline(always)]
 pub(crate) fn fold_word<T: Copy, F: Fold<T>>(start: F::State, values: &[T], keep: u64) -> F::State
     requires few { length values.now ≤ 64 }
@@ -33,7 +33,7 @@ pub(crate) fn fold_word<T: Copy, F: Fold<T>>(start: F::State, values: &[T], keep
     }
 }
 
-/// The state once it has taken up all values.
+/// Folds all values into `start`, and returns the state.
 #[inline(always)]
 fn fold_all<T: Copy, F: Fold<T>>(start: F::State, values: &[T]) -> F::State
     ensures { (xs : List T) → F.shows start xs → F.shows result (xs ++ values.now) }
@@ -45,7 +45,7 @@ fn fold_all<T: Copy, F: Fold<T>>(start: F::State, values: &[T]) -> F::State
     state
 }
 
-/// [`fold_word`], which looks at the values that are kept alone.
+/// Does [`fold_word`], and reads only the selected values.
 #[inline(always)]
 fn fold_ones<T: Copy, F: Fold<T>>(start: F::State, values: &[T], keep: u64) -> F::State
     requires few { length values.now ≤ 64 }

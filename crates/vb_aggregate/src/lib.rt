@@ -1,8 +1,8 @@
-//! Sums, the least and the greatest of the values that a mask keeps, over slices.
+//! Sums, the least and the greatest of the values that a mask selects, over slices.
 //!
-//! Each call walks the mask 64 bits at a time: it skips 64 values by one test where none is kept,
-//! takes them by a plain loop where all are, and finds those that are kept by their bits else. No
-//! call allocates.
+//! Each call reads the mask 64 bits at a time. If all 64 bits are false, it skips 64 values by one
+//! test; if all are true, it takes them in a plain loop; else it visits the set bits. No call
+//! allocates. What "must" hold is for the caller to prove.
 #![tactic(auto)]
 
 mod extreme;

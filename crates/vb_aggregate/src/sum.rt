@@ -1,4 +1,4 @@
-//! Sums of the values that a mask keeps.
+//! Sums of the values that a mask selects.
 ghost use Rattle.std.specs.Prelude.{◌≡◌, ◌^◌, ◌<◌, ◌≤◌, length, map};
 ghost use Rattle.vb_aggregate.specs.Sums.{int_sum, IsSum, IsValueOf};
 ghost use Rattle.vb_bits.specs.Kept.{kept_by};
@@ -24,7 +24,7 @@ impl<T: Summand> Fold<T> for WrappingSum {
     }
 }
 
-/// The sum so far of the values of a word.
+/// The sum so far of the values of one word.
 struct PartSum;
 
 impl<T: WideSummand> Fold<T> for PartSum {
@@ -56,10 +56,10 @@ impl<T: WideSummand> WordFold<T> for Sum {
     }
 }
 
-/// Returns the sum of the values whose bit in the mask is true, wrapped around at the end of the
+/// Returns the sum of the values whose bit of the mask is true, wrapped around at the end of the
 /// type.
 ///
-/// The mask has to be as long as the values.
+/// The mask must have one bit for each value. Does not allocate.
 pub fn masked_wrapping_sum<T: Summand>(values: &[T], mask: BitBufferView<'_>) -> T
     requires same_len { length values.now ≡ length (bits_of mask) }
     ensures { result
@@ -68,10 +68,10 @@ pub fn masked_wrapping_sum<T: Summand>(values: &[T], mask: BitBufferView<'_>) ->
     fold_kept::<T, OneByOne<WrappingSum>>(T::zero(), values, mask)
 }
 
-/// Returns the sum of the values whose bit in the mask is true, exactly: a `u128` for unsigned
-/// types, an `i128` for signed ones.
+/// Returns the exact sum of the values whose bit of the mask is true: a `u128` for unsigned types,
+/// an `i128` for signed ones.
 ///
-/// The mask has to be as long as the values.
+/// The mask must have one bit for each value. Does not allocate.
 pub fn masked_sum<T: WideSummand>(values: &[T], mask: BitBufferView<'_>) -> T::Total
     requires same_len { length values.now ≡ length (bits_of mask) }
     ensures { T.total_number result
@@ -80,10 +80,10 @@ pub fn masked_sum<T: WideSummand>(values: &[T], mask: BitBufferView<'_>) -> T::T
     fold_kept::<T, Sum>(T::no_total(), values, mask)
 }
 
-/// Returns the sum of the values whose bit in the mask is true, or `None` where it is past the end
-/// of the type. A sum of only some of them may be past it.
+/// Returns the sum of the values whose bit of the mask is true; `None` if the type has no such
+/// value. Sums of only some of these values may overflow the type.
 ///
-/// The mask has to be as long as the values.
+/// The mask must have one bit for each value. Does not allocate.
 pub fn masked_checked_sum<T: WideSummand>(values: &[T], mask: BitBufferView<'_>) -> Option<T>
     requires same_len { length values.now ≡ length (bits_of mask) }
     ensures { IsValueOf T.is_in_type T.number

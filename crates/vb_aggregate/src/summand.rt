@@ -6,24 +6,25 @@ mod unsigned;
 
 use vb_core::{BitIndex, Element};
 
-/// A whole number that can be compared and summed. The twelve whole-number types can.
+/// A whole number that can be compared and summed. The twelve whole-number types implement it.
 pub trait Summand: BitIndex + Element {
-    // The value of the type that differs from a number by a multiple of 2 to the type's bits.
+    // The value of the type that differs from a number by a multiple of 2^bits, for a type of so
+    // many bits.
     ghost wrapped: { ℤ → Self };
 
-    /// Whether this value is below the other one.
+    /// Returns whether this value is less than `other`.
     fn is_less(self, other: Self) -> bool
         ensures { result ≡ int_lt (Self.number self) (Self.number other) };
 
-    /// The sum of both, wrapped around at the end of the type.
+    /// Returns the sum of both, wrapped around at the end of the type.
     fn wrapping_plus(self, other: Self) -> Self
         ensures { result ≡ wrapped (Self.number self +ℤ Self.number other) };
 
-    // A sum may be wrapped around as it grows.
+    // Wrapping a sum around before the next term is added gives the same as wrapping it at the end.
     ghost wraps_on: { (sum : ℤ) (value : Self)
         → wrapped (Self.number (wrapped sum) +ℤ Self.number value)
         ≡ wrapped (sum +ℤ Self.number value) };
 
-    // No sum is wrapped around to 0.
+    // The sum of no values, wrapped around, is 0.
     ghost wraps_zero: { wrapped (pos 0) ≡ Self.zero };
 }

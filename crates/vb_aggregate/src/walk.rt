@@ -1,4 +1,4 @@
-//! The values that a mask keeps, taken up by a state a word at a time.
+//! Folds of the values that a mask selects, a word of the mask at a time.
 ghost use Rattle.std.specs.Prelude.{◌≡◌, ◌^◌, ◌<◌, ◌≤◌, List, ◌++◌, length};
 ghost use Rattle.vb_bits.specs.Digits.{digits};
 ghost use Rattle.vb_bits.specs.Kept.{kept_by};
@@ -8,15 +8,15 @@ use crate::fold::{Fold, fold_word};
 use std::marker::PhantomData;
 use vb_view::{BitBufferView, view_word};
 
-/// How a state takes up those of at most 64 values that a word keeps.
+/// A fold of the selected ones of at most 64 values at a time.
 pub(crate) trait WordFold<T> {
-    /// What is known of the values so far.
+    /// The state, of the values so far.
     type State: Copy;
 
-    // Holds of a state and the values that it has taken up, in order.
+    // The relation of a state to the values folded into it, in order.
     ghost shows: { Self.State → List T → Type 0 };
 
-    /// The state once it has taken up those of the values whose digit of `keep` is 1.
+    /// Returns the state with those values added whose bit of `keep` is 1.
     fn add_word(state: Self::State, values: &[T], keep: u64) -> Self::State
         requires few { length values.now ≤ 64 }
         requires clear { keep < 2 ^ length values.now }
@@ -24,7 +24,7 @@ pub(crate) trait WordFold<T> {
             → shows result (xs ++ kept_by (digits keep 0 (length values.now)) values.now) };
 }
 
-/// One value after the other.
+/// A fold that adds one value after the other.
 pub(crate) struct OneByOne<F> {
     fold: PhantomData<F>,
 }
@@ -40,7 +40,7 @@ impl<T: Copy, F: Fold<T>> WordFold<T> for OneByOne<F> {
     }
 }
 
-/// The state once it has taken up the values whose bit in the mask is true.
+/// Folds the values whose bit of the mask is true into `start`, and returns the state.
 #[inline(always)]
 pub(crate) fn fold_kept<T: Copy, W: WordFold<T>>(
     start: W::State,

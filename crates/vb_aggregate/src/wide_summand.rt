@@ -1,4 +1,4 @@
-//! Whole numbers as terms of sums that are exact.
+//! Whole numbers as terms of exact sums.
 ghost use Rattle.std.specs.Prelude.{◌≡◌, ℕ, ◌+◌, ◌*◌, ◌^◌, ◌<◌, ℤ, pos, ◌+ℤ◌};
 ghost use Rattle.vb_aggregate.specs.Sums.{Within, IsValueOf};
 
@@ -7,8 +7,8 @@ mod unsigned;
 
 use crate::summand::Summand;
 
-/// A whole number of at most 64 bits, of which a `u128` or an `i128` holds the sum of as many as a
-/// slice has. The ten whole-number types up to 64 bits are.
+/// A whole number of at most 64 bits, for which a `u128` or an `i128` holds the sum of the values
+/// of any slice. The ten whole-number types of at most 64 bits implement it.
 pub trait WideSummand: Summand {
     /// A sum of at most 64 values.
     type Part: Copy;
@@ -16,36 +16,36 @@ pub trait WideSummand: Summand {
     /// A sum of the values of a slice: `u128` for unsigned types, `i128` for signed ones.
     type Total: Copy;
 
-    // No value is further from 0.
+    // No value is further from 0 than this.
     ghost reach: { ℕ };
 
-    // The number that a part is.
+    // A part as a number.
     ghost part_number: { Self.Part → ℤ };
 
-    // The number that a total is.
+    // A total as a number.
     ghost total_number: { Self.Total → ℤ };
 
-    /// The sum of no values.
+    /// Returns 0, the sum of no values.
     fn no_part() -> Self::Part
         ensures { part_number result ≡ pos 0 };
 
-    /// The sum with one value more, where it has fewer than 64.
+    /// Returns `sum`, of fewer than 64 values, with one more value added.
     fn plus(sum: Self::Part, value: Self) -> Self::Part
         ensures sum { (k : ℕ) → k < 64 → Within (k * reach) (part_number sum)
             → part_number result ≡ part_number sum +ℤ Self.number value }
         ensures within { Within reach (Self.number value) };
 
-    /// The sum of no values.
+    /// Returns 0, the sum of no values.
     fn no_total() -> Self::Total
         ensures { total_number result ≡ pos 0 };
 
-    /// The sum with that of a part, where both have fewer values than 2 to the power of 64.
+    /// Returns the total of `sum` and `part`, which together have fewer than 2^64 values.
     fn join(sum: Self::Total, part: Self::Part) -> Self::Total
         ensures { (j k : ℕ) → j + k < 2 ^ 64 → Within (j * reach) (total_number sum)
             → Within (k * reach) (part_number part)
             → total_number result ≡ total_number sum +ℤ part_number part };
 
-    /// The value of the type that the sum is, or `None` where it is past an end of the type.
+    /// Returns the sum as a value of the type; `None` if the type has no such value.
     fn narrow(sum: Self::Total) -> Option<Self>
         ensures { IsValueOf Self.is_in_type Self.number (total_number sum) result };
 }

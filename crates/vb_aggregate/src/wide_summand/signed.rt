@@ -1,4 +1,4 @@
-//! The signed whole numbers as terms of sums that are exact.
+//! The signed whole numbers as terms of exact sums.
 ghost use Rattle.std.specs.Prelude.{◌^◌};
 
 use crate::wide_summand::WideSummand;

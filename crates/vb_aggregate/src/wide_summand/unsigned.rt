@@ -1,4 +1,4 @@
-//! The unsigned whole numbers as terms of sums that are exact.
+//! The unsigned whole numbers as terms of exact sums.
 ghost use Rattle.std.specs.Prelude.{◌^◌, pos};
 
 use crate::wide_summand::WideSummand;

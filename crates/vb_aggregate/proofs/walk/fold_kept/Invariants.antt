@@ -3,7 +3,7 @@ use Rattle.vb_view.specs.View.{bits_of}
 use Rattle.vb_aggregate.proofs.WordsLemmas.{TakesFront}
 use Rattle.vb_aggregate.proofs.walk.fold_kept.Given as goal
 
--- what the words so far keep
+-- the state has the values that the words so far select
 abbrev pub invariant-loop-t : goal.invariant-loop-t
 invariant-loop-t g l =
     TakesFront g.W.WordFold.shows l.fn.start l.state (bits_of l.fn.mask) l.fn.values (64 * l.t)
