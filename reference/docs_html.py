@@ -6,6 +6,7 @@ from typing import Callable
 from reference.library import Library
 from reference.rust_items import Item
 
+FENCED = re.compile(r"^(```\w*\n.*?^```)$", re.MULTILINE | re.DOTALL)
 INLINE = re.compile(
     r"\[(?P<text>`[^`\]]+`|[^`\]\[]+)\](?:\((?P<path>[^)]+)\))?|(?P<code>`[^`]+`)"
 )
@@ -13,7 +14,11 @@ Lookup = Callable[[str], "str | None"]
 
 
 def paragraphs(docs: str) -> list[str]:
-    return [it for it in re.split(r"\n\s*\n", docs.strip()) if it.strip()]
+    """The paragraphs and the blocks of code, each with its fences."""
+    found = []
+    for at, part in enumerate(FENCED.split(docs.strip())):
+        found += [part] if at % 2 else re.split(r"\n\s*\n", part)
+    return [it for it in found if it.strip()]
 
 
 def docs_html(docs: str, lookup: Lookup) -> str:
@@ -22,6 +27,9 @@ def docs_html(docs: str, lookup: Lookup) -> str:
 
 
 def block_html(block: str, lookup: Lookup) -> str:
+    if block.startswith("```"):
+        code = block.partition("\n")[2].removesuffix("```")
+        return f"<pre><code>{escape(code, quote=False)}</code></pre>"
     if block.startswith("- "):
         items = re.split(r"\n(?=- )", block)
         listed = "".join(f"<li>{inline_html(it[2:], lookup)}</li>" for it in items)

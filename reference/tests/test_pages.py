@@ -6,6 +6,7 @@ from pathlib import Path
 
 from reference.antt_pages import begun
 from reference.checks import Checks
+from reference.docs_html import docs_html
 from reference.rust_text import SourceError
 from reference.site import Site
 from reference.tests.fixture import Repository
@@ -20,6 +21,15 @@ def text_of(html: str) -> str:
 def errors(*edits: tuple[str, str, str]) -> list[str]:
     with Repository(*edits) as root:
         return Checks(Site(Path(root))).found
+
+
+class Docstrings(unittest.TestCase):
+    def test_a_block_of_code_keeps_its_lines(self):
+        docs = "Adds.\n\n```rust\nlet a = one(&b)?;\n\na < 2\n```\n\n- `a`\n- b"
+        self.assertEqual(docs_html(docs, lambda path: None), (
+            "<p>Adds.</p><pre><code>let a = one(&amp;b)?;\n\na &lt; 2\n</code></pre>"
+            "<ul><li><code>a</code></li><li>b</li></ul>"
+        ))
 
 
 class Pages(unittest.TestCase):

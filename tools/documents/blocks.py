@@ -1,11 +1,13 @@
-"""Whether the code of documents stands in the sources: that of README and CALLING in the tests and
-in the crates and programs that show how to use the library."""
+"""Whether the code of documents and docstrings is in the sources: that of README, CALLING and the
+docstrings of library crates in the tests and in the crates and programs that show how to use the
+library."""
 import re
 
 from documents.files import Document, Repository
 
 SHOWN = ["README.md", "crates/vortex_buffer/CALLING.md"]
 TOKEN = re.compile(r"//[^\n]*|--[^\n]*|\"(?:\\.|[^\"\\])*\"|\w+|[^\w\s]")
+DOCSTRING = re.compile(r"\s*//[/!] ?(.*)")
 IMPORT = re.compile(r"^\s*(?:ghost )?use [^;]+;", re.MULTILINE)
 
 
@@ -46,6 +48,9 @@ class Blocks:
         self.found: list[str] = []
         for path in SHOWN:
             self.document(repository.document(path))
+        for path, text in self.code.items():
+            if path.endswith(".rt") and not is_shown(path):
+                self.document(Document(path, docstrings(text)))
 
     def document(self, document: Document) -> None:
         for language, suffix in (("rust", ".rt"), ("antt", ".antt")):
@@ -75,6 +80,12 @@ class Blocks:
             path for path, text in self.written.items()
             if path.endswith(suffix) and wanted in text and (is_contract or is_shown(path))
         }
+
+
+def docstrings(text: str) -> str:
+    """The lines of a source's docstrings; its other lines are empty."""
+    found = (DOCSTRING.match(line) for line in text.split("\n"))
+    return "\n".join(it[1] if it else "" for it in found)
 
 
 def is_shown(path: str) -> bool:

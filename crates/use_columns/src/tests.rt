@@ -1,6 +1,7 @@
 //! Answers known from outside, with ample memory and with each request refused in turn.
 mod columns;
 mod filters;
+mod first;
 mod kernels;
 mod records;
 

@@ -158,6 +158,13 @@ impl<A: Allocator + Clone> BitBuffer<A> {
     ///
     /// Allocates nothing but what a clone of the allocator needs. Returns `OutOfMemory` if the
     /// allocator cannot be cloned, or if the storage already has the maximum number of owners.
+    ///
+    /// ```rust
+    /// let set = BitBuffer::from_bools(alloc, &[false, true, false, false, true, false])?;
+    ///
+    /// let part = set.slice(1..5)?;
+    /// assert_eq!(rt; (part.len(), part.select(1)), (4, Some(3)));
+    /// ```
     pub fn slice(&self, range: Range<usize>) -> Result<Self>
         requires order { range.start ≤ range.end }
         requires within { range.end ≤ length self.now.bits }
@@ -298,6 +305,11 @@ impl<A: Allocator + Clone> BitBuffer<A> {
     }
 
     /// Returns the bit at index `i`, which must be below the length.
+    ///
+    /// ```rust
+    /// let set = BitBuffer::from_indices(alloc, 6, [1, 4])?;
+    /// assert_eq!(rt; set.value(4), true);
+    /// ```
     pub fn value(&self, i: usize) -> bool
         requires { i < length self.now.bits }
         ensures { slice_get self.now.bits i ≡ Some result }
@@ -306,6 +318,12 @@ impl<A: Allocator + Clone> BitBuffer<A> {
     }
 
     /// Returns the number of true bits. Reads each byte of the bits once, 64 bytes at a time.
+    ///
+    /// ```rust
+    /// let set = BitBuffer::from_indices(alloc, 6, [1, 4])?;
+    ///
+    /// assert_eq!(rt; set.true_count(), 2);
+    /// ```
     pub fn true_count(&self) -> usize
         ensures { result ≡ count self.now.bits }
     {
@@ -321,6 +339,11 @@ impl<A: Allocator + Clone> BitBuffer<A> {
 
     /// Returns the number of true bits from index `start` to `end - 1`. `start` must be at most
     /// `end`, and `end` at most the length. Reads each byte of these bits once, 64 bytes at a time.
+    ///
+    /// ```rust
+    /// let set = BitBuffer::from_bools(alloc, &[false, true, false, false, true, false])?;
+    /// assert_eq!(rt; set.count_range(2, 6), 1);
+    /// ```
     pub fn count_range(&self, start: usize, end: usize) -> usize
         requires order { start ≤ end }
         requires within { end ≤ length self.now.bits }
@@ -333,6 +356,12 @@ impl<A: Allocator + Clone> BitBuffer<A> {
 
     /// Returns the index of the `n`-th true bit, counted from 0, or `None` if at most `n` bits are
     /// true. Counts from the start, 64 bytes at a time, up to the bytes that have the bit.
+    ///
+    /// ```rust
+    /// let set = BitBuffer::from_bools(alloc, &[false, true, false, false, true, false])?;
+    ///
+    /// assert_eq!(rt; (set.select(1), set.select(2)), (Some(4), None));
+    /// ```
     pub fn select(&self, n: usize) -> Option<usize>
         ensures place { Selects self.now.bits n result }
         ensures each { InvertsCount self.now.bits n result }
@@ -361,6 +390,12 @@ impl<A: Allocator + Clone> BitBuffer<A> {
     /// there is none if `from` is at least the length. Reads up to the word that has the bit: the
     /// first two words a word at a time, then four words at once. To visit all true bits,
     /// [`set_indices`](Self::set_indices) is faster.
+    ///
+    /// ```rust
+    /// let set = BitBuffer::from_bools(alloc, &[false, true, false, false, true, false])?;
+    ///
+    /// assert_eq!(rt; (set.next_set(2), set.next_set(5)), (Some(4), None));
+    /// ```
     pub fn next_set(&self, from: usize) -> Option<usize>
         ensures { IsNext self.now.bits from result }
     {

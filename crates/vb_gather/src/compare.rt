@@ -30,6 +30,13 @@ use vb_view::BitBufferView;
 ///
 /// Compares as `compare_into` does, 64 at once if a value has at most 64 bits. A validity adds one
 /// pass over the words of the bits.
+///
+/// ```rust
+/// let values = Buffer::copy_from(alloc, &[7u32, 0, 9, 4])?;
+/// let mask = compared(alloc, values.as_slice(), Comparison::Greater, 4, None)?;
+/// let kept = values.filtered(mask.as_view())?;
+/// assert_eq!(rt; kept.as_slice(), [7, 9].as_slice());
+/// ```
 #[tactic(auto, using(vb_bit_bytes::proofs::BytesLemmas::edits))]
 pub fn compared<T: CompareLanes, A: Allocator + Clone>(
     alloc: A,

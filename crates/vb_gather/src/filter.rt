@@ -31,6 +31,13 @@ pub trait Filter: Sized {
     /// The time is linear in the length of the mask and the number of selected values. Where 64
     /// bits of the mask from a multiple of 64 on are all true, the items of a buffer are copied as
     /// one block.
+    ///
+    /// ```rust
+    /// let values = Buffer::copy_from(alloc, &[7u32, 0, 9, 4])?;
+    /// let mask = compared(alloc, values.as_slice(), Comparison::Greater, 4, None)?;
+    /// let kept = values.filtered(mask.as_view())?;
+    /// assert_eq!(rt; kept.as_slice(), [7, 9].as_slice());
+    /// ```
     fn filtered(&self, mask: BitBufferView<'_>) -> Result<Self>
         ensures { GivesFiltered (len self.now) (length (bits_of mask.entry))
             (keeps self.now (bits_of mask.entry)) result };

@@ -61,6 +61,13 @@ pub trait Take: Sized {
     /// range, or `OutOfMemory` if memory runs out. Allocates with this buffer's or set's allocator:
     /// once for the new values before it reads an index, and once for the count of owners after
     /// that.
+    ///
+    /// ```rust
+    /// let values = Buffer::copy_from(alloc, &[7u32, 0, 9, 4])?;
+    ///
+    /// let taken = values.taken(&[3u32, 0], None)?;
+    /// assert_eq!(rt; taken.as_slice(), [4, 7].as_slice());
+    /// ```
     fn taken<I: BitIndex>(&self, indices: &[I], validity: Option<BitBufferView<'_>>) -> Result<Self>
         requires { ForSome validity (λ v. length (bits_of v) ≡ length indices.now) }
         ensures { takes self.now (map I.number indices.now) (option_map bits_of validity.entry)

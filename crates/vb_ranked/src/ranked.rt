@@ -57,6 +57,12 @@ impl<A: Allocator + Clone> Ranked<A> {
     /// [`capacity`](BitBufferMut::capacity): 8 bytes for up to 512 bits, 2 bytes for each further
     /// 512 bits, and 6 bytes more at each multiple of 65,536 bits that more bits follow. Returns
     /// `OutOfMemory` if memory runs out, and drops the set then.
+    ///
+    /// ```rust
+    /// let set = BitBufferMut::from_indices(alloc, 1000, [7, 700])?;
+    /// let mut ranked = Ranked::new(alloc, set)?;
+    /// assert_eq!(rt; (ranked.rank(700), ranked.select(1)), (1, Some(700)));
+    /// ```
     pub fn new(alloc: A, set: BitBufferMut<A>) -> Result<Self>
         ensures set { IfOk result (λ r. r ≡ set) }
         ensures refused { IsOkUnless result BufferError.OutOfMemory }
@@ -219,6 +225,14 @@ impl<A: Allocator + Clone> Ranked<A> {
     ///
     /// If the bit changes, the counts of the later blocks of its group and the counts before all
     /// later groups change by one: one pass over these.
+    ///
+    /// ```rust
+    /// let set = BitBufferMut::from_indices(alloc, 1000, [7, 700])?;
+    /// let mut ranked = Ranked::new(alloc, set)?;
+    ///
+    /// ranked.set_to(8, true);
+    /// assert_eq!(rt; ranked.rank(700), 2);
+    /// ```
     pub fn set_to(&mut self, i: usize, v: bool)
         requires { i < length self.old.bits }
         ensures bits { self.new.bits ≡ slice_set self.old.bits i v }

@@ -104,6 +104,13 @@ impl<A: Allocator + Clone> BitBufferMut<A> {
 
     /// Returns a set of `n` bits, all false. Allocates their bytes. Returns `OutOfMemory` if memory
     /// runs out.
+    ///
+    /// ```rust
+    /// let mut rows = BitBufferMut::new_unset(alloc, 2)?;
+    /// rows.append(true)?;
+    /// rows.append_n(false, 3)?;
+    /// assert_eq!(rt; (rows.len(), rows.value(2)), (6, true));
+    /// ```
     pub fn new_unset(alloc: A, n: usize) -> Result<Self>
         ensures { Makes (IsFreshOpenSet (replicate n false)) result }
     {
@@ -162,6 +169,12 @@ impl<A: Allocator + Clone> BitBufferMut<A> {
     /// Converts the set to one that can be shared, in the same storage, from the byte of the first
     /// bit on. Takes constant time. Allocates the count of owners. Returns `OutOfMemory` if memory
     /// runs out, and drops the set then.
+    ///
+    /// ```rust
+    /// let rows = BitBufferMut::new_set(alloc, 4)?;
+    /// let shared = rows.freeze()?;
+    /// assert_eq!(rt; shared.true_count(), 4);
+    /// ```
     pub fn freeze(self) -> Result<BitBuffer<A>>
         ensures { Makes (SharesFrom self.offset self.bytes self.bits) result }
     {
@@ -328,6 +341,13 @@ impl<A: Allocator + Clone> BitBufferMut<A> {
 
     /// Sets the bits from index `start` to `end - 1` to `v`, whole bytes at a time. `start` must be
     /// at most `end`, and `end` at most the length. No other bit of the bytes changes.
+    ///
+    /// ```rust
+    /// let mut rows = BitBufferMut::new_unset(alloc, 2)?;
+    ///
+    /// rows.fill_range(0, 2, true);
+    /// assert_eq!(rt; rows.value(1), true);
+    /// ```
     pub fn fill_range(&mut self, start: usize, end: usize, v: bool)
         requires order { start ≤ end }
         requires within { end ≤ length self.old.bits }

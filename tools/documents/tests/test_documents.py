@@ -109,6 +109,14 @@ class Checked(unittest.TestCase):
         found = Blocks(self.repository(README_dot_md=("{one, two}", "{one, four}"))).found
         self.assertEqual(found, ["README.md:6: the sources that have it don't import four"])
 
+    def test_a_docstring_whose_example_no_test_has(self):
+        shown = ("pub struct Type;", "/// A type.\n///\n/// ```rust\n/// let a = one(1);\n/// ```\npub struct Type;")
+        self.assertEqual(Blocks(self.repository(low_slash_src_slash_lib_dot_rt=shown)).found, [])
+        other = (shown[0], shown[1].replace("one(1)", "one(2)"))
+        self.assertEqual(Blocks(self.repository(low_slash_src_slash_lib_dot_rt=other)).found, [
+            "crates/low/src/lib.rt:9: stands in no source: let a = one(2);",
+        ])
+
     def test_a_contract_that_the_source_has_not(self):
         found = Blocks(self.repository(CALLING_dot_md=("≡ n", "≢ n"))).found
         self.assertEqual(len(found), 1)

@@ -86,6 +86,11 @@ impl<A: Allocator + Clone> BitBuffer<A> {
 
     /// Returns the truth values of a slice as a set. Allocates the bytes of the bits and the count
     /// of owners. Returns `OutOfMemory` if memory runs out.
+    ///
+    /// ```rust
+    /// let set = BitBuffer::from_bools(alloc, &[false, true, false, false, true, false])?;
+    /// assert_eq!(rt; set.count_range(2, 6), 1);
+    /// ```
     pub fn from_bools(alloc: A, bools: &[bool]) -> Result<Self>
         ensures { Makes (IsFreshSet bools.now) result }
     {
@@ -129,6 +134,12 @@ impl<A: Allocator + Clone> BitBuffer<A> {
     /// `OutOfMemory`, before it polls the iterator, if memory runs out. Returns `IndexOutOfRange`
     /// with the first index that is not below `len`, and does not poll the iterator again. Drops
     /// the iterator.
+    ///
+    /// ```rust
+    /// let set = BitBuffer::from_indices(alloc, 6, [1, 4])?;
+    /// assert_eq!(rt; set.value(4), true);
+    /// assert_eq!(rt; set.true_count(), 2);
+    /// ```
     pub fn from_indices<I: IntoIterator<Item = usize>>(
         alloc: A,
         len: usize,

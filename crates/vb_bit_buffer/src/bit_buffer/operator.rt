@@ -27,6 +27,14 @@ impl<A: Allocator + Clone> BitBuffer<A> {
     /// the bytes of the window and the count of owners with this set's allocator. Returns
     /// `LengthMismatch` exactly if the lengths differ. Otherwise it returns `OutOfMemory` if memory
     /// runs out.
+    ///
+    /// ```rust
+    /// let left = BitBuffer::from_indices(alloc, 6, [1, 4])?;
+    /// let right = BitBuffer::from_indices(alloc, 6, [4, 5])?;
+    ///
+    /// let first = left.bitand_not(&right)?;
+    /// assert_eq!(rt; first.select(0), Some(1));
+    /// ```
     pub fn bitand_not(&self, right: &Self) -> Result<Self>
         ensures { GivesCombined BitOp.AndNot self.now right.now result }
     {

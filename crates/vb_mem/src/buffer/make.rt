@@ -42,6 +42,13 @@ impl<T: Element, A: Allocator> Buffer<T, A> {
 impl<T: Element, A: Allocator + Clone> Buffer<T, A> {
     /// Returns a copy of `items`, copied as one block and over-aligned to 256 bytes. Returns
     /// `OutOfMemory` if memory runs out.
+    ///
+    /// ```rust
+    /// let values = Buffer::copy_from(alloc, &[7u32, 0, 9, 4])?;
+    ///
+    /// let rest = values.slice(2..4)?;
+    /// assert_eq!(rt; rest.as_slice(), [9, 4].as_slice());
+    /// ```
     pub fn copy_from(alloc: A, items: &[T]) -> Result<Self>
         ensures { Makes (ShowsMade items.now T.align_exponent) result }
     {

@@ -46,6 +46,13 @@ impl<T: Element, A: Allocator> BufferMut<T, A> {
     /// Appends an item. If there is capacity, the call does not allocate, succeeds, and the
     /// capacity does not change. Otherwise it returns `OutOfMemory` if memory runs out; the buffer
     /// is unchanged on error. The amortized cost of a push is constant.
+    ///
+    /// ```rust
+    /// let mut values = BufferMut::<u32>::with_capacity(alloc, 2)?;
+    /// values.push(7)?;
+    /// values.push(9)?;
+    /// assert_eq!(rt; values.as_slice(), [7, 9].as_slice());
+    /// ```
     pub fn push(&mut self, item: T) -> Result<()>
         ensures ok { OnOk result (Lengthens (item ∷ []) self.old self.new) }
         ensures stays { HasRoom self.old 1 → self.new.room ≡ self.old.room }

@@ -163,6 +163,13 @@ impl<A: Allocator + Clone> BitBufferMut<A> {
     /// If the length plus `n` is at most [`capacity`](Self::capacity), the call does not allocate,
     /// succeeds, and the capacity does not change. Clause `needs` states when the call succeeds,
     /// which errors it returns, and that nothing changes on error.
+    ///
+    /// ```rust
+    /// let mut rows = BitBufferMut::new_unset(alloc, 2)?;
+    /// rows.append(true)?;
+    /// rows.append_n(false, 3)?;
+    /// assert_eq!(rt; (rows.len(), rows.value(2)), (6, true));
+    /// ```
     pub fn append_n(&mut self, v: bool, n: usize) -> Result<()>
         ensures ok { OnOk result (AddsBits (replicate n v) self.old self.new) }
         ensures grows { KeepsStart self.old self.new }
