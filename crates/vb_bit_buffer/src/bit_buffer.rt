@@ -337,8 +337,8 @@ impl<A: Allocator + Clone> BitBuffer<A> {
         self.as_view().false_count()
     }
 
-    /// Returns the number of true bits from index `start` to `end - 1`. `start` must be at most
-    /// `end`, and `end` at most the length. Reads each byte of these bits once, 64 bytes at a time.
+    /// Returns the number of true bits at indices `start..end`. `start` must be at most `end`, and
+    /// `end` at most the length. Reads each byte of these bits once, 64 bytes at a time.
     ///
     /// ```rust
     /// let set = BitBuffer::from_bools(alloc, &[false, true, false, false, true, false])?;

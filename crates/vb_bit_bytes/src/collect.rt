@@ -13,8 +13,9 @@ use vb_core::{BufferError, Result};
 use vb_mem::{ByteBuffer, ByteBufferMut};
 use vb_pack::{collect_bool_bytes, map_bool_bytes, pack_bools, pack_truthy};
 
-/// Calls `f` with each index from 0 to `len - 1`, in order, and returns bytes whose first `len`
-/// bits are the results, as few as hold them.
+/// Calls `f` with each index in `0..len`, in order, and returns bytes whose first `len` bits are
+/// the results, as few as hold them. The caller must prove that `f` may be called with each index,
+/// whatever it returned before.
 ///
 /// Allocates these bytes. Returns `OutOfMemory`, before it calls `f`, if memory runs out.
 pub fn collect_bool<A: Allocator + Clone, F: FnMut(usize) -> bool>(
@@ -57,7 +58,8 @@ pub fn collect_bool_shared<A: Allocator + Clone, F: FnMut(usize) -> bool>(
 
 /// Calls `f` with each index of the window of `len` bits of `src` from bit `offset` on, and with
 /// the bit there. Writes the results to the first `len` bits of `bytes`, and returns these as bytes
-/// that can be shared.
+/// that can be shared. The caller must prove that the window is in bounds of `src`, that `bytes`
+/// holds `len` bits, and that `f` may be called with each index.
 ///
 /// Allocates the count of owners. Returns `OutOfMemory`, before it calls `f`, if memory runs out;
 /// `bytes` is dropped then.

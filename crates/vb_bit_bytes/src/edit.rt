@@ -19,8 +19,8 @@ pub fn write_bit<A: Allocator + Clone>(bytes: &mut ByteBufferMut<A>, i: usize, v
     set_bit_to(bytes.as_mut_slice(), i, v);
 }
 
-/// Sets the bits from `start` to `end - 1` to `v`, whole bytes at a time. `end` must be in bounds
-/// of the bytes. If `end` is at most `start`, nothing changes.
+/// Sets bits `start..end` to `v`, whole bytes at a time. `end` must be in bounds of the bytes. If
+/// `end` is at most `start`, nothing changes.
 pub fn fill<A: Allocator + Clone>(bytes: &mut ByteBufferMut<A>, start: usize, end: usize, v: bool)
     requires { end ≤ 8 * length bytes.old.list }
     ensures bits { Writes bytes.old.list bytes.new.list start (replicate (end - start) v) }

@@ -14,7 +14,8 @@ use vb_mem::{BufferMut, ByteBufferMut};
 use vb_pack::pack_bool_word_lanes;
 
 /// Returns bytes whose first bits are the items of an iterator, as few as hold them, and the number
-/// of items. Packs the items 64 at a time, and extends the bytes once for each 64 of them.
+/// of items. The caller must prove that the iterator ends. Packs the items 64 at a time, and
+/// extends the bytes once for each 64 of them.
 ///
 /// Returns `TooManyBits`, at the first item that exceeds `usize::MAX` items, or `OutOfMemory` if
 /// memory runs out. Does not use the iterator's size hint.
@@ -49,7 +50,8 @@ pub fn from_iter<A: Allocator + Clone, I: IntoIterator<Item = bool>>(
 }
 
 /// Returns the next 64 items of an iterator as the digits of a word, or fewer if the iterator ends;
-/// then the number of items, and the rest of the iterator.
+/// then the number of items, and the rest of the iterator. The caller must prove that `next` may be
+/// called, and that the iterator ends.
 #[inline(always)]
 pub fn next_word<I: Iterator<Item = bool>>(mut iter: I) -> (u64, usize, I)
     requires can { I.can_next iter }

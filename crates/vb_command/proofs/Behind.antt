@@ -1,14 +1,14 @@
--- What is read so far, and what the rest still gives.
+-- The items read so far, and the items of the rest.
 use Rattle.std.proofs.Common.{◌≡◌, List, [], ◌∷◌, ◌++◌, refl, sym, ap, Option, Some, None}
 use Rattle.std.proofs.Common.{append_assoc}
 use Rattle.std.specs.Option.{option_map}
 use Rattle.vb_command.specs.Optional.{◌>>=◌}
 
--- all items, where some are there and the rest may still fail
+-- the items read so far, followed by the items of the rest if these can be read
 abbrev pub behind : {X : Type 0} → List X → Option (List X) → Option (List X)
 behind front rest = option_map (λ more. front ++ more) rest
 
--- the next item can stand in front of the rest or behind those that are there
+-- the next item can be the first of the rest or the last of those read so far
 pub behind-next : {X : Type 0} (front : List X) (x : X) (rest : Option (List X))
     → behind front (rest >>= (λ more. Some (x ∷ more))) ≡ behind (front ++ x ∷ []) rest
 behind-next front x None = refl

@@ -1,4 +1,4 @@
--- Texts that are cut at their first separator.
+-- Texts cut at their first separator.
 use Rattle.std.proofs.Common.{◌≡◌, ◌≢◌, ℕ, ◌+◌, ◌<◌, ◌≤◌, false, List, length, get_or, sym, arith}
 use Rattle.std.specs.Prelude.{◌==◌}
 use Rattle.std.specs.List.{position_or_len}
@@ -7,7 +7,7 @@ use Rattle.std.proofs.lemmas.Bool.{eqb-true}
 use Rattle.std.proofs.lemmas.List.Sums.{passes_at_first, position_or_len_is}
 use Rattle.std.proofs.lemmas.Str.{IsCharBoundary-before_ascii, IsCharBoundary-after_ascii}
 
--- a search that found no separator ends where the bytes end
+-- a search that found no separator ends at the end of the bytes
 pub searched-all : (c : ℕ) (bytes : List ℕ) (n : ℕ) → n ≤ length bytes → length bytes ≤ n
     → ((k : ℕ) → k < n → (get_or bytes k 0 == c) ≡ false)
     → n ≡ position_or_len (λ b. b == c) bytes
@@ -21,7 +21,7 @@ low c text ascii lt =
     let found = eqb-true _ _ (passes_at_first (λ b. b == c) text 0 lt) in
     omega (arith, found, ascii)
 
--- a text may be cut before its first separator
+-- a text can be cut before its first separator
 pub cut-before : (c : ℕ) (text : List ℕ) (n : ℕ) → c < 128
     → n ≡ position_or_len (λ b. b == c) text → n ≤ length text → n ≢ length text
     → IsCharBoundary text n
@@ -30,7 +30,7 @@ cut-before c text n ascii place within inside =
     omega (arith, place, within, inside) in
     rw place (IsCharBoundary-before_ascii text _ lt (low c text ascii lt))
 
--- and behind it
+-- a text can be cut after its first separator
 pub cut-behind : (c : ℕ) (text : List ℕ) (n : ℕ) → c < 128 → IsUtf8 text
     → n ≡ position_or_len (λ b. b == c) text → n ≤ length text → n ≢ length text
     → IsCharBoundary text (n + 1)
@@ -39,5 +39,5 @@ cut-behind c text n ascii utf8 place within inside =
     omega (arith, place, within, inside) in
     rw place (IsCharBoundary-after_ascii text _ utf8 lt (low c text ascii lt))
 
--- for `#[tactic(auto, using(..))]`: searches for a separator
+-- searches for a separator, for `#[tactic(auto, using(..))]`
 pub ruleset searches = (position_or_len_is)

@@ -12,7 +12,7 @@ use Rattle.vb_command.specs.Optional.{◌>>=◌}
 use Rattle.vb_command.specs.Hex.{hex_value, hex_pairs, is_digit}
 use Rattle.vb_command.proofs.Behind.{behind, behind-next}
 
--- a pair and the rest give something, if both digits and the rest do
+-- a pair and the rest write bytes exactly if both digits and the rest do
 pair_there : (high low : Option ℕ) (rest : Option (List ℕ)) (even all : Bool)
     → is_some rest ≡ (even && all)
     → is_some ((high >>= (λ x. low >>= (λ y. Some (16 * x + y))))
@@ -33,7 +33,7 @@ second : (a b : Bool) → (a && b) ≡ true → b ≡ true
 second true b both = both
 second false b both = absurd (let no : false ≡ true = both in cc)
 
--- pairs are digits, and their number is even
+-- bytes are pairs of digits exactly if all are digits and their number is even
 pub is_some-hex_pairs : (digits : List ℕ)
     → is_some (hex_pairs digits) ≡ (eqb (length digits % 2) 0 && list_all is_digit digits)
 is_some-hex_pairs [] = refl
@@ -44,7 +44,7 @@ is_some-hex_pairs (a ∷ b ∷ more) =
     (list_all is_digit more) (is_some-hex_pairs more)
     ∙ ap (λ n. eqb n 0 && list_all is_digit (a ∷ b ∷ more)) (sym two)
 
--- the rest of the digits, from a pair on
+-- the digits from a pair on are that pair and the digits after it
 drop_pair : (digits : List ℕ) (i : ℕ) → 2 * i + 1 < length digits
     → drop (2 * i) digits
     ≡ get_or digits (2 * i) 0 ∷ get_or digits (2 * i + 1) 0 ∷ drop (2 * (i + 1)) digits
@@ -62,7 +62,7 @@ hex_pairs-pair a b high low more is_high is_low =
     ∙ ap (λ y. (y >>= (λ l. Some (16 * high + l)))
     >>= (λ byte. hex_pairs more >>= (λ rest. Some (byte ∷ rest)))) is_low
 
--- the byte of one more pair is written
+-- one more byte is written, that of the next pair
 pub pair_written : (digits bytes : List ℕ) (i high low : ℕ)
     → i < length bytes → length digits ≡ 2 * length bytes
     → hex_value (get_or digits (2 * i) 0) ≡ Some high
@@ -91,7 +91,7 @@ pairs_written digits bytes i end size before =
     ∙ (ap (λ l. behind (take i bytes) (hex_pairs l)) (drop_all (2 * i) digits (omega arith))
     ∙ ap Some (append-nil (take i bytes) ∙ take_all i bytes end))
 
--- pairs are digits
+-- the bytes of pairs are digits
 pub pairs_digits : (digits : List ℕ)
     → is_some (hex_pairs digits) ≡ true → list_all is_digit digits ≡ true
 pairs_digits digits pairs = second _ _ (sym (is_some-hex_pairs digits) ∙ pairs)
@@ -101,22 +101,22 @@ pub pairs_even : (digits : List ℕ) → is_some (hex_pairs digits) ≡ true →
 pairs_even digits pairs =
     eqb-true (length digits % 2) 0 (first _ _ (sym (is_some-hex_pairs digits) ∙ pairs))
 
--- an even number of digits are pairs
+-- an even number of bytes are pairs exactly if all are digits
 pub even_pairs : (digits : List ℕ) → length digits % 2 ≡ 0
     → is_some (hex_pairs digits) ≡ list_all is_digit digits
 even_pairs digits even =
     is_some-hex_pairs digits ∙ ap (λ n. eqb n 0 && list_all is_digit digits) even
 
--- an odd number of bytes are no pairs
+-- an odd number of bytes are not pairs
 pub odd_pairs : (digits : List ℕ) → length digits % 2 ≢ 0 → is_some (hex_pairs digits) ≡ false
 odd_pairs digits odd =
     is_some-hex_pairs digits
     ∙ ap (λ b. b && list_all is_digit digits) (ne_eqb (length digits % 2) 0 odd)
 
--- what pairs are made of
+-- facts about pairs
 pub ruleset pairs = (pairs_digits, pairs_even, even_pairs, odd_pairs)
 
--- each of the digits is one
+-- each of the digits is a digit
 pub digit_at : (digits : List ℕ) (i : ℕ) → list_all is_digit digits ≡ true → i < length digits
     → is_digit (get_or digits i 0) ≡ true
 digit_at digits i all within = AllPass-from_list_all is_digit digits all i 0 within

@@ -1,4 +1,4 @@
--- Lines that are ASCII, and lines that aren't.
+-- Lines of ASCII bytes, and lines with other bytes.
 use Rattle.std.proofs.Common.{◌≡◌, ℕ, ◌<◌, ◌≤◌, true, false, List, length, get_or, arith, ltb}
 use Rattle.std.proofs.Common.{lt-ltb, ltb-true}
 use Rattle.std.specs.Str.{IsAscii, IsNotAscii}
@@ -15,13 +15,13 @@ all_ascii-true line ascii =
     list_all-from_AllPass (λ b. ltb b 128) line (λ k d lt.
     lt-ltb (get_or line k d) 128 (omega (arith, ascii k, get_or_default line k d 0 lt)))
 
--- what isn't ASCII stands within the line
+-- a byte that is not ASCII is within the line
 high-inside : (line : List ℕ) (i : ℕ) → 128 ≤ get_or line i 0 → i < length line
 high-inside line i high =
     let past : length line ≤ i → get_or line i 0 ≡ 0 = λ le. get_or-eq_default line 0 le in
     grind (arith, past)
 
--- a line with another byte fails it
+-- a line with a byte that is not ASCII fails the test
 pub all_ascii-false : (line : List ℕ) → IsNotAscii line → all_ascii line ≡ false
 all_ascii-false line (i, high) =
     false_from_ne_true _ (λ t.
@@ -29,5 +29,5 @@ all_ascii-false line (i, high) =
     let low = ltb-true _ _ (AllPass-from_list_all (λ b. ltb b 128) line t i 0 within) in
     omega arith)
 
--- what ASCII is to the test and to texts
+-- the test for ASCII, and ASCII as UTF-8
 pub ruleset ascii = (all_ascii-true, all_ascii-false, IsUtf8-from_ascii)

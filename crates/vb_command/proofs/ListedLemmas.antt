@@ -1,4 +1,4 @@
--- Words as their parts between commas, and what parts write.
+-- The parts of a word between commas, and the items that they write.
 use Rattle.std.proofs.Common.{◌≡◌, ℕ, ◌+◌, ◌<◌, ◌≤◌, Bool, true, List, [], ◌∷◌, ◌++◌, length}
 use Rattle.std.proofs.Common.{false, cond, codes, refl, ap, ◌∙◌, Option, Some, None, arith}
 use Rattle.std.specs.List.{slice_split, position_or_len, before_first, after_first}
@@ -10,7 +10,7 @@ use Rattle.vb_command.specs.Listed.{is_comma, parts, all_written}
 use Rattle.vb_command.specs.Optional.{◌>>=◌}
 use Rattle.vb_command.proofs.Behind.{behind, behind-next}
 
--- the part before the first comma is the first one
+-- the first part ends at the first comma
 pub split-comma : (text : List ℕ) → position_or_len is_comma text < length text
     → slice_split is_comma text
     ≡ before_first is_comma text ∷ slice_split is_comma (after_first is_comma text)
@@ -23,7 +23,7 @@ split-last text last =
     slice_split_none is_comma text
     (λ k d lt. fails_before_first is_comma text k d (omega arith))
 
--- for `#[tactic(auto, using(..))]`: the parts of a text
+-- the parts of a text, for `#[tactic(auto, using(..))]`
 pub ruleset splits = (split-comma, split-last)
 
 module _ {X : Type 0} (f : List ℕ → Option X) where
@@ -31,7 +31,7 @@ module _ {X : Type 0} (f : List ℕ → Option X) where
   abbrev onto : Option (List X) → X → Option (List X)
   onto more x = more >>= (λ xs. Some (x ∷ xs))
 
-  -- a part that writes nothing
+  -- a part that writes no item
   pub all_written-none : (part : List ℕ) (more : List (List ℕ))
       → f part ≡ None → all_written f (part ∷ more) ≡ None
   all_written-none part more none = ap (λ o. o >>= onto (all_written f more)) none
@@ -41,7 +41,7 @@ module _ {X : Type 0} (f : List ℕ → Option X) where
       → f part ≡ Some x → all_written f (part ∷ more) ≡ onto (all_written f more) x
   all_written-some part more x some = ap (λ o. o >>= onto (all_written f more)) some
 
-  -- how many items are written, where k are counted
+  -- the number of items, if the first k are counted already
   abbrev pub counted : ℕ → List (List ℕ) → Option ℕ
   counted k more = option_map (λ xs. k + length xs) (all_written f more)
 
@@ -50,7 +50,7 @@ module _ {X : Type 0} (f : List ℕ → Option X) where
   counted-none None = refl
   counted-none (Some xs) = ap Some (omega arith)
 
-  -- none are counted yet
+  -- no items are counted yet
   pub counted-start : (some : List (List ℕ))
       → option_map length (all_written f some) ≡ counted 0 some
   counted-start some = counted-none (all_written f some)
@@ -79,7 +79,7 @@ shorter : {X : Type 0} (b : Bool) (xs : List X) → length (cond b [] xs) ≤ le
 shorter true xs = omega arith
 shorter false xs = omega arith
 
--- a word has at most one part more than bytes
+-- a word has at most one more part than it has bytes
 pub length-parts : (w : List ℕ) → length (parts w) ≤ length w + 1
 length-parts w = omega (
   arith,
@@ -88,5 +88,5 @@ length-parts w = omega (
   count_by-le-length is_comma w,
 )
 
--- for `#[tactic(auto, using(..))]`: the items that are counted
+-- the number of items, for `#[tactic(auto, using(..))]`
 pub ruleset counts = (counted-start, counted-next, all_written-none, length-parts)

@@ -1,4 +1,4 @@
--- The numbers that words write, from what `parse` gives of them.
+-- The numbers that words write, derived from the contracts of `parse`.
 use Rattle.std.proofs.Common.{◌≡◌, ◌≢◌, ℕ, ◌^◌, ◌-◌, ◌<◌, ◌≤◌, Bool, true, false, ◌&&◌, cond, List}
 use Rattle.std.proofs.Math.Nat.{pow-le-pow_right}
 use Rattle.std.proofs.Math.Seq.{drop-cons}
@@ -30,7 +30,7 @@ use mir.Syntax.{w64}
 decimal_digits : IsNumeralModel (λ ds. all_ascii_digits ds ≡ true) (digits_value 10)
 decimal_digits = numerals_by_value _ tells_all_ascii_digits
 
--- what makes a word a number, as facts
+-- the conditions under which a word is a number
 abbrev Number : List ℕ → Type 0
 Number w = (all_ascii_digits w ≡ true) × (0 < length w) × (digits_value 10 w < 2 ^ 64)
 
@@ -45,7 +45,7 @@ number-facts w t =
     let b = and_parts _ _ a.0 in
     (b.0, ltb-true _ _ b.1, ltb-true _ _ a.1)
 
--- of a word with no plus in front `parse` gives the number
+-- `parse` returns the number of a word that does not begin with a plus
 pub number_gives : {E : Type 0} (w : List ℕ) (r : Result ℕ E) → ParsesUnsigned 64 10 w r
     → get_or w 0 0 ≢ 43 → result_ok r ≡ number w
 number_gives {E} w (Ok n) h plain =
@@ -72,11 +72,11 @@ few_fit w some few = by (all_ascii_digits w) refl
         ap (λ b. cond b (Some (digits_value 10 w)) None)
         (false_from_ne_true _ (λ t. both_ways _ none (number-facts w t).0))
 
--- what a digit's code tells
+-- the code of a digit is in range
 pub in_range : (c : ℕ) → is_ascii_digit c ≡ true → IsInRange 48 57 c
 in_range c is = grind (arith, nat_tests, is)
 
--- one digit more
+-- one more digit
 pub few_more : (w : List ℕ) (n i : ℕ) → i < length w → is_ascii_digit (get_or w i 0) ≡ true
     → n ≡ digits_value 10 (take i w)
     → 10 * n + (get_or w i 0 - 48) ≡ digits_value 10 (take (i + 1) w)
@@ -85,7 +85,7 @@ few_more w n i within is value =
     let more = digits_value_more 10 w i within in
     omega (arith, d, more, value)
 
--- whether all are digits is told by the rest
+-- after a digit, all bytes are digits exactly if the rest are
 pub few_same : (w : List ℕ) (i : ℕ) → i < length w → is_ascii_digit (get_or w i 0) ≡ true
     → all_ascii_digits (drop i w) ≡ all_ascii_digits (drop (i + 1) w)
 few_same w i within is =
@@ -93,21 +93,21 @@ few_same w i within is =
     ∙ ap (λ b. b && all_ascii_digits (drop (suc i) w)) is
     ∙ (let next : suc i ≡ i + 1 = omega arith in ap (λ k. all_ascii_digits (drop k w)) next)
 
--- where one is none, not all are
+-- if one byte is not a digit, not all are digits
 pub few_other : (w : List ℕ) (i : ℕ) → i < length w → is_ascii_digit (get_or w i 0) ≡ false
     → all_ascii_digits (drop i w) ≡ false
 few_other w i within is =
     ap all_ascii_digits (drop-cons w i 0 within)
     ∙ ap (λ b. b && all_ascii_digits (drop (suc i) w)) is
 
--- the number stays small
+-- the number of i + 1 digits stays below 10 ^ (i + 1)
 pub few_small : (n d i : ℕ) → n < 10 ^ i → d ≤ 9 → 10 * n + d < 10 ^ (i + 1)
 few_small n d i small digit =
     let next : i + 1 ≡ suc i = omega arith in
     let more : 10 ^ (i + 1) ≡ 10 ^ i * 10 = ap (λ k. 10 ^ k) next ∙ pow-suc 10 i in
     omega (arith, more)
 
--- and fits
+-- the number of at most 19 digits is below 10 ^ 19
 pub few_below : (n i : ℕ) → n < 10 ^ i → i ≤ 19 → n < 10 ^ 19
 few_below n i small few = omega (arith, pow-le-pow_right {n = 10} (omega arith) few)
 
@@ -118,7 +118,7 @@ limit : (b : Bool) (v most : ℕ)
 limit true v most = refl
 limit false v most = refl
 
--- what tells a numeral and its limit apart gives the number
+-- a result that is a number exactly if the word is a numeral up to the limit
 limited : {E : Type 0} (f : ℕ → ℤ) (most : ℕ) (w : List ℕ) (r : Result ℤ E) → most < 2 ^ 64
     → OkIff r ((all_ascii_digits w ≡ true) × (0 < length w) × (digits_value 10 w ≤ most))
     (f (digits_value 10 w))
@@ -139,13 +139,13 @@ limited f most w (Err e) small h =
     sym (ap (option_map f) (limit (is_number w) value most
     ∙ ap (λ b. cond b (Some value) None) none))
 
--- the same result, told by facts that say the same
+-- the same result under equivalent conditions
 told_by : {T E : Type 0} {P Q : Type 0} (r : Result T E) (x : T) → (P → Q) → (Q → P)
     → OkIff r P x → OkIff r Q x
 told_by (Ok y) x to from h = (to h.0, h.1)
 told_by (Err e) x to from h = λ q. h (from q)
 
--- what `parse` gives of a word with no plus in front, by whether a minus stands there
+-- the result of `parse` for a word that does not begin with a plus, with or without a minus
 signed : {E : Type 0} (w : List ℕ) (r : Result ℤ E) (minus : Bool) → (get_or w 0 0 == 45) ≡ minus
     → ParsesSigned w64 10 w r → get_or w 0 0 ≢ 43
     → result_ok r ≡ (if minus
@@ -160,12 +160,12 @@ signed {E} w r false is h plain =
     (λ f. (f.0, f.1, omega (arith, f.2))) (λ f. (f.0, f.1, omega (arith, f.2)))
     (parse_signed_plain decimal_digits {E = E} w64 w r h plain (eqb-false _ _ is)))
 
--- of a word with no plus in front `parse` gives the index
+-- `parse` returns the index of a word that does not begin with a plus
 pub index_gives : {E : Type 0} (w : List ℕ) (r : Result ℤ E) → ParsesSigned w64 10 w r
     → get_or w 0 0 ≢ 43 → result_ok r ≡ index w
 index_gives w r h plain = signed w r (get_or w 0 0 == 45) refl h plain
 
--- with no minus in front an index is a number that fits
+-- without a minus an index is a number that fits
 plain_index : (w : List ℕ) (o : Option ℕ) → get_or w 0 0 ≢ 45 → number w ≡ o
     → index w ≡ option_map pos (o >>= (λ n. if nat_le n (2 ^ 63 - 1) then Some n else None))
 plain_index w o plain is =
@@ -173,7 +173,7 @@ plain_index w o plain is =
     else option_map pos (number_to (2 ^ 63 - 1) w)) (ne_eqb _ _ plain)
     ∙ ap (λ p. option_map pos (p >>= (λ n. if nat_le n (2 ^ 63 - 1) then Some n else None))) is
 
--- no number, no index
+-- a word without a minus that is not a number is not an index
 pub no_index : (w : List ℕ) → get_or w 0 0 ≢ 45 → number w ≡ None → index w ≡ None
 no_index w plain none = plain_index w None plain none
 
@@ -191,7 +191,7 @@ index_of w n (Err e) h is plain =
     (false_from_ne_true (nat_le n (2 ^ 63 - 1))
     (λ t. h (omega (arith, leb-true n (2 ^ 63 - 1) t)))))
 
--- for `#[tactic(auto, using(..))]`: numbers of few digits
+-- numbers of few digits, for `#[tactic(auto, using(..))]`
 pub ruleset few = (few_fit, few_more, few_same, few_other, few_small, few_below)
 
 -- numbers and indices

@@ -1,4 +1,4 @@
--- The spaces of a text as the bits of a number, as parts of the text have them.
+-- The spaces of a text, and of its parts, as the bits of a number.
 use Rattle.std.proofs.Common.{◌≡◌, ◌≢◌, ℕ, ◌+◌, ◌*◌, ◌/◌, ◌%◌, ◌^◌, ◌<◌, ◌≤◌, Bool, true, false}
 use Rattle.std.proofs.Common.{cond, List, [], ◌∷◌, ◌++◌, length, get_or, take, drop, map, suc}
 use Rattle.std.proofs.Common.{sym, ap, ◌∙◌, arith, pow-suc, replicate, w8}
@@ -19,7 +19,7 @@ use Rattle.std.proofs.lemmas.Str.Ascii.{IsAscii-from_reads}
 use Rattle.vb_command.specs.Spaces.{AreSpaces}
 use Rattle.vb_command.specs.Words.{is_space}
 
--- of two lists, one after the other
+-- the mask of two lists, one after the other
 mask_l-append : (k l : List Bool) → mask_l (k ++ l) ≡ mask_l l * 2 ^ length k + mask_l k
 mask_l-append [] l = omega arith
 mask_l-append (b ∷ k) l =
@@ -27,7 +27,7 @@ mask_l-append (b ∷ k) l =
     let twice : 2 ^ suc (length k) ≡ 2 ^ length k * 2 = pow-suc 2 (length k) in
     rw (twice, rest) (omega arith)
 
--- of a list that is cut in two
+-- the mask of a list that is cut in two
 mask_l-cut : (l : List Bool) (n : ℕ) → n ≤ length l
     → mask_l l ≡ mask_l (drop n l) * 2 ^ n + mask_l (take n l)
 mask_l-cut l n within =
@@ -39,7 +39,7 @@ low l n within =
     let small = mask_l-lt (take n l) in
     rw (length-take-le n l within) at small
 
--- the remainder by a power of two is that of a first part
+-- the remainder by a power of two is the mask of the first part
 pub mask_l-front : (p : ℕ → Bool) (xs : List ℕ) (n : ℕ) → n ≤ length xs
     → mask_l (map p xs) % 2 ^ n ≡ mask_l (map p (take n xs))
 mask_l-front p xs n within =
@@ -47,7 +47,7 @@ mask_l-front p xs n within =
     ap (λ m. m % 2 ^ n) (mask_l-cut (map p xs) n inside)
     ∙ mod_low _ n _ (low (map p xs) n inside) ∙ ap mask_l (take-map p n xs)
 
--- the quotient is that of the rest
+-- the quotient by a power of two is the mask of the rest
 pub mask_l-back : (p : ℕ → Bool) (xs : List ℕ) (n : ℕ) → n ≤ length xs
     → mask_l (map p xs) / 2 ^ n ≡ mask_l (map p (drop n xs))
 mask_l-back p xs n within =
@@ -60,14 +60,14 @@ set : (b : Bool) (n m l : ℕ) → 0 < cond b 1 0 + 2 * n → (0 < n → m < l)
 set true n m l some rest = omega arith
 set false n m l some rest = let r = rest (omega arith) in omega arith
 
--- where a bit is set, a byte passes
+-- if a bit is set, a byte passes the test
 inside : (p : ℕ → Bool) (xs : List ℕ) → 0 < mask_l (map p xs)
     → prefix_len (λ x. not (p x)) xs < length xs
 inside p [] some = absurd (omega arith)
 inside p (x ∷ xs) some =
     set (p x) (mask_l (map p xs)) (prefix_len (λ y. not (p y)) xs) (length xs) some (inside p xs)
 
--- the lowest bit is the first space
+-- the lowest set bit is at the index of the first space
 pub first_space : (text : List ℕ) (spaces : ℕ) → AreSpaces text spaces → spaces ≢ 0
     → (count_trailing_zeros 64 spaces ≡ position_or_len is_space text)
     × (position_or_len is_space text < length text)
@@ -79,12 +79,12 @@ first_space text spaces are some =
       inside is_space text there,
     )
 
--- where no bit is set there is no space
+-- if no bit is set there is no space
 pub no_space : (text : List ℕ) (spaces : ℕ) → AreSpaces text spaces → spaces ≡ 0
     → position_or_len is_space text ≡ length text
 no_space text spaces are none = leading_from_mask_l is_space text (sym are.bits ∙ none)
 
--- the bits behind a front are the spaces behind it
+-- the bits after the first n are the spaces after the first n bytes
 pub spaces_behind : (text : List ℕ) (spaces n : ℕ) → AreSpaces text spaces → n ≤ length text
     → AreSpaces (drop n text) (spaces / 2 ^ n)
 spaces_behind text spaces n are within = record {
@@ -92,11 +92,11 @@ spaces_behind text spaces n are within = record {
   short = omega (arith, are.short, length-drop n text);
 }
 
--- a remainder by a power of two that is shifted to
+-- a remainder by a power of two that a shift computes
 shifted : (m n : ℕ) → n ≤ 32 → m % (1 * 2 ^ n % 2 ^ 64) ≡ m % 2 ^ n
 shifted m n small = ap (λ k. m % k) (shl_whole 1 1 n 64 (omega arith) (omega arith) ∙ omega arith)
 
--- the mask of a test of 32 bytes, cut to the first ones
+-- the mask of a test of 32 bytes, cut to the first n
 cut_mask : (p : ℕ → Bool) (bytes : List ℕ) (n m : ℕ) → 32 ≤ length bytes → n ≤ 32
     → m ≡ mask_l (map p (take 32 bytes))
     → m % (1 * 2 ^ n % 2 ^ 64) ≡ mask_l (map p (take n bytes))
@@ -106,7 +106,7 @@ cut_mask p bytes n m long small is =
     shifted m n small ∙ ap (λ k. k % 2 ^ n) is ∙ mask_l-front p front n (omega arith)
     ∙ ap (λ l. mask_l (map p l)) (take-take n 32 bytes small)
 
--- the mask of the bytes that equal one
+-- the mask of the bytes that equal y
 pub equal_mask : (bytes : List ℕ) (y n : ℕ) → 32 ≤ length bytes → n ≤ 32
     → mask_l (map (top 7) (zip2 (λ a b. cond (eqb a b) 255 0) (take 32 bytes) (replicate 32 y)))
     % 2 ^ 64 % (1 * 2 ^ n % 2 ^ 64) ≡ mask_l (map (λ x. eqb x y) (take n bytes))
@@ -114,7 +114,7 @@ equal_mask bytes y n long small =
     cut_mask (λ x. eqb x y) bytes n _ long small
     (bitmask_splat w8 eqb (take 32 bytes) 32 y (length-take-le 32 bytes long) (omega arith))
 
--- the mask of the bytes from one on
+-- the mask of the bytes that are at least y
 pub least_mask : (bytes : List ℕ) (y n : ℕ) → 32 ≤ length bytes → n ≤ 32
     → mask_l (map (top 7) (zip2 (λ a b. cond (leb a b) 255 0) (replicate 32 y) (take 32 bytes)))
     % 2 ^ 64 % (1 * 2 ^ n % 2 ^ 64) ≡ mask_l (map (λ x. leb y x) (take n bytes))
@@ -126,7 +126,7 @@ least_mask bytes y n long small =
     ∙ zip2_splat_left leb y 32 front size)
     ∙ mask_l-mod (map (λ x. leb y x) front) 64 (omega (arith, length-map front (λ x. leb y x))))
 
--- where no byte's highest bit is set, all are ASCII
+-- if no byte's highest bit is set, all bytes are ASCII
 pub low_bytes : (xs : List ℕ) → mask_l (map (λ x. leb 128 x) xs) ≡ 0 → IsAscii xs
 low_bytes xs none = IsAscii-from_reads xs (length xs) (omega arith) (λ k lt.
     let all = leading_from_mask_l (λ x. leb 128 x) xs none in

@@ -7,13 +7,13 @@ use Rattle.std.proofs.lemmas.List.Splits.{slice_split_first, slice_split_none}
 use Rattle.std.proofs.lemmas.List.Sums.{fails_before_first}
 use Rattle.vb_command.specs.Words.{is_space, is_word, line_words}
 
--- a part that isn't empty is a word
+-- a part that is not empty is a word
 filter-word : (w : List ℕ) (parts : List (List ℕ)) → 0 < length w
     → filter is_word (w ∷ parts) ≡ w ∷ filter is_word parts
 filter-word w parts some =
     ap (λ b. cond b (w ∷ filter is_word parts) (filter is_word parts)) (lt-ltb 0 (length w) some)
 
--- an empty part is none
+-- an empty part is not a word
 filter-empty : (w : List ℕ) (parts : List (List ℕ)) → length w ≡ 0
     → filter is_word (w ∷ parts) ≡ filter is_word parts
 filter-empty [] parts none = refl
@@ -28,7 +28,7 @@ line_words-word text space some =
     ∙ filter-word (before_first is_space text)
     (slice_split is_space (after_first is_space text)) some
 
--- a space in front bears on no word
+-- a space at the start does not change the words
 pub line_words-space : (text : List ℕ) → position_or_len is_space text < length text
     → length (before_first is_space text) ≡ 0
     → line_words text ≡ line_words (after_first is_space text)

@@ -1,4 +1,5 @@
--- What a line of words asks for: by how many words stand after its name, the name, and its fields.
+-- The order of a line of words, by the number of words after its name, by the name, and by the
+-- fields.
 use Rattle.std.specs.Prelude.{ℕ, Bool, List, [], ◌∷◌, codes, Option, Some, None}
 use Rattle.std.specs.Prelude.{if◌then◌else◌}
 use Rattle.std.specs.Str.{bytes_eq}
@@ -11,7 +12,7 @@ use Rattle.vb_command.specs.Optional.{◌>>=◌}
 use Rattle.vb_command.specs.Words.{number, optional_number, truth, mode}
 use Rattle.vb_command.specs.declared.mode.Mode.{Mode}
 
--- a question to the set in one slot, which is answered by a list or a text
+-- a query of the set in one slot whose answer is a list or a text
 unfoldable pub listing_of_number : List ℕ → ℕ → Option Order
 listing_of_number name k =
     if bytes_eq name (codes "bits") then Some (orders.Bits k) else
@@ -20,7 +21,7 @@ listing_of_number name k =
     if bytes_eq name (codes "show") then Some (orders.Show k) else
     None
 
--- a question to the set in one slot
+-- a query of the set in one slot
 unfoldable pub question_of_number : List ℕ → ℕ → Option Order
 question_of_number name k =
     if bytes_eq name (codes "len") then Some (orders.Len k) else
@@ -38,7 +39,7 @@ of_number name k =
     if bytes_eq name (codes "drop") then Some (orders.Drop k) else
     question_of_number name k
 
--- a question to the set in one slot, with a number
+-- a query of the set in one slot, with a number
 unfoldable pub question_of_numbers : List ℕ → ℕ → ℕ → Option Order
 question_of_numbers name k n =
     if bytes_eq name (codes "get") then Some (orders.Get k n) else
@@ -87,41 +88,41 @@ three_numbers a b c = do
   z ← number c
   Some (x, y, z)
 
--- an `append` of these words
+-- the `append` of these words
 unfoldable pub append_of : List ℕ → List ℕ → Option Order
 append_of a b = do
   k ← number a
   v ← truth b
   Some (orders.Append k v)
 
--- an `indices` of these words
+-- the `indices` of these words
 unfoldable pub indices_of : List ℕ → List ℕ → List ℕ → Option Order
 indices_of a b c = do
   (t, n) ← two_numbers a b
   numbers ← items_of number c
   Some (orders.Indices t n numbers)
 
--- a `set` of these words
+-- the `set` of these words
 unfoldable pub set_of : List ℕ → List ℕ → List ℕ → Option Order
 set_of a b c = do
   (k, i) ← two_numbers a b
   v ← truth c
   Some (orders.Set k i v)
 
--- a `not` of these words
+-- the `not` of these words
 unfoldable pub not_of : List ℕ → List ℕ → List ℕ → Option Order
 not_of a b c = do
   m ← mode a
   (l, t) ← two_numbers b c
   Some (orders.Not m l t)
 
--- a `countrange` of these words
+-- the `countrange` of these words
 unfoldable pub countrange_of : List ℕ → List ℕ → List ℕ → Option Order
 countrange_of a b c = do
   (k, i, j) ← three_numbers a b c
   Some (orders.Countrange k i j)
 
--- what a name asks for with a number, a truth value and a number
+-- the order of a name with a number, a truth value and a number
 unfoldable pub value_of : List ℕ → List ℕ → List ℕ → List ℕ → Option Order
 value_of name a b c = do
   k ← number a
@@ -129,14 +130,14 @@ value_of name a b c = do
   n ← number c
   of_value name k v n
 
--- an `import` of these words
+-- the `import` of these words
 unfoldable pub import_of : List ℕ → List ℕ → List ℕ → List ℕ → Option Order
 import_of a b c d = do
   (t, o, n) ← three_numbers a b c
   bytes ← hex d
   Some (orders.Import t o n bytes)
 
--- a `take` of these words
+-- the `take` of these words
 unfoldable pub take_of : List ℕ → List ℕ → List ℕ → List ℕ → Option Order
 take_of a b c d = do
   (k, t) ← two_numbers a b
@@ -144,41 +145,41 @@ take_of a b c d = do
   indices ← items_of index d
   Some (orders.Take k t m indices)
 
--- a `fill` of these words
+-- the `fill` of these words
 unfoldable pub fill_of : List ℕ → List ℕ → List ℕ → List ℕ → Option Order
 fill_of a b c d = do
   (k, i, j) ← three_numbers a b c
   v ← truth d
   Some (orders.Fill k i j v)
 
--- a `slice` of these words
+-- the `slice` of these words
 unfoldable pub slice_of : List ℕ → List ℕ → List ℕ → List ℕ → Option Order
 slice_of a b c d = do
   (k, i, j) ← three_numbers a b c
   t ← number d
   Some (orders.Slice k i j t)
 
--- what the name of an operator asks for with these words
+-- the order of the name of an operator with these words
 unfoldable pub operator_of : List ℕ → List ℕ → List ℕ → List ℕ → List ℕ → Option Order
 operator_of name a b c d = do
   m ← mode a
   (l, r, t) ← three_numbers b c d
   of_operator name m l r t
 
--- what a name asks for with one word after it
+-- the order of a name with one word after it
 unfoldable pub one_word : List ℕ → List ℕ → Option Order
 one_word name a = do
   k ← number a
   of_number name k
 
--- what a name asks for with two words after it
+-- the order of a name with two words after it
 unfoldable pub two_words : List ℕ → List ℕ → List ℕ → Option Order
 two_words name a b =
     if bytes_eq name (codes "append") then append_of a b else (do
       (k, n) ← two_numbers a b
       of_numbers name k n)
 
--- what a name asks for with three words after it
+-- the order of a name with three words after it
 unfoldable pub three_words : List ℕ → List ℕ → List ℕ → List ℕ → Option Order
 three_words name a b c =
     if bytes_eq name (codes "indices") then indices_of a b c else
@@ -187,7 +188,7 @@ three_words name a b c =
     if bytes_eq name (codes "countrange") then countrange_of a b c else
     value_of name a b c
 
--- what a name asks for with four words after it
+-- the order of a name with four words after it
 unfoldable pub four_words : List ℕ → List ℕ → List ℕ → List ℕ → List ℕ → Option Order
 four_words name a b c d =
     if bytes_eq name (codes "import") then import_of a b c d else
@@ -196,7 +197,7 @@ four_words name a b c d =
     if bytes_eq name (codes "slice") then slice_of a b c d else
     operator_of name a b c d
 
--- what a name and the words after it ask for
+-- the order of a name and the words after it
 unfoldable pub arguments_of : List ℕ → List (List ℕ) → Option Order
 arguments_of name (a ∷ []) = one_word name a
 arguments_of name (a ∷ b ∷ []) = two_words name a b

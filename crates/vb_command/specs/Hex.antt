@@ -1,4 +1,4 @@
--- Bytes that are written in hexadecimal, two digits a byte.
+-- Bytes written in hexadecimal, two digits a byte.
 use Rattle.std.specs.Prelude.{ℕ, Bool, is_some, ◌+◌, ◌*◌, List, [], ◌∷◌, codes, Option, Some, None}
 use Rattle.std.specs.Prelude.{nat_lt, if◌then◌else◌}
 use Rattle.std.specs.Char.{digit_value}

@@ -1,4 +1,4 @@
--- The machine: slots that hold lists of truth values, and what each order answers and does to them.
+-- The machine: slots that hold lists of truth values, and the answer and the effect of each order.
 use Rattle.std.specs.Prelude.{◌≡◌, ℕ, ℤ, ◌+◌, ◌-◌, ◌*◌, ◌^◌, ◌<◌, Bool, true, false, ◌&&◌, ◌==◌}
 use Rattle.std.specs.Prelude.{List, [], ◌∷◌, ◌++◌, length, take, replicate, slice_get, slice_set}
 use Rattle.std.specs.Prelude.{slice_range, Option, Some, None, MatchOption, MatchBool, IsTrue}
@@ -24,7 +24,7 @@ use Rattle.vb_command.specs.declared.mode.Mode.TheVariants.{Ref, Own}
 use Rattle.vb_bits.specs.Marks.{with_true}
 use Rattle.vb_take.specs.Takes.{IsTaken, IsFirstPast}
 
--- what a slot holds
+-- the content of a slot
 pub data Slot : Type 0 where
   Empty : Slot
   Open : List Bool → Slot
@@ -34,8 +34,8 @@ pub data Slot : Type 0 where
 unfoldable pub empty_slots : List Slot
 empty_slots = replicate 16 Empty
 
--- what a command asks of the machine, with the fields of its line in their order; `Combine` stands
--- for the four operators on two lists
+-- an order to the machine, with the fields of its line in their order; `Combine` is all four
+-- operators on two lists
 pub data Order : Type 0 where
   Import : ℕ → ℕ → ℕ → List ℕ → Order
   Full : ℕ → Bool → ℕ → Order
@@ -108,7 +108,7 @@ order_of (commands.Runs k) = Runs k
 order_of (commands.Show k) = Show k
 order_of (commands.Eq k j) = Eq k j
 
--- what an order is answered
+-- the answer to an order
 pub data Reply : Type 0 where
   Done : Reply
   Number : ℕ → Reply
@@ -126,7 +126,7 @@ list_of Empty = None
 list_of (Open l) = Some l
 list_of (Frozen l) = Some l
 
--- the list at k, if slot k is there and holds one
+-- the list at k, if slot k exists and holds one
 abbrev pub list_at : List Slot → ℕ → Option (List Bool)
 list_at s k = option_and_then list_of (slice_get s k)
 
@@ -136,7 +136,7 @@ open_list Empty = None
 open_list (Open l) = Some l
 open_list (Frozen l) = None
 
--- the open list at k, if slot k is there and holds one
+-- the open list at k, if slot k exists and holds one
 abbrev pub open_at : List Slot → ℕ → Option (List Bool)
 open_at s k = option_and_then open_list (slice_get s k)
 
@@ -146,17 +146,17 @@ frozen_list Empty = None
 frozen_list (Open l) = None
 frozen_list (Frozen l) = Some l
 
--- the frozen list at k, if slot k is there and holds one
+-- the frozen list at k, if slot k exists and holds one
 abbrev pub frozen_at : List Slot → ℕ → Option (List Bool)
 frozen_at s k = option_and_then frozen_list (slice_get s k)
 
--- a slot that holds a list
+-- a slot, if it holds a list
 abbrev pub kept_slot : Slot → Option Slot
 kept_slot Empty = None
 kept_slot (Open l) = Some (Open l)
 kept_slot (Frozen l) = Some (Frozen l)
 
--- what slot k holds, if it is there and holds a list
+-- the content of slot k, if it exists and holds a list
 abbrev pub kept_at : List Slot → ℕ → Option Slot
 kept_at s k = option_and_then kept_slot (slice_get s k)
 
@@ -166,16 +166,16 @@ is_vacant Empty = true
 is_vacant (Open l) = false
 is_vacant (Frozen l) = false
 
--- whether slot k is there and empty
+-- whether slot k exists and is empty
 abbrev pub vacant_at : List Slot → ℕ → Bool
 vacant_at s k = option_map_or is_vacant (slice_get s k) false
 
--- the validity at m, if none is named or slot m is there and holds a frozen list
+-- the validity at m: none if m is none; otherwise the frozen list in slot m, if there is one
 abbrev pub validity_at : List Slot → Option ℕ → Option (Option (List Bool))
 validity_at s None = Some None
 validity_at s (Some m) = option_map Some (frozen_at s m)
 
--- whether a validity, if there is one, is of this length
+-- whether a validity, if there is one, has length n
 abbrev pub is_as_long : ℕ → Option (List Bool) → Bool
 is_as_long n None = true
 is_as_long n (Some validity) = length validity == n
@@ -184,94 +184,93 @@ is_as_long n (Some validity) = length validity == n
 abbrev pub all_below : ℕ → List ℕ → Bool
 all_below n numbers = list_all (λ i. nat_lt i n) numbers
 
--- whether a window of n bits from bit o on begins in the first byte, lies within the bytes and ends
--- at a number of 64 bits
+-- whether a window of n bits from bit o on begins in the first byte, is in bounds of the bytes, and
+-- ends at an index of 64 bits
 abbrev pub fits : ℕ → ℕ → List ℕ → Bool
 fits o n bytes =
     nat_lt o 8 && nat_le (o + n) (8 * length bytes) && nat_lt (o + n) (2 ^ 64)
 
--- whether the places from a up to b are a range of the list
+-- whether the indices a..b are a range of the list
 abbrev pub is_range : ℕ → ℕ → List Bool → Bool
 is_range a b l = nat_le a b && nat_le b (length l)
 
--- the slots once an operator has its left list from slot l: with `own` that slot gave it away
+-- the slots after an operator took its left list from slot l: with `own` that slot is empty
 abbrev pub after_release : Mode → ℕ → List Slot → List Slot
 after_release Ref l s = s
 after_release Own l s = slice_set s l Empty
 
--- what may come of an order: a relation of the slots before it, its answer and the slots after it
+-- a relation between the slots before an order, its answer, and the slots after it
 abbrev pub Effect : Type 1
 Effect = List Slot → Reply → List Slot → Type 0
 
--- the order is refused, and every slot stays
+-- the order is refused, and every slot keeps its content
 abbrev pub Refuses : Refusal → Effect
 Refuses why s r t = (r ≡ Refused why) × (t ≡ s)
 
--- the order is done: slot k is filled with this, and all others stay
+-- the order is done: slot k has this content, and all other slots keep theirs
 abbrev pub Puts : ℕ → Slot → Effect
 Puts k new s r t = (r ≡ Done) × (t ≡ slice_set s k new)
 
--- an operator has its left list from slot l, and something follows
+-- an operator takes its left list from slot l, and then `Then` holds
 abbrev pub Releases : Mode → ℕ → Effect → Effect
 Releases mode l Then s r t = Then (after_release mode l s) r t
 
--- where a check fails the order is refused for this reason, and else something follows
+-- if a check fails, the order is refused for this reason; otherwise `Then` holds
 abbrev pub Checks : Bool → Refusal → Effect → Effect
 Checks passed why Then s r t = MatchBool passed (Then s r t) (Refuses why s r t)
 
--- where a slot holds nothing of the kind the order is refused, and else something follows of what
--- it holds
+-- if a slot does not hold what the order needs, the order is refused; otherwise `Then` holds of its
+-- content
 abbrev pub Needs : {X : Type 0} → Option X → (X → Effect) → Effect
 Needs held Then s r t = MatchOption held (Refuses BadSlot s r t) (λ x. Then x s r t)
 
--- the list at k is asked a question, and every slot stays
+-- the order queries the list at k, and every slot keeps its content
 abbrev pub Asks : ℕ → (List Bool → Reply → Type 0) → Effect
 Asks k Answers s r t = Needs (list_at s k) (λ l s r t. Answers l r × (t ≡ s)) s r t
 
--- two lists are compared, and every slot stays
+-- the order compares two lists, and every slot keeps its content
 abbrev pub Compares : List Bool → List Bool → Effect
 Compares l m s r t = (same : Bool) × (r ≡ Truth same) × (IsTrue same ↔ (l ≡ m)) × (t ≡ s)
 
--- the open list at k is edited
+-- the order edits the open list at k
 abbrev pub Edits : ℕ → (List Bool → List Bool) → Effect
 Edits k edit s r t = Needs (open_at s k) (λ l. Puts k (Open (edit l))) s r t
 
--- the open list at k is edited where these places are its own
+-- the order edits the open list at k, if the indices are within the list
 abbrev pub EditsWithin : ℕ → (List Bool → Bool) → (List Bool → List Bool) → Effect
 EditsWithin k within edit s r t =
     Needs (open_at s k) (λ l. Checks (within l) OutOfRange (Puts k (Open (edit l)))) s r t
 
--- truth values are added to the open list l at k, whose new length has to be a number of 64 bits
+-- the order appends truth values to the open list l at k; the new length fits in 64 bits
 abbrev pub GrowsBy : ℕ → List Bool → List Bool → Effect
 GrowsBy k l more s r t = (length l + length more < 2 ^ 64) × Puts k (Open (l ++ more)) s r t
 
--- truth values are added to the open list at k
+-- the order appends truth values to the open list at k
 abbrev pub AppendsValues : ℕ → List Bool → Effect
 AppendsValues k more s r t = Needs (open_at s k) (λ l. GrowsBy k l more) s r t
 
--- slot j is filled with the values that indices take from a list, or the order is refused at the
--- first position that takes nothing
+-- the order fills slot j with the values of a list at the indices, or is refused at the first
+-- position whose index is out of range
 abbrev pub PutsTaken : ℕ → List Bool → List ℤ → Option (List Bool) → Effect
 PutsTaken j l indices validity s r t =
     ((m : List Bool) × IsTaken l indices validity m × Puts j (Frozen m) s r t)
     ⊎ ((p : ℕ) × IsFirstPast l indices validity p × Refuses (TakeOutOfRange p) s r t)
 
--- the answer is the value at place i, which has to be below the length
+-- the answer is the value at index i, which must be below the length
 abbrev pub Gets : ℕ → List Bool → Reply → Type 0
 Gets i l r = MatchBool (nat_lt i (length l)) (r ≡ Truth (at l i)) (r ≡ Refused OutOfRange)
 
--- the answer is how many values from place a up to b are true; the places have to be a range of the
--- list
+-- the answer is the number of true values at indices a..b, which must be a range of the list
 abbrev pub CountsRange : ℕ → ℕ → List Bool → Reply → Type 0
 CountsRange a b l r =
     MatchBool (is_range a b l) (r ≡ Number (count (slice_range l a b))) (r ≡ Refused OutOfRange)
 
--- the answer is the place of the true value with n true ones before it, or none where there are at
+-- the answer is the index of the true value with n true values before it, or none if there are at
 -- most n
 abbrev pub Finds : ℕ → List Bool → Reply → Type 0
 Finds n l r = (p : Option ℕ) × (r ≡ Place p) × Selects l n p
 
--- what an order is answered and does; its checks come in the order in which they are written
+-- the answer and the effect of an order; it does its checks in the order in which they are written
 abbrev pub Step : List Slot → Order → Reply → List Slot → Type 0
 Step s (Import k o n bytes) r t =
     Checks (vacant_at s k) BadSlot (Checks (fits o n bytes) BadWindow
@@ -323,26 +322,27 @@ Step s (Runs k) r t = Asks k (λ l a. a ≡ ListedRuns (runs l)) s r t
 Step s (Show k) r t = Needs (frozen_at s k) (λ l s r t. (r ≡ Text (bits_text l)) × (t ≡ s)) s r t
 Step s (Eq k j) r t = Needs (list_at s k) (λ l. Needs (list_at s j) (Compares l)) s r t
 
--- something follows where a check passes
+-- a check passes, and then `Then` holds
 abbrev pub Passes : Bool → Effect → Effect
 Passes passed Then s r t = IsTrue passed × Then s r t
 
--- something follows of what a slot holds, which has to hold something of the kind
+-- a slot holds what the order needs, and `Then` holds of its content
 abbrev pub Has : {X : Type 0} → Option X → (X → Effect) → Effect
 Has held Then s r t = MatchOption held ⊥ (λ x. Then x s r t)
 
--- memory is refused after slot k gave its list away: it is empty, and all others stay
+-- memory runs out after slot k released its list: the slot is empty, and all others keep their
+-- content
 abbrev pub Loses : ℕ → Effect
 Loses k s r t = (r ≡ Refused OutOfMemory) × (t ≡ slice_set s k Empty)
 
--- an append that makes a list of n values is refused: for want of memory where n is a number of 64
--- bits, or for its bit numbers where n passes 2 ^ 64 - 8
+-- an append that makes a list of n values is refused: because memory runs out, if n fits in 64
+-- bits, or because of its bit indices, if n is more than 2 ^ 64 - 8
 abbrev pub RefusesLength : ℕ → Effect
 RefusesLength n s r t =
     ((n < 2 ^ 64) × Refuses OutOfMemory s r t) ⊎ ((2 ^ 64 - 8 < n) × Refuses TooManyBits s r t)
 
--- what an order is answered and does where memory or bit numbers are refused, which can be once its
--- checks are passed
+-- the answer and the effect of an order that is refused because of memory or bit indices, after its
+-- checks passed
 abbrev pub GivesUp : List Slot → Order → Reply → List Slot → Type 0
 GivesUp s (Import k o n bytes) r t =
     Passes (vacant_at s k) (Passes (fits o n bytes) (Refuses OutOfMemory)) s r t
@@ -378,11 +378,11 @@ GivesUp s (Runs k) r t = Has (list_at s k) (λ l. Refuses OutOfMemory) s r t
 GivesUp s (Show k) r t = Has (frozen_at s k) (λ l. Refuses OutOfMemory) s r t
 GivesUp s c r t = ⊥
 
--- what may come of an order, want of memory included
+-- any outcome of an order, out of memory included
 abbrev pub Outcome : List Slot → Order → Reply → List Slot → Type 0
 Outcome s c r t = Step s c r t ⊎ GivesUp s c r t
 
--- orders that are carried out one after the other, with one answer each
+-- orders run one after the other, each with one answer
 abbrev pub Run : List Slot → List Order → List Reply → List Slot → Type 0
 Run s [] [] t = t ≡ s
 Run s (c ∷ cs) (r ∷ rs) t = (m : List Slot) × Outcome s c r m × Run m cs rs t

@@ -1,7 +1,7 @@
--- One reading after another.
+-- Chains of readings that may fail.
 use Rattle.std.specs.Prelude.{Option, option_and_then}
 
 infixl 10 ◌>>=◌
--- what f makes of the value, if there is one
+-- the result of f for the value, if there is one
 abbrev pub ◌>>=◌ : {A B : Type 0} → Option A → (A → Option B) → Option B
 o >>= f = option_and_then f o

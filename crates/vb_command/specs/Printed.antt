@@ -1,4 +1,4 @@
--- What answers look like.
+-- The text of answers.
 use Rattle.std.specs.Prelude.{ℕ, Bool, true, false, List, [], ◌∷◌, ◌++◌, codes, decimal, Some, None}
 use Rattle.std.specs.List.{flat_map}
 use Rattle.vb_command.specs.Machine.{Reply, Done, Number, Truth, Place, Listed, ListedPlaces}
@@ -9,7 +9,7 @@ use Rattle.vb_command.specs.declared.refusal.Refusal.TheVariants.{OutOfRange, Le
 use Rattle.vb_command.specs.declared.refusal.Refusal.TheVariants.{TakeOutOfRange, TooManyBits}
 use Rattle.vb_command.specs.declared.refusal.Refusal.TheVariants.{OutOfMemory}
 
--- the name of a refusal, and where it has one its position
+-- the name of a refusal, and its position if it has one
 abbrev pub name_of : Refusal → List ℕ
 name_of BadSlot = codes "BadSlot"
 name_of BadWindow = codes "BadWindow"
@@ -28,25 +28,25 @@ abbrev pub digit_of : Bool → List ℕ
 digit_of true = codes "1"
 digit_of false = codes "0"
 
--- truth values as binary digits, or `-` where there are none
+-- truth values as binary digits, or `-` if there are none
 abbrev pub digits_of : List Bool → List ℕ
 digits_of [] = codes "-"
 digits_of (b ∷ bs) = flat_map digit_of (b ∷ bs)
 
--- the texts of items with commas between two, or `-` where there are none
+-- the texts of items with commas between them, or `-` if there are none
 abbrev pub with_commas : {X : Type 0} → (X → List ℕ) → List X → List ℕ
 with_commas text [] = codes "-"
 with_commas text (x ∷ xs) = text x ++ flat_map (λ y. codes "," ++ text y) xs
 
--- places in decimal, with commas between two
+-- indices in decimal, with commas between them
 abbrev pub places_text : List ℕ → List ℕ
 places_text places = with_commas decimal places
 
--- a run: where it begins, and the place behind it
+-- a run: the index of its first bit, and the index after its last bit
 abbrev pub run_text : ℕ × ℕ → List ℕ
 run_text run = decimal run.0 ++ codes "-" ++ decimal run.1
 
--- runs, with commas between two
+-- runs, with commas between them
 abbrev pub runs_text : List (ℕ × ℕ) → List ℕ
 runs_text runs = with_commas run_text runs
 

@@ -1,4 +1,4 @@
--- What the lines of an input ask for.
+-- The orders of the lines of an input.
 use Rattle.std.specs.Prelude.{◌≡◌, ℕ, ◌+◌, ◌-◌, ◌^◌, Bool, true, false, IsTrue, is_some, List, []}
 use Rattle.std.specs.Prelude.{◌∷◌, Option, Some, None, Result, Ok, Err, nat_lt, ◌==◌, slice_index}
 use Rattle.std.specs.Prelude.{if◌then◌else◌}
@@ -10,13 +10,14 @@ use Rattle.vb_command.specs.Arguments.{arguments_of}
 use Rattle.vb_command.specs.declared.unread.Unread.{Unread}
 use Rattle.vb_command.specs.declared.unread.Unread.TheVariants as unread
 
--- a function gives what a definition reads; where memory is refused there is something to be read
+-- a function returns what the definition `read` says; if it runs out of memory, the definition has
+-- a value
 abbrev pub Gives : {X Y : Type 0} → (X → Y) → Result X Unread → Option Y → Type 0
 Gives view (Ok x) read = read ≡ Some (view x)
 Gives view (Err unread.Memory) read = IsTrue (is_some read)
 Gives view (Err unread.Unreadable) read = read ≡ None
 
--- a function that takes no memory gives what a definition reads
+-- a function that does not allocate returns what the definition `read` says
 abbrev pub Tells : {X Y : Type 0} → (X → Y) → Result X Unread → Option Y → Type 0
 Tells view (Ok x) read = read ≡ Some (view x)
 Tells view (Err unread.Memory) read = ⊥
@@ -26,31 +27,31 @@ Tells view (Err unread.Unreadable) read = read ≡ None
 abbrev pub all_ascii : List ℕ → Bool
 all_ascii bs = list_all (λ b. nat_lt b 128) bs
 
--- whether a line whose first word is w is a comment: it begins with `#`, whose code is 35
+-- whether a line whose first word is w is a comment: it begins with `#` (code 35)
 abbrev pub is_comment : List ℕ → Bool
 is_comment w = slice_index w 0 == 35
 
--- what the words of a line ask for: a command, or nothing where there are no words or a comment
+-- the order of the words of a line, or none if there are no words or the line is a comment
 unfoldable pub request_of : List (List ℕ) → Option (Option Order)
 request_of [] = Some None
 request_of (w ∷ ws) = if is_comment w then Some None else (do
   c ← arguments_of w ws
   Some (Some c))
 
--- whether an order holds a list, for which memory is taken
+-- whether an order holds a list, which needs memory
 abbrev pub holds_list : Order → Bool
 holds_list (Import t o n bytes) = true
 holds_list (Indices t n numbers) = true
 holds_list (Take k t m indices) = true
 holds_list c = false
 
--- whether what a line asks for holds a list
+-- whether the order of a line holds a list
 abbrev pub asks_memory : Option (Option Order) → Bool
 asks_memory None = false
 asks_memory (Some None) = false
 asks_memory (Some (Some c)) = holds_list c
 
--- what a line asks for, if it can be read: a command, or nothing
+-- the reading of a line, if it can be read: an order, or none
 abbrev pub reading : List ℕ → Option (Option Order)
 reading line = if all_ascii line then request_of (line_words line) else None
 
@@ -59,8 +60,8 @@ abbrev pub with_order : Option Order → List Order → List Order
 with_order None cs = cs
 with_order (Some c) cs = c ∷ cs
 
--- the orders of lines that are numbered from n on, if each can be read; a line numbered 2 ^ 64 - 1
--- can't
+-- the orders of lines that are numbered from n on, if each can be read; a line with number 2 ^ 64 -
+-- 1 cannot
 abbrev pub script : ℕ → List (List ℕ) → Option (List Order)
 script n [] = Some []
 script n (l ∷ ls) = if nat_lt n (2 ^ 64 - 1) then (do

@@ -1,29 +1,29 @@
-//! What a command is answered.
+//! The answer to a command.
 
 use crate::refusal::Refusal;
 use std::alloc::{Allocator, Global};
 
-/// What a command is answered. It is printed as one line, here without its line feed.
+/// The answer to a command. It prints as one line; `Display` writes no line feed.
 #[derive(Debug, Drop)]
 pub enum Answer<A: Allocator = Global> {
-    /// The command is done, printed as `ok`.
+    /// The command is done. Prints as `ok`.
     Done,
-    /// A number, printed in decimal.
+    /// A number. Prints in decimal.
     Number(usize),
-    /// A truth value, printed as `1` or `0`.
+    /// A truth value. Prints as `1` or `0`.
     Truth(bool),
-    /// A place, counted from 0 and printed in decimal, or `none`.
+    /// An index, counted from 0. Prints in decimal, or as `none`.
     Place(Option<usize>),
-    /// The bits of a set from place 0 on, printed as `1` and `0` with nothing between them, or as
-    /// `-` where there are none.
+    /// The bits of a set from index 0 on. Prints as `1` and `0` with nothing between them, or as
+    /// `-` if there are none.
     Bits(Vec<bool, A>),
-    /// The places of a set's true bits, printed in decimal with commas between two, or `-` where
+    /// The indices of a set's true bits. Prints in decimal with commas between them, or as `-` if
     /// there are none.
     Places(Vec<usize, A>),
-    /// The runs of a set's true bits: where each begins, and the place behind it. They are printed
-    /// as `1-3,4-7`, or as `-` where there are none.
+    /// The runs of a set's true bits: the index of the first bit and the index after the last bit
+    /// of each. Prints as `1-3,4-7`, or as `-` if there are none.
     Runs(Vec<(usize, usize), A>),
-    /// A set as its `Display` shows it, printed as it is.
+    /// The text of a set's `Display`. Prints unchanged.
     Text(String<A>),
     /// The command is refused.
     Refused(Refusal),

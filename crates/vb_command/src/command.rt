@@ -1,103 +1,104 @@
-//! What a line asks for.
+//! The command of a line.
 
 use crate::mode::Mode;
 use std::alloc::{Allocator, Global};
 
-/// A command over slots of bit sets. There is one variant a line, with the fields of the line in
-/// their order.
+/// A command over slots of bit sets. There is one variant for each kind of line, with the fields of
+/// the line in their order.
 ///
-/// Slots, places and lengths in bits are numbers of 64 bits, whatever they are: a slot above 15 is
-/// part of a command too, which is then refused.
+/// Slots, indices and lengths in bits are any numbers of 64 bits. A slot above 15 can be part of a
+/// command, which is then refused.
 #[derive(Debug, Drop)]
 pub enum Command<A: Allocator = Global> {
-    /// `import t o n HEX`: fills slot `t`, which has to be empty, with an open set of `n` bits,
-    /// read from the bytes, beginning at bit `o` of the first one, the least significant bit of
-    /// each byte first. `o` has to be below 8, and all bits have to lie within the bytes.
+    /// `import t o n HEX`: fills slot `t`, which must be empty, with an open set of `n` bits of the
+    /// bytes, from bit `o` of the first byte on, least significant bit first. `o` must be below 8,
+    /// and all bits must be in bounds of the bytes.
     Import(usize, usize, usize, Vec<u8, A>),
-    /// `full t v n`: fills slot `t`, which has to be empty, with an open set of `n` bits `v`.
+    /// `full t v n`: fills slot `t`, which must be empty, with an open set of `n` bits `v`.
     Full(usize, bool, usize),
-    /// `indices t n NUMBERS`: fills slot `t`, which has to be empty, with an open set of `n` bits
-    /// that is true exactly at these places, all of which have to be below `n`.
+    /// `indices t n NUMBERS`: fills slot `t`, which must be empty, with an open set of `n` bits
+    /// that is true exactly at these indices. All of them must be below `n`.
     Indices(usize, usize, Vec<usize, A>),
-    /// `set k i v`: makes bit `i`, below the length, of the open set in slot `k` `v`.
+    /// `set k i v`: sets bit `i`, which must be below the length, of the open set in slot `k` to
+    /// `v`.
     Set(usize, usize, bool),
-    /// `append k v`: adds a bit `v` to the open set in slot `k`.
+    /// `append k v`: appends a bit `v` to the open set in slot `k`.
     Append(usize, bool),
-    /// `appendn k v n`: adds `n` bits `v` to the open set in slot `k`.
+    /// `appendn k v n`: appends `n` bits `v` to the open set in slot `k`.
     Appendn(usize, bool, usize),
-    /// `appendset k j`: adds the bits of the frozen set in slot `j` to the open set in slot `k`.
+    /// `appendset k j`: appends the bits of the frozen set in slot `j` to the open set in slot `k`.
     Appendset(usize, usize),
-    /// `fill k a b v`: makes the bits from `a` up to `b`, `b` excluded, of the open set in slot `k`
-    /// `v`. The places have to be a range of the set.
+    /// `fill k a b v`: sets bits `a..b` of the open set in slot `k` to `v`. They must be a range of
+    /// the set.
     Fill(usize, usize, usize, bool),
-    /// `truncate k n`: keeps the first `n` bits of the open set in slot `k`, or all where it has at
-    /// most `n`.
+    /// `truncate k n`: removes all bits after the first `n` from the open set in slot `k`; removes
+    /// none if it has at most `n`.
     Truncate(usize, usize),
-    /// `clear k`: takes all bits from the open set in slot `k`.
+    /// `clear k`: removes all bits from the open set in slot `k`.
     Clear(usize),
     /// `flip k`: negates every bit of the open set in slot `k`.
     Flip(usize),
-    /// `freeze k`: makes the open set in slot `k` a frozen one.
+    /// `freeze k`: converts the open set in slot `k` to a frozen one.
     Freeze(usize),
-    /// `thaw k`: makes the frozen set in slot `k` an open one.
+    /// `thaw k`: converts the frozen set in slot `k` to an open one.
     Thaw(usize),
-    /// `clone k t`: fills slot `t`, which has to be empty, with the set in slot `k`, of its kind.
+    /// `clone k t`: fills slot `t`, which must be empty, with a copy of the set in slot `k`, open
+    /// or frozen as that set is.
     Clone(usize, usize),
-    /// `slice k a b t`: fills slot `t`, which has to be empty, with a frozen set of the bits from
-    /// `a` up to `b`, `b` excluded, of the frozen set in slot `k`. The places have to be a range of
-    /// that set.
+    /// `slice k a b t`: fills slot `t`, which must be empty, with a frozen set of bits `a..b` of
+    /// the frozen set in slot `k`. They must be a range of that set.
     Slice(usize, usize, usize, usize),
-    /// `sliced k t`: fills slot `t`, which has to be empty, with a frozen set of the same bits as
-    /// the frozen set in slot `k`, whose storage holds these alone.
+    /// `sliced k t`: fills slot `t`, which must be empty, with a frozen set of the same bits as the
+    /// frozen set in slot `k`. The new set has only the bytes of these bits.
     Sliced(usize, usize),
-    /// `drop k`: empties slot `k`, which has to hold a set.
+    /// `drop k`: empties slot `k`, which must hold a set.
     Drop(usize),
     /// `and MODE l r t`: fills slot `t` with a frozen set of the bits that are true in both of the
-    /// frozen sets in slots `l` and `r`, which have to be of one length. By `own` slot `l` gives
-    /// its set away: `r` has to be another one, and `t` may be `l`. Otherwise `t` has to be empty.
+    /// frozen sets in slots `l` and `r`, which must have the same length. With `own` slot `l`
+    /// releases its set: `r` must be another slot, and `t` may be `l`. Otherwise `t` must be empty.
     And(Mode, usize, usize, usize),
-    /// `or MODE l r t`: as `and`, with the bits that are true in either of the sets.
+    /// `or MODE l r t`: like `and`, with the bits that are true in at least one of the sets.
     Or(Mode, usize, usize, usize),
-    /// `xor MODE l r t`: as `and`, with the bits that are true in just one of the sets.
+    /// `xor MODE l r t`: like `and`, with the bits that are true in exactly one of the sets.
     Xor(Mode, usize, usize, usize),
-    /// `andnot MODE l r t`: as `and`, with the bits that are true in the left set and false in the
-    /// right one.
+    /// `andnot MODE l r t`: like `and`, with the bits that are true in the left set and false in
+    /// the right one.
     Andnot(Mode, usize, usize, usize),
     /// `not MODE l t`: fills slot `t` with a frozen set of the negated bits of the frozen set in
-    /// slot `l`. By `own` that slot gives its set away, and `t` may be `l`. Otherwise `t` has to be
+    /// slot `l`. With `own` that slot releases its set, and `t` may be `l`. Otherwise `t` must be
     /// empty.
     Not(Mode, usize, usize),
-    /// `take k t m INDEXES`: fills slot `t`, which has to be empty, with a frozen set of the bits
-    /// of the frozen set in slot `k` at these indices, one for each. `m` names the slot of a frozen
-    /// set that is as long as they are many: where that is false the bit is false, and the index
-    /// doesn't count. Each index that counts has to name a place of the set. With no `m` all count.
+    /// `take k t m INDEXES`: fills slot `t`, which must be empty, with a frozen set of the bits of
+    /// the frozen set in slot `k` at these indices, one for each. `m` is `-` or the slot of a
+    /// frozen set with one bit for each index. Where that bit is false, the new bit is false and
+    /// the index is ignored. Every other index must be in range.
     Take(usize, usize, Option<usize>, Vec<i64, A>),
     /// `len k`: the length in bits of the set in slot `k`.
     Len(usize),
     /// `count k`: the number of true bits of the set in slot `k`.
     Count(usize),
-    /// `get k i`: the bit at place `i`, below the length, of the set in slot `k`.
+    /// `get k i`: the bit at index `i`, which must be below the length, of the set in slot `k`.
     Get(usize, usize),
-    /// `countrange k a b`: the number of true bits from `a` up to `b`, `b` excluded, of the set in
-    /// slot `k`. The places have to be a range of the set.
+    /// `countrange k a b`: the number of true bits among bits `a..b` of the set in slot `k`. They
+    /// must be a range of the set.
     Countrange(usize, usize, usize),
-    /// `select k n`: the place of the true bit with `n` true bits before it, if the set in slot `k`
-    /// has so many.
+    /// `select k n`: the index of the true bit with `n` true bits before it in the set in slot `k`,
+    /// if there is one.
     Select(usize, usize),
-    /// `selectunset k n`: the place of the false bit with `n` false bits before it, if the set in
-    /// slot `k` has so many.
+    /// `selectunset k n`: the index of the false bit with `n` false bits before it in the set in
+    /// slot `k`, if there is one.
     Selectunset(usize, usize),
-    /// `last k`: the place of the last true bit of the set in slot `k`, if there is one.
+    /// `last k`: the index of the last true bit of the set in slot `k`, if there is one.
     Last(usize),
     /// `bits k`: the bits of the set in slot `k`.
     Bits(usize),
-    /// `places k`: the places of the true bits of the set in slot `k`, in ascending order.
+    /// `places k`: the indices of the true bits of the set in slot `k`, in ascending order.
     Places(usize),
-    /// `runs k`: the runs of true bits of the set in slot `k`, from front to end.
+    /// `runs k`: the runs of true bits of the set in slot `k`, from the start to the end.
     Runs(usize),
     /// `show k`: the length and the first bits of the frozen set in slot `k`, as its `Display`
-    /// shows them.
+    /// prints them.
     Show(usize),
-    /// `eq k j`: whether the sets in slots `k` and `j`, of whatever kind, have the same bits.
+    /// `eq k j`: whether the sets in slots `k` and `j`, open or frozen, have the same bits.
     Eq(usize, usize),
 }

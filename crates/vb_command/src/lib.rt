@@ -1,8 +1,8 @@
-//! Commands over slots of bit sets: what a line asks for, what a command is answered, and how
-//! answers are printed.
+//! Commands over slots of bit sets: the command of a line, the answer to a command, and the text of
+//! an answer.
 //!
-//! `specs/Machine.antt` says what each command does, `specs/Reading.antt` which lines ask for it,
-//! and `specs/Printed.antt` what answers look like.
+//! `specs/Machine.antt` defines the effect of each command, `specs/Reading.antt` the command of
+//! each line, and `specs/Printed.antt` the text of each answer.
 #![tactic(auto)]
 
 mod answer;

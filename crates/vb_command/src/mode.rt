@@ -1,10 +1,10 @@
-//! How operators treat the slots that they name.
+//! The modes of an operator on the slots that it names.
 
-/// How an operator treats the slot of its left set.
+/// The mode of an operator on the slot of its left set.
 #[derive(Clone, Copy, Debug, PartialEq, Eq)]
 pub enum Mode {
     /// The slot keeps its set.
     Ref,
-    /// The slot gives its set away and is empty afterwards, unless the result goes there.
+    /// The slot releases its set. It is empty afterwards, unless the result goes there.
     Own,
 }

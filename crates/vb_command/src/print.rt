@@ -1,4 +1,4 @@
-//! How answers are printed.
+//! Printing of answers.
 mod answer;
 mod digit;
 mod formatter;

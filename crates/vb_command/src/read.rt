@@ -1,4 +1,4 @@
-//! Lines, and the commands that they ask for.
+//! Lines, and their commands.
 mod arguments;
 mod field;
 mod hex;

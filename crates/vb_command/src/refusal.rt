@@ -1,24 +1,24 @@
-//! Why a command is refused.
+//! The reasons to refuse a command.
 
-/// Why a command is refused. It is printed as `refused` and its name.
+/// The reason why a command is refused. It prints as `refused` and its name.
 ///
-/// Checks come in this order: slots as the line names them, then windows, places and lengths, then
-/// numbers of bits, then memory, then the indices of a `take`.
+/// A command checks first the slots, in the order of its line, then windows, indices and lengths,
+/// then the numbers of bits, then memory, and last the indices of a `take`.
 #[derive(Clone, Copy, Debug, PartialEq, Eq)]
 pub enum Refusal {
-    /// A slot isn't there, or doesn't hold what the command needs.
+    /// A slot does not exist, or does not hold what the command needs.
     BadSlot,
-    /// An imported window begins past the first byte, or doesn't lie within its bytes.
+    /// An imported window does not begin in the first byte, or is not in bounds of its bytes.
     BadWindow,
-    /// A place or a range doesn't lie within the set.
+    /// An index or a range is not within the set.
     OutOfRange,
-    /// Two lists that have to be of one length aren't.
+    /// Two lists that must have the same length do not.
     LengthMismatch,
-    /// An index of a `take` that counts names no place of the set. The position among the indices
-    /// of the first such one, counted from 0, is printed too.
+    /// An index of a `take` that is not ignored is out of range. The number is the position of the
+    /// first such index among the indices, counted from 0; it is printed too.
     TakeOutOfRange(usize),
-    /// The bit offset of a set and its new length pass `usize::MAX` together.
+    /// The bit offset of a set plus its new length exceeds `usize::MAX`.
     TooManyBits,
-    /// A request for memory was refused.
+    /// An allocation failed.
     OutOfMemory,
 }

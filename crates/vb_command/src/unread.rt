@@ -1,15 +1,15 @@
-//! Why a line gives no command.
+//! The reasons why a line has no command.
 ghost use Rattle.std.specs.Prelude.{◌≡◌};
 ghost use Rattle.vb_command.specs.declared.unread.Unread.TheVariants.{Memory};
 
 use std::alloc::{AllocError, AllocFailed};
 
-/// Why a line gives no command.
+/// The reason why a line has no command.
 #[derive(Clone, Copy, Debug, PartialEq, Eq)]
 pub enum Unread {
-    /// A request for the memory of the line's bytes or numbers was refused.
+    /// The allocation of the line's bytes or numbers failed.
     Memory,
-    /// The line can't be read.
+    /// The line cannot be parsed.
     Unreadable,
 }
 

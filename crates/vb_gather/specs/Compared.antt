@@ -4,8 +4,7 @@ use Rattle.vb_bits.specs.Bits.{bits}
 use Rattle.vb_bits.specs.Operators.{combined_by}
 use Rattle.vb_bits.specs.declared.zip.BitOp.TheVariants.{And}
 
--- the results; without the validity's true bit a result is false. If there is no validity, nothing
--- changes
+-- the results. If there is a validity, results at its false bits are false
 abbrev pub where_valid : Option (List Bool) → List Bool → List Bool
 where_valid None answers = answers
 where_valid (Some validity) answers = combined_by And answers validity

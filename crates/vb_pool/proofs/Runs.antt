@@ -1,4 +1,4 @@
--- Runs that go on by one command.
+-- Runs extended by one command.
 use Rattle.std.proofs.Common.{List, [], ◌∷◌, ◌++◌, refl, subst}
 use Rattle.vb_command.specs.Machine.{Slot, Order, Reply, Outcome, Run}
 

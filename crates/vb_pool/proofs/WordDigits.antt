@@ -1,4 +1,4 @@
--- The words of a list of truth values have its values as their digits.
+-- The digits of the words of a list are the values of the list.
 use Rattle.std.proofs.Common.{◌≡◌, ℕ, zero, suc, ◌+◌, ◌-◌, ◌*◌, ◌/◌, ◌%◌, ◌≤◌}
 use Rattle.std.proofs.Common.{Bool, true, false, cond, eqb, List, [], ◌∷◌, ◌++◌}
 use Rattle.std.proofs.Common.{length, take, drop, flat_map, sym, ap, ◌∙◌, arith, append-nil}
@@ -21,12 +21,12 @@ lowest_is false n =
     let even : (0 + 2 * n) % 2 ≡ 0 = omega arith in
     ap (λ x. eqb x 1) (bit_at_lowest (0 + 2 * n) ∙ even)
 
--- the others
+-- the other digits
 others_are : (b : Bool) (n : ℕ) → (cond b 1 0 + 2 * n) / 2 ≡ n
 others_are true n = omega arith
 others_are false n = omega arith
 
--- the digits of a list's number
+-- the digits of the number of a list
 digits-bits_number : (l : List Bool) → digits (bits_number l) 0 (length l) ≡ l
 digits-bits_number [] = digits_none 0 0
 digits-bits_number (b ∷ l) =
@@ -36,7 +36,7 @@ digits-bits_number (b ∷ l) =
     ∙ ap (λ n. b ∷ digits n 0 (length l)) (others_are b (bits_number l))
     ∙ ap (λ d. b ∷ d) (digits-bits_number l)
 
--- the first digits of 64
+-- the first of the 64 digits
 take-digits : (w k : ℕ) → k ≤ 64 → take k (digits w 0 64) ≡ digits w 0 k
 take-digits w k few =
     let size : 64 ≡ k + (64 - k) = omega arith in
@@ -45,13 +45,13 @@ take-digits w k few =
     ∙ take-append-le k (digits w 0 k) _ (omega (arith, len))
     ∙ take_all k (digits w 0 k) (omega (arith, len))
 
--- the digits of a word, as many as there are values of it
+-- the digits of a word, one for each value in it
 digits-word : (l : List Bool) (k n : ℕ) → length (take 64 (drop (64 * k) l)) ≡ n
     → digits (word l k) 0 n ≡ take 64 (drop (64 * k) l)
 digits-word l k n e =
     ap (digits (word l k) 0) (sym e) ∙ digits-bits_number (take 64 (drop (64 * k) l))
 
--- those of full words
+-- the digits of full words
 digits-words : (l : List Bool) (n : ℕ) → 64 * n ≤ length l
     → flat_map (λ w. digits w 0 64) (words l n) ≡ take (64 * n) l
 digits-words l zero h = ap (flat_map (λ w. digits w 0 64)) (words_none l)
@@ -70,7 +70,7 @@ digits-words l (suc n) h =
     ∙ sym (take-add (64 * n) 64 l)
     ∙ ap (λ m. take m l) at
 
--- the values behind the full words
+-- the values after the full words
 digits-rest : (l : List Bool) → take (length l % 64) (digits (word l (length l / 64)) 0 64)
     ≡ drop (64 * (length l / 64)) l
 digits-rest l =
@@ -82,7 +82,7 @@ digits-rest l =
     take-digits (word l k) (length l % 64) (omega arith)
     ∙ digits-word l k (length l % 64) (ap length all ∙ left) ∙ all
 
--- the digits of the full words, and of the word behind them
+-- the digits of the full words, and of the word after them
 pub digits-chunks : (l : List Bool)
     → flat_map (λ w. digits w 0 64) (words l (length l / 64))
     ++ take (length l % 64) (digits (word l (length l / 64)) 0 64) ≡ l

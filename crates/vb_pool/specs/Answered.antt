@@ -1,4 +1,4 @@
--- What a command's method gives.
+-- The result of a command's method.
 use Rattle.std.specs.Prelude.{◌≡◌, Option, Some, None, Result, Ok, Err}
 use Rattle.vb_command.specs.Machine.{Order, Len, Count, Select, Selectunset}
 use Rattle.vb_command.specs.Machine.{Last, Bits, Places, Runs, Show, Eq, Reply, Refused}
@@ -15,7 +15,8 @@ abbrev pub reply_of : {A : Type 0} → Result (Answer A) Refusal → Reply
 reply_of (Ok answer) = reply answer
 reply_of (Err why) = Refused why
 
--- an order that asks for all bits of a set, as a list, a text or beside those of another
+-- an order that reads all bits of a set: it returns them as a list or a text, or compares them with
+-- another set
 abbrev pub AsksWhole : Order → Type 0
 AsksWhole (Bits k) = Unit {0}
 AsksWhole (Places k) = Unit {0}
@@ -24,7 +25,7 @@ AsksWhole (Show k) = Unit {0}
 AsksWhole (Eq k j) = Unit {0}
 AsksWhole order = ⊥
 
--- an order that asks for a number or a place, or for all bits of a set
+-- an order that returns a number or an index, or reads all bits of a set
 abbrev pub IsQuestion : Order → Type 0
 IsQuestion (Len k) = Unit {0}
 IsQuestion (Count k) = Unit {0}
@@ -33,13 +34,13 @@ IsQuestion (Selectunset k n) = Unit {0}
 IsQuestion (Last k) = Unit {0}
 IsQuestion order = AsksWhole order
 
--- what a slot holds is given, seen in this way; where it holds nothing of the kind, the slot is
--- refused
+-- the result is the content of a slot, under a view; `BadSlot` if the slot does not hold what is
+-- needed
 abbrev pub GivesHeld : {X Y : Type 0} → (X → Y) → Option Y → Result X Refusal → Type 0
 GivesHeld view held (Ok x) = held ≡ Some (view x)
 GivesHeld view held (Err why) = (why ≡ BadSlot) × (held ≡ None)
 
--- an error by which sets that are made or changed refuse
+-- an error of a call that makes or changes a set
 abbrev pub IsOfSet : BufferError → Type 0
 IsOfSet OutOfMemory = Unit {0}
 IsOfSet (TakeOutOfRange position) = Unit {0}

@@ -1,9 +1,9 @@
--- A slot of the pool as one of the machine.
+-- A slot of the pool as a slot of the machine.
 use Rattle.vb_command.specs.Machine as machine
 use Rattle.vb_pool.specs.declared.slot.Slot.{Slot}
 use Rattle.vb_pool.specs.declared.slot.Slot.TheVariants.{Empty, Open, Frozen}
 
--- what a slot holds, where its set is the list of its bits
+-- the content of a slot, with the list of its bits for its set
 abbrev pub content : {A : Type 0} → Slot A → machine.Slot
 content Empty = machine.Empty
 content (Open set) = machine.Open set

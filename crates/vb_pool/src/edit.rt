@@ -12,7 +12,7 @@ use vb_command::{Answer, Refusal};
 
 #[tactic(auto, using(crate::proofs::Slots::slots))]
 impl<A: Allocator + Clone> Pool<A> {
-    /// Makes bit `i` `v`.
+    /// Sets bit `i` to `v`.
     pub(crate) fn set(&mut self, k: usize, i: usize, v: bool) -> Result<Answer<A>, Refusal>
         ensures { Step self.old (machine.Set k i v) (reply_of result) self.new }
     {
@@ -24,7 +24,7 @@ impl<A: Allocator + Clone> Pool<A> {
         Ok(Answer::Done)
     }
 
-    /// Adds a bit `v`.
+    /// Appends a bit `v`.
     pub(crate) fn append(&mut self, k: usize, v: bool) -> Result<Answer<A>, Refusal>
         ensures { Outcome self.old (machine.Append k v) (reply_of result) self.new }
     {
@@ -33,7 +33,7 @@ impl<A: Allocator + Clone> Pool<A> {
         Ok(Answer::Done)
     }
 
-    /// Adds `n` bits `v`.
+    /// Appends `n` bits `v`.
     pub(crate) fn append_n(&mut self, k: usize, v: bool, n: usize) -> Result<Answer<A>, Refusal>
         ensures { Outcome self.old (machine.Appendn k v n) (reply_of result) self.new }
     {
@@ -42,14 +42,14 @@ impl<A: Allocator + Clone> Pool<A> {
         Ok(Answer::Done)
     }
 
-    /// Adds the bits of the frozen set in slot `j`.
+    /// Appends the bits of the frozen set in slot `j`.
     #[tactic(auto, using(crate::proofs::Slots::taken))]
     pub(crate) fn append_set(&mut self, k: usize, j: usize) -> Result<Answer<A>, Refusal>
         ensures { Outcome self.old (machine.Appendset k j) (reply_of result) self.new }
     {
         self.frozen_at(j)?;
         let mut set = self.take_open(k)?;
-        // Slot j holds its set still, since slot k held an open one.
+        // Slot `j` still holds its set, since slot `k` held an open one.
         let Ok(more) = self.frozen_at(j) else {
             drop(set);
             return Err(Refusal::BadSlot);
@@ -60,7 +60,7 @@ impl<A: Allocator + Clone> Pool<A> {
         Ok(Answer::Done)
     }
 
-    /// Makes the bits from `a` up to `b`, `b` excluded, `v`.
+    /// Sets bits `a..b` to `v`.
     pub(crate) fn fill(
         &mut self,
         k: usize,
@@ -78,7 +78,7 @@ impl<A: Allocator + Clone> Pool<A> {
         Ok(Answer::Done)
     }
 
-    /// Keeps the first `n` bits, or all where there are at most `n`.
+    /// Removes all bits after the first `n`; removes none if there are at most `n`.
     pub(crate) fn truncate(&mut self, k: usize, n: usize) -> Result<Answer<A>, Refusal>
         ensures { Step self.old (machine.Truncate k n) (reply_of result) self.new }
     {
@@ -86,7 +86,7 @@ impl<A: Allocator + Clone> Pool<A> {
         Ok(Answer::Done)
     }
 
-    /// Takes all bits from the set.
+    /// Removes all bits.
     pub(crate) fn clear(&mut self, k: usize) -> Result<Answer<A>, Refusal>
         ensures { Step self.old (machine.Clear k) (reply_of result) self.new }
     {

@@ -1,5 +1,5 @@
-//! Changes from one kind of set to the other. The slot gives its set away: where memory is refused
-//! it is empty afterwards.
+//! Conversions between open and frozen sets. The slot releases its set: if memory runs out, it is
+//! empty afterwards.
 ghost use Rattle.vb_command.specs.Machine.{Outcome};
 ghost use Rattle.vb_command.specs.Machine as machine;
 ghost use Rattle.vb_pool.specs.Answered.{reply_of};
@@ -13,7 +13,7 @@ use vb_command::{Answer, Refusal};
 
 #[tactic(auto, using(crate::proofs::Slots::slots))]
 impl<A: Allocator + Clone> Pool<A> {
-    /// Makes the open set a frozen one, with no copy.
+    /// Converts the open set to a frozen one, without a copy.
     pub(crate) fn freeze(&mut self, k: usize) -> Result<Answer<A>, Refusal>
         ensures { Outcome self.old (machine.Freeze k) (reply_of result) self.new }
     {
@@ -21,7 +21,7 @@ impl<A: Allocator + Clone> Pool<A> {
         Ok(self.put(k, Slot::Frozen(set)))
     }
 
-    /// Makes the frozen set an open one: with no copy, where no other slot has its storage.
+    /// Converts the frozen set to an open one, without a copy if no other slot shares its storage.
     pub(crate) fn thaw(&mut self, alloc: &A, k: usize) -> Result<Answer<A>, Refusal>
         ensures { Outcome self.old (machine.Thaw k) (reply_of result) self.new }
     {

@@ -1,4 +1,4 @@
-//! Sets of bytes that a command brings.
+//! Sets made from the bytes of a command.
 ghost use Rattle.std.specs.Prelude.{◌≡◌, true, IfErr, OnOk};
 ghost use Rattle.vb_command.specs.Machine.{Outcome, Step, Refused, fits, vacant_at};
 ghost use Rattle.vb_command.specs.Machine as machine;
@@ -13,7 +13,7 @@ use vb_command::{Answer, Refusal};
 use vb_set::window_fits;
 
 impl<A: Allocator + Clone> Pool<A> {
-    /// Opens the window in a copy of the bytes in slot `k`, which has to be empty.
+    /// Fills slot `k`, which must be empty, with an open set over a copy of the bytes.
     pub(crate) fn import(
         &mut self,
         alloc: &A,
@@ -30,7 +30,7 @@ impl<A: Allocator + Clone> Pool<A> {
         Ok(self.put(k, Slot::Open(set)))
     }
 
-    /// Opens the window in these very bytes in slot `k`, which has to be empty.
+    /// Fills slot `k`, which must be empty, with an open set over these bytes, without a copy.
     pub(crate) fn import_owned(
         &mut self,
         alloc: &A,
@@ -50,7 +50,8 @@ impl<A: Allocator + Clone> Pool<A> {
         Ok(self.put(k, Slot::Open(set)))
     }
 
-    /// Whether the window of these bytes can be opened in slot `k`, but for memory.
+    /// Returns whether slot `k` can hold this window of the bytes, apart from memory: `Ok`, or the
+    /// refusal.
     fn can_import(&self, k: usize, offset: usize, len: usize, bytes: &[u8]) -> Result<(), Refusal>
         ensures vacant { OnOk result (vacant_at self.now k ≡ true) }
         ensures fits { OnOk result (fits offset len bytes.now ≡ true) }

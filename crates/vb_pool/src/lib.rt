@@ -1,8 +1,8 @@
 //! A pool of sixteen slots for sets of bits, and the commands on it.
 //!
-//! [`run`] carries out a list of [`Command`]s; [`Pool::serve`] one. The answers are those of plain
-//! lists of truth values, one for each slot: the contracts speak of a [`Pool`] as the list of what
-//! its slots hold, and of nothing behind it.
+//! [`run`] runs a list of [`Command`]s, and [`Pool::serve`] runs one. The answers are the same as
+//! with a plain list of truth values in each slot: contracts see a [`Pool`] as the list of the
+//! contents of its slots, and no storage.
 #![tactic(auto)]
 
 mod edit;

@@ -1,4 +1,4 @@
-//! What a set holds, as lists and as a text in memory of an allocator.
+//! The bits of a set as lists and as a text, in new memory.
 ghost use Rattle.std.specs.Prelude.{◌≡◌, string_bytes};
 ghost use Rattle.vb_bits.specs.Shown.{bits_text};
 ghost use Rattle.vb_set.specs.Makes.{Makes};
@@ -11,8 +11,8 @@ use std::alloc::Allocator;
 use vb_bits::digit;
 use vb_set::{BitBuffer, BitBufferView, Result};
 
-/// The bits from place 0 on, by one request, a word of them at a time. Refused by `OutOfMemory`
-/// alone.
+/// Returns the bits from index 0 on, a word at a time. Allocates once. Returns `OutOfMemory` if
+/// memory runs out.
 pub(crate) fn list_bits<A: Allocator + Clone>(
     alloc: &A,
     view: BitBufferView<'_>,
@@ -29,7 +29,7 @@ pub(crate) fn list_bits<A: Allocator + Clone>(
     Ok(list)
 }
 
-/// The digits of a word.
+/// Returns the digits of a word.
 fn list_digits(word: u64) -> [bool; 64]
     ensures { result ≡ digits word 0 64 }
 {
@@ -40,7 +40,8 @@ fn list_digits(word: u64) -> [bool; 64]
     list
 }
 
-/// The places of the true bits, in ascending order, by one request. Refused by `OutOfMemory` alone.
+/// Returns the indices of the true bits, in ascending order. Allocates once. Returns `OutOfMemory`
+/// if memory runs out.
 pub(crate) fn list_places<A: Allocator + Clone>(
     alloc: &A,
     view: BitBufferView<'_>,
@@ -54,8 +55,8 @@ pub(crate) fn list_places<A: Allocator + Clone>(
     Ok(places)
 }
 
-/// The runs of true bits, from front to end, in memory that grows with them. Refused by
-/// `OutOfMemory` alone.
+/// Returns the runs of true bits, from the start to the end. Allocates as the list grows. Returns
+/// `OutOfMemory` if memory runs out.
 pub(crate) fn list_runs<A: Allocator + Clone>(
     alloc: &A,
     view: BitBufferView<'_>,
@@ -69,7 +70,7 @@ pub(crate) fn list_runs<A: Allocator + Clone>(
     Ok(runs)
 }
 
-/// The text that shows a set. Refused by `OutOfMemory` alone.
+/// Returns the text of a set's `Display`. Returns `OutOfMemory` if memory runs out.
 pub(crate) fn text<A: Allocator + Clone>(alloc: &A, set: &BitBuffer<A>) -> Result<String<A>>
     ensures { Makes (λ text. string_bytes text ≡ bits_text set.now.bits) result }
 {

@@ -1,4 +1,4 @@
-//! Slots that are filled and emptied.
+//! Commands that fill and empty slots.
 ghost use Rattle.std.specs.Prelude.{◌≡◌};
 ghost use Rattle.vb_command.specs.Machine.{Step, Outcome, all_below};
 ghost use Rattle.vb_command.specs.Machine as machine;
@@ -14,7 +14,7 @@ use vb_command::{Answer, Refusal};
 
 #[tactic(auto, using(crate::proofs::Slots::slots))]
 impl<A: Allocator + Clone> Pool<A> {
-    /// Opens a set of `n` bits `v` in slot `k`, which has to be empty.
+    /// Fills slot `k`, which must be empty, with an open set of `n` bits `v`.
     pub(crate) fn full(
         &mut self,
         alloc: &A,
@@ -29,8 +29,8 @@ impl<A: Allocator + Clone> Pool<A> {
         Ok(self.put(k, Slot::Open(set)))
     }
 
-    /// Opens a set of `n` bits in slot `k`, which has to be empty, true exactly at these places,
-    /// which have to be below `n`.
+    /// Fills slot `k`, which must be empty, with an open set of `n` bits that is true exactly at
+    /// these indices, which must be below `n`.
     pub(crate) fn indices(
         &mut self,
         alloc: &A,
@@ -48,8 +48,8 @@ impl<A: Allocator + Clone> Pool<A> {
         Ok(self.put(k, Slot::Open(set)))
     }
 
-    /// Puts the set of slot `k`, of its kind, in slot `t` too, which has to be empty. The bits of
-    /// an open set are copied; a frozen set shares its storage.
+    /// Fills slot `t`, which must be empty, with a copy of the set in slot `k`, open or frozen as
+    /// that set is. Copies the bits of an open set; a frozen set shares its storage.
     pub(crate) fn clone(&mut self, k: usize, t: usize) -> Result<Answer<A>, Refusal>
         ensures { Outcome self.old (machine.Clone k t) (reply_of result) self.new }
     {
@@ -59,8 +59,8 @@ impl<A: Allocator + Clone> Pool<A> {
         Ok(self.put(t, copy))
     }
 
-    /// Puts the bits from `a` up to `b`, `b` excluded, of the frozen set in slot `k` in slot `t`,
-    /// which has to be empty. They share the storage.
+    /// Fills slot `t`, which must be empty, with bits `a..b` of the frozen set in slot `k`. They
+    /// share the storage.
     pub(crate) fn slice(
         &mut self,
         k: usize,
@@ -79,8 +79,8 @@ impl<A: Allocator + Clone> Pool<A> {
         Ok(self.put(t, Slot::Frozen(part)))
     }
 
-    /// Puts the bits of the frozen set in slot `k` in slot `t` too, which has to be empty, with the
-    /// bytes in which they lie and no others.
+    /// Fills slot `t`, which must be empty, with the bits of the frozen set in slot `k`, in as few
+    /// bytes as hold them.
     pub(crate) fn sliced(&mut self, k: usize, t: usize) -> Result<Answer<A>, Refusal>
         ensures { Outcome self.old (machine.Sliced k t) (reply_of result) self.new }
     {
@@ -90,7 +90,7 @@ impl<A: Allocator + Clone> Pool<A> {
         Ok(self.put(t, Slot::Frozen(same)))
     }
 
-    /// Empties the slot, which has to hold a set.
+    /// Empties slot `k`, which must hold a set.
     pub(crate) fn drop(&mut self, k: usize) -> Result<Answer<A>, Refusal>
         ensures { Step self.old (machine.Drop k) (reply_of result) self.new }
     {
@@ -99,7 +99,7 @@ impl<A: Allocator + Clone> Pool<A> {
     }
 }
 
-/// Whether each of these numbers is below `n`.
+/// Returns whether each of the numbers is below `n`.
 fn all_below(n: usize, numbers: &[usize]) -> bool
     ensures { result ≡ all_below n numbers.now }
 {

@@ -1,4 +1,4 @@
-//! The sets that commands edit.
+//! Sets that commands edit.
 ghost use Rattle.std.specs.Prelude.{◌≡◌, ◌+◌, ◌*◌, ◌^◌, ◌<◌, ◌≤◌, [], ◌∷◌, ◌++◌, length, take};
 ghost use Rattle.std.specs.Prelude.{replicate, slice_set, false, IsTrue, OnOk, OnErr};
 ghost use Rattle.vb_bits.specs.Bits.{bits, complement};
@@ -15,8 +15,8 @@ use vb_set::{BitBuffer, BitBufferMut, BufferError, ByteBuffer, ByteBufferMut, Re
 
 /// A set that commands edit. Contracts see the list of its bits.
 ///
-/// Its first bit lies in the first byte. So a length is refused for its bit numbers only where it
-/// passes `usize::MAX - 7`.
+/// Its first bit is in the first byte. So a length fails because of its bit indices only if it
+/// exceeds `usize::MAX - 7`.
 #[derive(Drop)]
 pub struct OpenBits<A: Allocator + Clone> {
     set: BitBufferMut<A>,
@@ -33,7 +33,7 @@ impl<A: Allocator + Clone> Model for OpenBits<A> {
 }
 
 impl<A: Allocator + Clone> OpenBits<A> {
-    /// The set as it is.
+    /// Wraps a set.
     fn new(set: BitBufferMut<A>) -> Self
         requires { set.offset < 8 }
         ensures { result ≡ set.bits }
@@ -41,8 +41,8 @@ impl<A: Allocator + Clone> OpenBits<A> {
         OpenBits { set }
     }
 
-    /// The window of `len` bits from bit `offset` on in a copy of the bytes. Refused by
-    /// `OutOfMemory` alone.
+    /// Returns the window of `len` bits from bit `offset` on of a copy of the bytes. Returns
+    /// `OutOfMemory` if memory runs out.
     pub fn copy_window(alloc: &A, bytes: &[u8], offset: usize, len: usize) -> Result<Self>
         requires first_byte { offset < 8 }
         requires window { InBytes bytes.now offset len }
@@ -52,8 +52,8 @@ impl<A: Allocator + Clone> OpenBits<A> {
         Ok(OpenBits::new(BitBufferMut::from_buffer(buffer, offset, len)))
     }
 
-    /// The window of `len` bits from bit `offset` on in these very bytes, whose storage becomes
-    /// that of the set. Refused by `OutOfMemory` alone; then the bytes are gone.
+    /// Returns the window of `len` bits from bit `offset` on of these bytes, in their storage.
+    /// Returns `OutOfMemory` if memory runs out, and drops the bytes then.
     pub fn window(alloc: &A, bytes: Vec<u8, A>, offset: usize, len: usize) -> Result<Self>
         requires first_byte { offset < 8 }
         requires window { InBytes bytes.items offset len }
@@ -67,14 +67,15 @@ impl<A: Allocator + Clone> OpenBits<A> {
         Ok(OpenBits::new(BitBufferMut::from_buffer(buffer, offset, len)))
     }
 
-    /// `n` bits, all `v`. Refused by `OutOfMemory` alone.
+    /// Returns `n` bits, all `v`. Returns `OutOfMemory` if memory runs out.
     pub fn full(alloc: &A, v: bool, n: usize) -> Result<Self>
         ensures { Makes (λ s. s ≡ replicate n v) result }
     {
         BitBufferMut::full(alloc.clone()?, v, n).map(OpenBits::new)
     }
 
-    /// `n` bits, true exactly at these places. Refused by `OutOfMemory` alone.
+    /// Returns `n` bits, true exactly at these indices. The caller must prove that they are below
+    /// `n`. Returns `OutOfMemory` if memory runs out.
     pub fn from_indices(alloc: &A, n: usize, places: &[usize]) -> Result<Self>
         requires { IsTrue (all_below n places.now) }
         ensures { Makes (λ s. s ≡ with_true (replicate n false) places.now) result }
@@ -82,8 +83,8 @@ impl<A: Allocator + Clone> OpenBits<A> {
         Ok(OpenBits::new(BitBufferMut::from_indices(alloc.clone()?, n, places.iter().copied())?))
     }
 
-    /// The bits of a shared set: in its storage, where it has no other owner, else in a copy.
-    /// Refused by `OutOfMemory` alone; then the shared set is gone.
+    /// Returns the bits of a shared set, in its storage if it is the only owner, otherwise in a
+    /// copy. Returns `OutOfMemory` if memory runs out, and drops the shared set then.
     pub fn thaw(alloc: &A, set: BitBuffer<A>) -> Result<Self>
         ensures { Makes (λ s. s ≡ set.bits) result }
     {
@@ -98,7 +99,7 @@ impl<A: Allocator + Clone> OpenBits<A> {
         }
     }
 
-    /// The bits of a shared set, in a copy. Refused by `OutOfMemory` alone.
+    /// Returns a copy of the bits of a shared set. Returns `OutOfMemory` if memory runs out.
     fn copy_from(alloc: &A, set: &BitBuffer<A>) -> Result<Self>
         ensures { Makes (λ s. s ≡ set.now.bits) result }
     {
@@ -106,36 +107,36 @@ impl<A: Allocator + Clone> OpenBits<A> {
         BitBufferMut::copy_from(alloc.clone()?, set).map(OpenBits::new)
     }
 
-    /// The bits as a set to be shared, with no copy. Refused by `OutOfMemory` alone; then the open
-    /// set is gone.
+    /// Converts the set to one that can be shared, without a copy. Returns `OutOfMemory` if memory
+    /// runs out, and drops the open set then.
     pub fn freeze(self) -> Result<BitBuffer<A>>
         ensures { Makes (λ s. s.bits ≡ self) result }
     {
         self.set.freeze()
     }
 
-    /// A copy. Refused by `OutOfMemory` alone.
+    /// Returns a copy. Returns `OutOfMemory` if memory runs out.
     pub fn clone(&self) -> Result<Self>
         ensures { Makes (λ s. s ≡ self.now) result }
     {
         self.set.clone().map(OpenBits::new)
     }
 
-    /// The set, to read.
+    /// Returns the set for reading.
     pub fn as_set(&self) -> &BitBufferMut<A>
         ensures { result.now.bits ≡ self.now }
     {
         &self.set
     }
 
-    /// How many bits there are.
+    /// Returns the number of bits.
     pub fn len(&self) -> usize
         ensures { result ≡ length self.now }
     {
         self.set.len()
     }
 
-    /// Makes bit `i` `v`.
+    /// Sets bit `i`, which must be below the length, to `v`.
     pub fn set_to(&mut self, i: usize, v: bool)
         requires { i < length self.old }
         ensures { self.new ≡ slice_set self.old i v }
@@ -143,7 +144,7 @@ impl<A: Allocator + Clone> OpenBits<A> {
         self.set.set_to(i, v);
     }
 
-    /// Makes the bits from `start` up to `end`, `end` excluded, `v`.
+    /// Sets bits `start..end`, which must be a range of the set, to `v`.
     pub fn fill_range(&mut self, start: usize, end: usize, v: bool)
         requires order { start ≤ end }
         requires within { end ≤ length self.old }
@@ -152,7 +153,7 @@ impl<A: Allocator + Clone> OpenBits<A> {
         self.set.fill_range(start, end, v);
     }
 
-    /// Adds a bit `v`. Refused by `OutOfMemory` or `TooManyBits`; then the set is unchanged.
+    /// Appends a bit `v`. Returns `OutOfMemory` or `TooManyBits`; the set is unchanged on error.
     pub fn append(&mut self, v: bool) -> Result<()>
         ensures ok { OnOk result (self.new ≡ self.old ++ v ∷ []) }
         ensures err { OnErr result (self.new ≡ self.old) }
@@ -161,7 +162,7 @@ impl<A: Allocator + Clone> OpenBits<A> {
         self.set.append(v)
     }
 
-    /// Adds `n` bits `v`. Refused by `OutOfMemory` or `TooManyBits`; then the set is unchanged.
+    /// Appends `n` bits `v`. Returns `OutOfMemory` or `TooManyBits`; the set is unchanged on error.
     pub fn append_n(&mut self, v: bool, n: usize) -> Result<()>
         ensures ok { OnOk result (self.new ≡ self.old ++ replicate n v) }
         ensures err { OnErr result (self.new ≡ self.old) }
@@ -170,8 +171,8 @@ impl<A: Allocator + Clone> OpenBits<A> {
         self.set.append_n(v, n)
     }
 
-    /// Adds the bits of a shared set. Refused by `OutOfMemory` or `TooManyBits`; then the set is
-    /// unchanged.
+    /// Appends the bits of a shared set. Returns `OutOfMemory` or `TooManyBits`; the set is
+    /// unchanged on error.
     pub fn append_set(&mut self, set: &BitBuffer<A>) -> Result<()>
         ensures ok { OnOk result (self.new ≡ self.old ++ set.now.bits) }
         ensures err { OnErr result (self.new ≡ self.old) }
@@ -180,21 +181,21 @@ impl<A: Allocator + Clone> OpenBits<A> {
         self.set.append_buffer(set)
     }
 
-    /// Keeps the first `n` bits, or all where there are at most `n`.
+    /// Removes all bits after the first `n`; removes none if there are at most `n`.
     pub fn truncate(&mut self, n: usize)
         ensures { self.new ≡ take n self.old }
     {
         self.set.truncate(n);
     }
 
-    /// Leaves no bits.
+    /// Removes all bits.
     pub fn clear(&mut self)
         ensures { self.new ≡ [] }
     {
         self.set.clear();
     }
 
-    /// Each bit negated, in place.
+    /// Negates each bit, in place.
     pub fn negated(self) -> Self
         ensures { result ≡ complement self }
     {

@@ -1,5 +1,5 @@
-//! Frozen sets that are combined or negated. By `own` the left slot gives its set away: where
-//! memory is refused it is empty afterwards.
+//! Frozen sets combined or negated. With `own` the left slot releases its set: if memory runs out,
+//! it is empty afterwards.
 ghost use Rattle.std.specs.Prelude.{◌≡◌, true, false, IsSome, IfErr, OnOk};
 ghost use Rattle.vb_set.specs.Gives.{GivesCombined};
 ghost use Rattle.vb_command.specs.Machine.{Outcome, frozen_at, after_release, vacant_at};
@@ -15,9 +15,9 @@ use vb_set::{BitBuffer, BitOp, Result};
 
 #[tactic(auto, using(crate::proofs::Slots::slots))]
 impl<A: Allocator + Clone> Pool<A> {
-    /// Puts the bits of the frozen sets in slots `l` and `r`, which have to be of one length,
-    /// combined in slot `t`: by reference in bytes of their own, by `own` in the left set's storage
-    /// where no other slot has it.
+    /// Combines the bits of the frozen sets in slots `l` and `r`, which must have the same length,
+    /// and fills slot `t` with the result. With `ref` the result has new storage. With `own` it has
+    /// the left set's storage if no other slot shares it.
     pub(crate) fn combine(
         &mut self,
         op: BitOp,
@@ -48,8 +48,9 @@ impl<A: Allocator + Clone> Pool<A> {
         Ok(self.put(t, Slot::Frozen(set.map_err(refusal_of)?)))
     }
 
-    /// Puts the negated bits of the frozen set in slot `l` in slot `t`: by reference in bytes of
-    /// their own, by `own` in the set's storage where no other slot has it.
+    /// Negates the bits of the frozen set in slot `l`, and fills slot `t` with the result. With
+    /// `ref` the result has new storage. With `own` it has the set's storage if no other slot
+    /// shares it.
     pub(crate) fn not(&mut self, mode: Mode, l: usize, t: usize) -> Result<Answer<A>, Refusal>
         ensures { Outcome self.old (machine.Not mode l t) (reply_of result) self.new }
     {
@@ -62,8 +63,8 @@ impl<A: Allocator + Clone> Pool<A> {
         Ok(self.put(t, Slot::Frozen(set.map_err(refusal_of)?)))
     }
 
-    /// The frozen set in slot `r`, which by `own` isn't slot `l`, since that gives its set away.
-    /// Refused by `BadSlot`, where the slot isn't there or holds none.
+    /// Returns the frozen set in slot `r`. Returns `BadSlot` if the slot does not exist or holds
+    /// none, and with `own` also if it is slot `l`, which releases its set.
     #[tactic(auto, using(crate::proofs::Slots::given))]
     fn frozen_beside(&self, mode: Mode, l: usize, r: usize) -> Result<&BitBuffer<A>, Refusal>
         ensures { GivesHeld (λ set. set.now.bits)
@@ -75,8 +76,8 @@ impl<A: Allocator + Clone> Pool<A> {
         }
     }
 
-    /// Refused by `BadSlot`, where slot `t` isn't there or isn't empty; by `own` it may be slot
-    /// `l`, whose set is given away.
+    /// Returns `BadSlot` if slot `t` does not exist or is not empty. With `own` it may be slot `l`,
+    /// which releases its set.
     #[tactic(auto, using(crate::proofs::Slots::given))]
     fn need_vacant_beside(&self, mode: Mode, l: usize, t: usize) -> Result<(), Refusal>
         requires { IsSome (frozen_at self.now l) }
@@ -91,7 +92,8 @@ impl<A: Allocator + Clone> Pool<A> {
     }
 }
 
-/// Two sets combined, in bytes of their own. Refused by `OutOfMemory` alone.
+/// Returns two sets combined, in new storage. Returns `OutOfMemory` if memory runs out, and
+/// `LengthMismatch` if the lengths differ.
 fn combine_sets<A: Allocator + Clone>(
     left: &BitBuffer<A>,
     right: &BitBuffer<A>,
@@ -107,8 +109,9 @@ fn combine_sets<A: Allocator + Clone>(
     }
 }
 
-/// Two sets combined, in the left one's storage where no other owner has it. Refused by
-/// `OutOfMemory` alone; then the left set is gone.
+/// Returns two sets combined, in the left set's storage if it is the only owner. Returns
+/// `OutOfMemory` if memory runs out, and `LengthMismatch` if the lengths differ; the left set is
+/// dropped then.
 fn combine_into_left<A: Allocator + Clone>(
     left: BitBuffer<A>,
     right: &BitBuffer<A>,

@@ -1,4 +1,4 @@
-//! The slots, and what the commands do to them.
+//! The slots, and the access of commands to them.
 ghost use Rattle.std.specs.Prelude.{◌≡◌, true, false, length, slice_get, slice_set, MatchResult};
 ghost use Rattle.std.specs.Prelude.{IfErr, OnOk};
 ghost use Rattle.std.specs.Borrow.{LendsIf, sem};
@@ -21,10 +21,10 @@ use std::marker::Model;
 use vb_command::{Answer, Refusal};
 use vb_set::{BitBuffer, BitBufferView};
 
-/// Sixteen slots for sets of bits, numbered from 0. Contracts see the list of what they hold.
+/// Sixteen slots for sets of bits, numbered from 0. Contracts see the list of their contents.
 ///
-/// A set keeps the allocator that it was made with: a copy of the one that [`Pool::serve`] is
-/// given, that of the bytes that an `import` gave away, or that of the set that it is a copy of.
+/// A set keeps the allocator that it was made with: a clone of the one passed to [`Pool::serve`],
+/// the one of the bytes of an `import` passed by value, or the one of the set that it is a copy of.
 #[derive(Drop)]
 pub struct Pool<A: Allocator + Clone = Global> {
     slots: Sixteen<Slot<A>>,
@@ -41,7 +41,7 @@ impl<A: Allocator + Clone> Model for Pool<A> {
 }
 
 impl<A: Allocator + Clone> Pool<A> {
-    /// All slots are empty. This takes no memory.
+    /// Returns a pool of empty slots. Does not allocate.
     #[tactic(auto, unfolding(vb_command::specs::Machine::empty_slots))]
     pub fn new() -> Self
         ensures { result ≡ empty_slots }
@@ -51,7 +51,7 @@ impl<A: Allocator + Clone> Pool<A> {
         }
     }
 
-    /// How many slots there are.
+    /// Returns the number of slots.
     pub(crate) fn slot_count(&self) -> usize
         ensures number { result ≡ 16 }
         ensures list { length self.now ≡ 16 }
@@ -59,8 +59,8 @@ impl<A: Allocator + Clone> Pool<A> {
         self.slots.len()
     }
 
-    /// The bits of the set in slot `k`, of either kind. Refused by `BadSlot`, where the slot isn't
-    /// there or holds none.
+    /// Returns the bits of the set in slot `k`, open or frozen. Returns `BadSlot` if the slot does
+    /// not exist or holds none.
     pub(crate) fn set_at(&self, k: usize) -> Result<BitBufferView<'_>, Refusal>
         ensures { GivesHeld bits_of (list_at self.now k) result }
     {
@@ -71,7 +71,7 @@ impl<A: Allocator + Clone> Pool<A> {
         }
     }
 
-    /// The open set in slot `k`, for edits, if the slot is there and holds one.
+    /// Lends the open set in slot `k` for edits, if the slot exists and holds one.
     pub(crate) fn open_mut(&mut self, k: usize) -> Option<&mut OpenBits<A>>
         ensures* writes_back { sem 𝓛 (LendsIf
             (the_row A.row A.Allocator A.Clone) (open_row A.row A.Allocator A.Clone)
@@ -81,7 +81,8 @@ impl<A: Allocator + Clone> Pool<A> {
         self.slots.get_mut(k)?.open_mut()
     }
 
-    /// The frozen set in slot `k`. Refused by `BadSlot`, where the slot isn't there or holds none.
+    /// Returns the frozen set in slot `k`. Returns `BadSlot` if the slot does not exist or holds
+    /// none.
     pub(crate) fn frozen_at(&self, k: usize) -> Result<&BitBuffer<A>, Refusal>
         ensures { GivesHeld (λ set. set.now.bits) (frozen_at self.now k) result }
     {
@@ -91,7 +92,7 @@ impl<A: Allocator + Clone> Pool<A> {
         }
     }
 
-    /// Slot `k`. Refused by `BadSlot`, where it isn't there or is empty.
+    /// Returns slot `k`. Returns `BadSlot` if it does not exist or is empty.
     pub(crate) fn kept_at(&self, k: usize) -> Result<&Slot<A>, Refusal>
         ensures { GivesHeld (λ slot. content slot.now) (kept_at self.now k) result }
     {
@@ -101,8 +102,8 @@ impl<A: Allocator + Clone> Pool<A> {
         }
     }
 
-    /// Takes the open set out of slot `k`, which is empty then. Refused by `BadSlot`, where the
-    /// slot isn't there or holds none; then nothing changes.
+    /// Takes the open set out of slot `k` and leaves the slot empty. Returns `BadSlot` if the slot
+    /// does not exist or holds none; nothing changes then.
     #[tactic(auto, using(crate::proofs::Slots::slots))]
     pub(crate) fn take_open(&mut self, k: usize) -> Result<OpenBits<A>, Refusal>
         ensures taken { GivesHeld (λ set. set) (open_at self.old k) result }
@@ -114,8 +115,8 @@ impl<A: Allocator + Clone> Pool<A> {
         slot.take_open().ok_or(Refusal::BadSlot)
     }
 
-    /// Takes the frozen set out of slot `k`, which is empty then. Refused by `BadSlot`, where the
-    /// slot isn't there or holds none; then nothing changes.
+    /// Takes the frozen set out of slot `k` and leaves the slot empty. Returns `BadSlot` if the
+    /// slot does not exist or holds none; nothing changes then.
     #[tactic(auto, using(crate::proofs::Slots::slots))]
     pub(crate) fn take_frozen(&mut self, k: usize) -> Result<BitBuffer<A>, Refusal>
         ensures taken { GivesHeld (λ set. set.bits) (frozen_at self.old k) result }
@@ -127,14 +128,14 @@ impl<A: Allocator + Clone> Pool<A> {
         slot.take_frozen().ok_or(Refusal::BadSlot)
     }
 
-    /// Whether slot `k` is there and empty.
+    /// Returns whether slot `k` exists and is empty.
     pub(crate) fn is_vacant(&self, k: usize) -> bool
         ensures { result ≡ vacant_at self.now k }
     {
         matches!(self.slots.get(k), Some(Slot::Empty))
     }
 
-    /// Refused by `BadSlot`, where slot `k` isn't there or isn't empty.
+    /// Returns `BadSlot` if slot `k` does not exist or is not empty.
     pub(crate) fn need_vacant(&self, k: usize) -> Result<(), Refusal>
         ensures ok { OnOk result (vacant_at self.now k ≡ true) }
         ensures err { IfErr result (λ why.
@@ -147,7 +148,7 @@ impl<A: Allocator + Clone> Pool<A> {
         }
     }
 
-    /// Puts this in slot `k`, drops what the slot held, and answers that it is done.
+    /// Fills slot `k`, drops its old content, and returns `Done`.
     #[tactic(auto, using(crate::proofs::Slots::slots))]
     pub(crate) fn put(&mut self, k: usize, slot: Slot<A>) -> Answer<A>
         ensures slots { self.new ≡ slice_set self.old k (content slot) }
@@ -158,7 +159,7 @@ impl<A: Allocator + Clone> Pool<A> {
     }
 }
 
-/// The slots that hold a set, each with its first bits. The text may change.
+/// Prints the slots that hold a set, each with its first bits. The text may change.
 impl<A: Allocator + Clone> fmt::Debug for Pool<A> {
     fn fmt<W: fmt::Write>(&self, f: &mut fmt::Formatter<W>) -> fmt::Result {
         write!(f, "Pool")?;

@@ -1,4 +1,4 @@
-//! What commands ask of a set. No slot changes, and the lists alone take memory.
+//! Queries of a set. No slot changes, and only the lists allocate.
 ghost use Rattle.vb_command.specs.Machine.{Step, Outcome, order_of};
 ghost use Rattle.vb_command.specs.Machine as machine;
 ghost use Rattle.vb_pool.specs.Answered.{AsksWhole, IsQuestion, reply_of};
@@ -11,8 +11,8 @@ use std::alloc::Allocator;
 use vb_command::{Answer, Command, Refusal};
 
 impl<A: Allocator + Clone> Pool<A> {
-    /// Answers a question for a number or a place. It is a call of its own: what is made room for
-    /// in a function is cleared where it begins.
+    /// Answers a query for a number or an index. It is a separate function, since a function clears
+    /// its whole stack frame when it begins.
     #[inline(never)]
     pub(crate) fn ask(&self, alloc: &A, question: &Command<A>) -> Result<Answer<A>, Refusal>
         requires { IsQuestion (order_of question.now) }
@@ -28,7 +28,7 @@ impl<A: Allocator + Clone> Pool<A> {
         }
     }
 
-    /// Answers a question for all bits of a set.
+    /// Answers a query that reads all bits of a set.
     #[inline(never)]
     fn ask_whole(&self, alloc: &A, question: &Command<A>) -> Result<Answer<A>, Refusal>
         requires { AsksWhole (order_of question.now) }
@@ -56,7 +56,7 @@ impl<A: Allocator + Clone> Pool<A> {
         }
     }
 
-    /// Bit `i` of the set.
+    /// Returns bit `i` of the set.
     pub(crate) fn get(&self, k: usize, i: usize) -> Result<Answer<A>, Refusal>
         ensures { Step self.now (machine.Get k i) (reply_of result) self.now }
     {
@@ -67,7 +67,7 @@ impl<A: Allocator + Clone> Pool<A> {
         Ok(Answer::Truth(set.value(i)))
     }
 
-    /// How many bits of the set from `a` up to `b`, `b` excluded, are true.
+    /// Returns the number of true bits among bits `a..b` of the set.
     pub(crate) fn count_range(&self, k: usize, a: usize, b: usize) -> Result<Answer<A>, Refusal>
         ensures { Step self.now (machine.Countrange k a b) (reply_of result) self.now }
     {

@@ -1,12 +1,12 @@
-//! Refusals of sets as those of commands.
+//! Errors of sets as refusals of commands.
 ghost use Rattle.std.specs.Prelude.{◌≡◌, ℕ};
 ghost use Rattle.vb_pool.specs.Answered.{IsOfSet};
 
 use vb_command::Refusal;
 use vb_set::BufferError;
 
-/// The refusal of a command where a set refused with this. Sets that are made or changed refuse by
-/// these three alone.
+/// Returns the refusal of a command for an error of a set. Calls that make or change sets return
+/// only these three errors.
 pub(crate) fn refusal_of(error: BufferError) -> Refusal
     requires { IsOfSet error }
     ensures bits { error ≡ BufferError.TooManyBits → result ≡ Refusal.TooManyBits }

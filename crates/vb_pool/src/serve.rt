@@ -1,4 +1,4 @@
-//! Commands, one or many.
+//! One command or many.
 ghost use Rattle.std.specs.Prelude.{◌≡◌, length, map, IfOk, OnErr, IsOkUnless};
 ghost use Rattle.vb_command.specs.Machine.{Outcome, Run, order_of};
 ghost use Rattle.vb_command.specs.Views.{reply};
@@ -11,17 +11,20 @@ use vb_command::{Answer, Command, Refusal};
 use vb_set::{BitOp, Result};
 
 impl<A: Allocator + Clone> Pool<A> {
-    /// Carries out one command and answers it. A command that is refused changes nothing, except
-    /// that `freeze`, `thaw` and the operators with `own` give their set away: where memory is
-    /// refused, its slot is empty and all others are as before.
+    /// Runs one command and returns its answer. A refused command changes nothing, with one
+    /// exception: `freeze`, `thaw` and the operators with `own` release their set, so if memory
+    /// runs out, its slot is empty and all others are unchanged.
     ///
-    /// Memory is asked from copies of `alloc`: `import`, `full`, `indices`, `take`, `bits` and
-    /// `places` ask once for the whole, and so does `thaw` where another slot has the storage too;
-    /// `runs` asks as its list grows, and `show` as its text does. The copy of an open set asks the
-    /// allocator of that set, and so do the appends, `sliced` and the operators. `freeze`, `slice`,
-    /// `clone` of a frozen set and `thaw` of a storage's only owner copy no bits, nor do operators
-    /// with `own` where their left set's storage has no other owner. A frozen set that is made asks
-    /// for its owner too.
+    /// Memory:
+    ///
+    /// - `import`, `full`, `indices`, `take`, `bits` and `places` allocate once, with a clone of
+    ///   `alloc`; so does `thaw` if another slot shares the storage. `runs` and `show` allocate
+    ///   with it as their list or text grows.
+    /// - `clone` of an open set, the appends, `sliced` and the operators allocate with the set's
+    ///   allocator.
+    /// - `freeze`, `slice`, `clone` of a frozen set and `thaw` of the only owner of a storage copy
+    ///   no bits. Operators with `own` copy none if the left set is the only owner of its storage.
+    /// - Each new frozen set also allocates its count of owners.
     pub fn serve(&mut self, alloc: &A, command: &Command<A>) -> Answer<A>
         ensures outcome { Outcome self.old (order_of command.now) (reply result) self.new }
         ensures slots { length self.new ≡ 16 }
@@ -31,8 +34,9 @@ impl<A: Allocator + Clone> Pool<A> {
         answer
     }
 
-    /// Carries out one command that is given away, as [`serve`](Self::serve) does one that is lent.
-    /// The bytes of an `import` become those of its set, which asks for an owner of them alone.
+    /// Runs one command passed by value, as [`serve`](Self::serve) runs one passed by reference.
+    /// The bytes of an `import` become the bytes of its set, which then allocates only a count of
+    /// owners.
     pub fn serve_owned(&mut self, alloc: &A, command: Command<A>) -> Answer<A>
         ensures outcome { Outcome self.old (order_of command) (reply result) self.new }
         ensures slots { length self.new ≡ 16 }
@@ -51,7 +55,7 @@ impl<A: Allocator + Clone> Pool<A> {
         }
     }
 
-    /// Carries out one command: what it is answered, or why it is refused.
+    /// Runs one command. Returns its answer or its refusal.
     fn carry_out(&mut self, alloc: &A, command: &Command<A>) -> Result<Answer<A>, Refusal>
         ensures { Outcome self.old (order_of command.now) (reply_of result) self.new }
     {
@@ -86,7 +90,7 @@ impl<A: Allocator + Clone> Pool<A> {
     }
 }
 
-/// What a command is answered that was carried out or refused.
+/// Returns the answer for a command that was done or refused.
 fn answer_of<A: Allocator>(outcome: Result<Answer<A>, Refusal>) -> Answer<A>
     ensures { reply result ≡ reply_of outcome }
 {
@@ -96,14 +100,14 @@ fn answer_of<A: Allocator>(outcome: Result<Answer<A>, Refusal>) -> Answer<A>
     }
 }
 
-/// Carries out the commands in their order and gives one answer a command. In contracts a pool is
-/// the list of what its sixteen slots hold.
+/// Runs the commands in their order and returns one answer for each. In contracts a pool is the
+/// list of the contents of its sixteen slots.
 ///
-/// The room for all answers is asked from a copy of `alloc` first. Refused by `OutOfMemory` alone,
-/// where that is refused; then nothing was done. A command that is refused later, for want of
-/// memory too, has its refusal among the answers, and the commands after it are carried out. It
-/// changes nothing; but `freeze`, `thaw` and operators with `own` that are refused memory leave the
-/// slot empty whose set they took.
+/// First allocates the space for all answers with a clone of `alloc`. Returns `OutOfMemory` if that
+/// runs out of memory; no command has run then. A command that is refused later, also because
+/// memory runs out, has its refusal among the answers, and the commands after it run. It changes
+/// nothing, with one exception: if `freeze`, `thaw` or an operator with `own` runs out of memory,
+/// the slot whose set it released is empty.
 pub fn run<A: Allocator + Clone>(
     alloc: A,
     pool: &mut Pool<A>,

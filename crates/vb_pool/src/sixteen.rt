@@ -1,4 +1,4 @@
-//! Sixteen values by their numbers.
+//! Sixteen values by their index.
 ghost use Rattle.std.specs.Prelude.{◌≡◌, length, replicate, slice_get, slice_set};
 ghost use Rattle.std.specs.Borrow.{LendsIf, sem};
 ghost use Rattle.std.specs.Option.{option_copied, option_copied_mut};
@@ -11,8 +11,8 @@ use std::mem;
 
 /// Sixteen values, numbered from 0. Contracts see the list of them.
 ///
-/// These are fields and no array: of an array of a type parameter nothing says that its size is
-/// one that a value can have.
+/// These are fields, not an array: no contract proves that an array of a type parameter has a size
+/// that a value can have.
 #[derive(Drop)]
 pub struct Sixteen<T> {
     s0: T,
@@ -46,7 +46,7 @@ impl<T> Model for Sixteen<T> {
 impl<A: Allocator + Clone> Sixteen<Slot<A>> {
     ghost use Rattle.vb_pool.specs.declared.slot.Slot.TheVariants.{Empty};
 
-    /// Sixteen slots with no set.
+    /// Returns sixteen empty slots.
     pub fn empty() -> Self
         ensures { result ≡ replicate 16 Empty }
     {
@@ -71,7 +71,7 @@ impl<A: Allocator + Clone> Sixteen<Slot<A>> {
     }
 }
 
-/// Value `$k` of the sixteen, lent in this way; `None` from 16 on.
+/// Lends value `$k` of the sixteen by `$lend`; `None` from 16 on.
 macro_rules! lend_at {
     ($self:ident, $k:ident, $($lend:tt)+) => {
         match $k {
@@ -97,24 +97,24 @@ macro_rules! lend_at {
 }
 
 impl<T> Sixteen<T> {
-    /// How many values there are.
+    /// Returns the number of values.
     pub fn len(&self) -> usize
         ensures number { result ≡ 16 }
         ensures list { length self.now ≡ 16 }
     {
-        // A proof sees the list of the values once one of them is named.
+        // The prover sees the list of the values once the code names one of them.
         let _ = &self.s0;
         16
     }
 
-    /// Value `k`; `None` from 16 on.
+    /// Returns value `k`; `None` from 16 on.
     pub fn get(&self, k: usize) -> Option<&T>
         ensures { option_copied result ≡ slice_get self.now k }
     {
         lend_at!(self, k, &)
     }
 
-    /// Value `k` for writing; `None` from 16 on.
+    /// Lends value `k` for writing; `None` from 16 on.
     pub fn get_mut(&mut self, k: usize) -> Option<&mut T>
         ensures* writes_back { sem 𝓛 (LendsIf (the_row T.row) T.row
             self.entry result (slice_set self.old k) self.old) }
@@ -125,8 +125,8 @@ impl<T> Sixteen<T> {
 }
 
 impl<T: Drop> Sixteen<T> {
-    /// Puts a value in the place of value `k`, which it answers; `None` from 16 on, where nothing
-    /// changes.
+    /// Replaces value `k` and returns the old one. Returns `None` from 16 on, and changes nothing
+    /// then.
     #[tactic(auto, using(crate::proofs::Slots::set_none))]
     pub fn replace(&mut self, k: usize, value: T) -> Option<T>
         ensures before { result ≡ slice_get self.old k }

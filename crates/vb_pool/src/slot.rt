@@ -1,4 +1,4 @@
-//! What a slot holds.
+//! The content of a slot.
 ghost use Rattle.std.specs.Prelude.{◌≡◌, MatchOption};
 ghost use Rattle.std.specs.Borrow.{LendsIf, sem};
 ghost use Rattle.std.specs.Option.{option_copied_mut, option_map};
@@ -27,8 +27,8 @@ impl<A: Allocator + Clone> Slot<A> {
     ghost use Rattle.vb_pool.specs.Slot.{content};
     ghost use Rattle.vb_pool.specs.declared.slot.Slot.TheVariants.{Empty, Open};
 
-    /// A copy, whose bits are copied if the set is open, and shared if it is frozen. Refused by
-    /// `OutOfMemory` alone.
+    /// Returns a copy of the slot. Copies the bits of an open set; a frozen set shares its storage.
+    /// Returns `OutOfMemory` if memory runs out.
     pub fn clone(&self) -> Result<Self>
         ensures { Makes (λ slot. content slot ≡ content self.now) result }
     {
@@ -39,7 +39,7 @@ impl<A: Allocator + Clone> Slot<A> {
         })
     }
 
-    /// The open set for edits, if there is one.
+    /// Lends the open set for edits, if there is one.
     pub fn open_mut(&mut self) -> Option<&mut OpenBits<A>>
         ensures* writes_back { sem 𝓛 (LendsIf
             (the_row A.row A.Allocator A.Clone) (open_row A.row A.Allocator A.Clone)
@@ -52,7 +52,7 @@ impl<A: Allocator + Clone> Slot<A> {
         }
     }
 
-    /// Takes the open set and leaves no set. Where there is no open set nothing changes.
+    /// Takes the open set and leaves the slot empty. If there is no open set, nothing changes.
     pub fn take_open(&mut self) -> Option<OpenBits<A>>
         ensures taken { result ≡ open_list (content self.old) }
         ensures left { MatchOption result (self.new ≡ self.old) (λ _. self.new ≡ Empty) }
@@ -66,7 +66,7 @@ impl<A: Allocator + Clone> Slot<A> {
         }
     }
 
-    /// Takes the frozen set and leaves no set. Where there is no frozen set nothing changes.
+    /// Takes the frozen set and leaves the slot empty. If there is no frozen set, nothing changes.
     pub fn take_frozen(&mut self) -> Option<BitBuffer<A>>
         ensures taken { option_map (λ set. set.bits) result ≡ frozen_list (content self.old) }
         ensures left { MatchOption result (self.new ≡ self.old) (λ _. self.new ≡ Empty) }

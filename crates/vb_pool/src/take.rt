@@ -1,4 +1,4 @@
-//! Bits of a frozen set that are taken at indices.
+//! Bits of a frozen set gathered at indices.
 ghost use Rattle.std.specs.Prelude.{◌≡◌, length, IfOk, IfErr, IsTrue};
 ghost use Rattle.std.specs.Option.{option_map};
 ghost use Rattle.vb_command.specs.Machine.{Outcome, is_as_long, validity_at};
@@ -16,9 +16,9 @@ use vb_gather::take_bits;
 use vb_set::{BitBuffer, BitBufferView, Result};
 
 impl<A: Allocator + Clone> Pool<A> {
-    /// Puts the bits of the frozen set in slot `k` at these indices in slot `t`, which has to be
-    /// empty. Slot `m`, if one is named, holds a frozen set that is as long as they are many: only
-    /// where it is true an index counts.
+    /// Fills slot `t`, which must be empty, with the bits of the frozen set in slot `k` at these
+    /// indices. Slot `m`, if there is one, must hold a frozen set with one bit for each index;
+    /// where it is false, the index is ignored.
     pub(crate) fn take(
         &mut self,
         alloc: &A,
@@ -39,8 +39,8 @@ impl<A: Allocator + Clone> Pool<A> {
         Ok(self.put(t, Slot::Frozen(bits)))
     }
 
-    /// The frozen set in slot `m`, if one is named. Refused by `BadSlot`, where the slot isn't
-    /// there or holds none.
+    /// Returns the frozen set in slot `m`, or `None` if `m` is `None`. Returns `BadSlot` if the
+    /// slot does not exist or holds none.
     fn validity(&self, m: Option<usize>) -> Result<Option<BitBufferView<'_>>, Refusal>
         ensures { GivesHeld (option_map bits_of) (validity_at self.now m) result }
     {
@@ -51,7 +51,7 @@ impl<A: Allocator + Clone> Pool<A> {
     }
 }
 
-/// Whether a validity, if there is one, has `n` bits.
+/// Returns whether a validity, if there is one, has `n` bits.
 fn is_as_long(n: usize, validity: Option<BitBufferView<'_>>) -> bool
     ensures { result ≡ is_as_long n (option_map bits_of validity.entry) }
 {
@@ -61,8 +61,9 @@ fn is_as_long(n: usize, validity: Option<BitBufferView<'_>>) -> bool
     }
 }
 
-/// The bits at these indices. Refused by `TakeOutOfRange` with the first position that counts and
-/// whose index names no place, or by `OutOfMemory`, which comes before an index is looked at.
+/// Returns the bits at these indices. Returns `OutOfMemory`, before it reads an index, if memory
+/// runs out, or `TakeOutOfRange` with the first position whose index is not ignored and out of
+/// range.
 #[tactic(auto, using(crate::proofs::Takes::validities))]
 fn take_at<A: Allocator + Clone>(
     alloc: &A,

@@ -170,7 +170,7 @@ impl<A: Allocator + Clone> Ranked<A> {
     }
 
     /// Finds the true bits of many ranks: sets `places[k]` to the result of
-    /// [`select`](Self::select) for `ranks[k]`. There must be as many places as ranks. Clause
+    /// [`select`](Self::select) for `ranks[k]`. `places` must have the length of `ranks`. Clause
     /// `each` proves that every true bit with `ranks[k]` true bits before it is the result.
     ///
     /// Above 65,536 bits the call runs eight searches side by side, since each search waits for its
@@ -185,8 +185,8 @@ impl<A: Allocator + Clone> Ranked<A> {
     }
 
     /// Finds the false bits of many ranks: sets `places[k]` to the result of
-    /// [`select_unset`](Self::select_unset) for `ranks[k]`. There must be as many places as ranks.
-    /// It runs at the cost of [`select_many`](Self::select_many).
+    /// [`select_unset`](Self::select_unset) for `ranks[k]`. `places` must have the length of
+    /// `ranks`. It runs at the cost of [`select_many`](Self::select_many).
     pub fn select_unset_many(&self, ranks: &[usize], places: &mut [Option<usize>])
         requires { length places.old ≡ length ranks.now }
         ensures places { AllZip (Selects (complement self.now.bits)) ranks.now places.new }
@@ -197,9 +197,9 @@ impl<A: Allocator + Clone> Ranked<A> {
     }
 
     /// Sets `places[k]` to the index of the true bit of rank `ranks[k]`, as
-    /// [`select_many`](Self::select_many) does. Returns `LengthMismatch`, with the number of ranks
-    /// as `left` and the number of places as `right`, exactly if they differ; no place changes
-    /// then. Does not allocate.
+    /// [`select_many`](Self::select_many) does. Returns `LengthMismatch`, with the length of
+    /// `ranks` as `left` and the length of `places` as `right`, exactly if they differ; `places` is
+    /// unchanged then. Does not allocate.
     pub fn try_select_many(&self, ranks: &[usize], places: &mut [Option<usize>]) -> Result<()>
         ensures { FindsMany self.now.bits ranks.now places.old places.new result }
     {
@@ -210,8 +210,8 @@ impl<A: Allocator + Clone> Ranked<A> {
 
     /// Sets `places[k]` to the index of the false bit of rank `ranks[k]`, as
     /// [`select_unset_many`](Self::select_unset_many) does. Returns `LengthMismatch`, with the
-    /// number of ranks as `left` and the number of places as `right`, exactly if they differ; no
-    /// place changes then. Does not allocate.
+    /// length of `ranks` as `left` and the length of `places` as `right`, exactly if they differ;
+    /// `places` is unchanged then. Does not allocate.
     pub fn try_select_unset_many(&self, ranks: &[usize], places: &mut [Option<usize>]) -> Result<()>
         ensures { FindsMany (complement self.now.bits) ranks.now places.old places.new result }
     {

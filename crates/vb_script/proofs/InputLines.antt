@@ -20,7 +20,7 @@ use Rattle.std.proofs.Math.Seq.{split_at}
 abbrev pub IsWithinLine : List ℕ → Type 0
 IsWithinLine bytes = All (λ b. eqb b 10 ≡ false) bytes
 
--- how many line feeds there are
+-- the number of line feeds
 abbrev pub line_feeds : List ℕ → ℕ
 line_feeds bytes = count_by (λ b. eqb b 10) bytes
 
@@ -36,7 +36,7 @@ strip-cut bytes at within some return =
     sym (ap (λ b. cond b (take (length line - 1) line) line) (eq-eqb _ _ last)
     ∙ ap (λ n. take (n - 1) line) size ∙ take-take (at - 1) at bytes (omega arith))
 
--- and one that has none there
+-- a line that has no carriage return at its end
 pub strip-whole : (bytes : List ℕ) (at : ℕ) → at ≤ length bytes
     → (0 < at → get_or bytes (at - 1) 0 ≡ 13 → ⊥)
     → take at bytes ≡ strip_carriage_return (take at bytes)
@@ -52,7 +52,7 @@ strip-whole bytes at within other =
           absurd (omega (arith, is, get_or-eq_default line 0 past))
     ])))
 
--- for `#[tactic(auto, using(..))]`: where a line ends
+-- the end of a line, for `#[tactic(auto, using(..))]`
 pub ruleset fronts = (strip-cut, strip-whole)
 
 lines_of_parts-cons : (x : List ℕ) (parts : List (List ℕ)) → 0 < length parts
@@ -60,7 +60,7 @@ lines_of_parts-cons : (x : List ℕ) (parts : List (List ℕ)) → 0 < length pa
 lines_of_parts-cons x [] l = absurd (omega arith)
 lines_of_parts-cons x (y ∷ more) l = refl
 
--- the line at the front, which a line feed ends
+-- the first line, which ends with a line feed
 pub lines-line_feed : (line more : List ℕ) → IsWithinLine line
     → lines (line ++ 10 ∷ more) ≡ strip_carriage_return line ∷ lines more
 lines-line_feed line more h =
@@ -68,12 +68,12 @@ lines-line_feed line more h =
     ∙ lines_of_parts-cons line (slice_split (λ b. eqb b 10) more)
     (omega (arith, length-slice_split (λ b. eqb b 10) more))
 
--- a line that no line feed ends is the only one
+-- a line without a line feed at its end is the only one
 pub lines-last : (line : List ℕ) → IsWithinLine line → 0 < length line → lines line ≡ line ∷ []
 lines-last line h some = ap lines_of_parts (slice_split_none (λ b. eqb b 10) line h)
     ∙ ap (λ b. cond b [] (line ∷ [])) (ne_eqb (length line) 0 (λ e. omega arith))
 
--- before the first line feed there is none
+-- there is no line feed before the first one
 pub within_first : (bytes : List ℕ) (at : ℕ) → position (λ b. eqb b 10) bytes ≡ Some at
     → IsWithinLine (take at bytes)
 within_first bytes at e = λ k d lt.
@@ -81,7 +81,7 @@ within_first bytes at e = λ k d lt.
     ap (λ b. eqb b 10) (get_or-take at bytes k d within)
     ∙ (position-Some (λ b. eqb b 10) bytes at d e).2 k within
 
--- bytes, cut at the first line feed
+-- the bytes, cut at the first line feed
 pub cut_at_line_feed : (bytes : List ℕ) (at : ℕ) → position (λ b. eqb b 10) bytes ≡ Some at
     → bytes ≡ take at bytes ++ 10 ∷ drop (at + 1) bytes
 cut_at_line_feed bytes at e =
@@ -90,7 +90,7 @@ cut_at_line_feed bytes at e =
     ∙ (ap (λ x. take at bytes ++ x ∷ drop (suc at) bytes) (eqb-true (get_or bytes at 0) 10 found.1)
     ∙ ap (λ k. take at bytes ++ 10 ∷ drop k bytes) (sym (add-one at)))
 
--- where no line feed is found there is none
+-- if a search finds no line feed, there is none
 pub within_all : (bytes : List ℕ) → position (λ b. eqb b 10) bytes ≡ None → IsWithinLine bytes
 within_all bytes e =
     let past : length bytes ≤ position_or_len (λ b. eqb b 10) bytes = grind (arith, common_steps) in
@@ -100,7 +100,7 @@ within_all bytes e =
 pub line_feeds-append : (xs ys : List ℕ) → line_feeds (xs ++ ys) ≡ line_feeds xs + line_feeds ys
 line_feeds-append xs ys = sum_by-append (λ b. cond (eqb b 10) 1 0) xs ys
 
--- a part of a line has none
+-- a part of a line has no line feed
 pub line_feeds-within : (bytes : List ℕ) → IsWithinLine bytes → line_feeds bytes ≡ 0
 line_feeds-within [] h = refl
 line_feeds-within (x ∷ xs) h =

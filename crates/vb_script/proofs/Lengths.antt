@@ -1,4 +1,4 @@
--- How many digits numbers have.
+-- The number of digits of numbers.
 use Rattle.std.proofs.Common.{◌≡◌, ℕ, ◌+◌, ◌/◌, ◌^◌, ◌<◌}
 use Rattle.std.proofs.Common.{◌≤◌, length}
 use Rattle.std.proofs.Common.{ap, ◌∙◌, arith}
@@ -10,7 +10,7 @@ use Rattle.std.proofs.lemmas.Fmt.{length-decimal-le}
 pub short-decimal : (n : ℕ) → n < 2 ^ 64 → length (decimal n) ≤ 20
 short-decimal n h = length-decimal-le 20 n (omega arith) (omega (arith, h)) h
 
--- how many digits a number of at most four has
+-- the number of digits of a number below 10000
 pub length_three : (n : ℕ) → 100 ≤ n → n < 1000 → length (decimal n) ≡ 3
 length_three n low high = length_pair n low (omega (arith, high)) ∙ ap (λ k. k + 2)
     (length_one (n / 100) (omega (arith, high)))
@@ -31,8 +31,8 @@ length_eight n low high =
       ap (λ k. length (decimal k)) same,
     )
 
--- for `#[tactic(auto, using(..))]`: how long a number is
+-- the length of a number, for `#[tactic(auto, using(..))]`
 pub ruleset lengths = (short-decimal)
 
--- for `#[tactic(auto, using(..))]`: how many digits a number of at most four has
+-- the number of digits of a number below 10000, for `#[tactic(auto, using(..))]`
 pub ruleset counts = (length_one, length_two, length_three, length_fourth)

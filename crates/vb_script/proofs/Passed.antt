@@ -1,4 +1,4 @@
--- Which lines of the input were passed, and which bytes are still to come.
+-- The lines of the input that the session has passed, and the bytes that remain.
 use Rattle.std.proofs.Common.{◌≡◌, ℕ, ◌+◌, ◌<◌, List, [], ◌∷◌, ◌++◌, length, take, drop, refl}
 use Rattle.std.proofs.Common.{sym, ap, ◌∙◌, Option, Some, None, arith, eqb, subst, append_assoc}
 use Rattle.std.proofs.Common.{length-append}
@@ -13,7 +13,8 @@ use Rattle.vb_script.proofs.InputLines.{lines-line_feed, lines-last, within_firs
 use Rattle.vb_script.proofs.InputLines.{cut_at_line_feed}
 use Rattle.vb_script.proofs.KnownBytes.{known_rest, nil_at_end}
 
--- of the input these lines were passed; the bytes fed come next, and then the remaining ones
+-- the session has passed the lines `done` of the input; the bytes `fed` come next, and then the
+-- remaining ones
 pub record Passed (input : List ℕ) (done : List (List ℕ)) (fed : List ℕ)
     (remaining : Option (List ℕ)) : Type 0 where
   pub used : List ℕ
@@ -23,7 +24,7 @@ pub record Passed (input : List ℕ) (done : List (List ℕ)) (fed : List ℕ)
   pub split : (more : List ℕ) → lines (used ++ more) ≡ done ++ lines more
   pub ended : line_feeds used ≡ length done
 
--- no line was passed
+-- the session has passed no line
 pub Passed-nil : (input : List ℕ) (remaining : Option (List ℕ)) → remaining ≡ Some input
     → Passed input [] [] remaining
 Passed-nil input remaining e = record {
@@ -36,7 +37,7 @@ Passed-nil input remaining e = record {
   ended = refl;
 }
 
--- bytes were read
+-- the session has read bytes
 pub Passed-Keeps : (input : List ℕ) (done : List (List ℕ)) (fed : List ℕ)
     (remaining : Option (List ℕ)) (fed' : List ℕ) (remaining' : Option (List ℕ))
     → Passed input done fed remaining → Keeps (prepend_known fed remaining)
@@ -55,7 +56,7 @@ Passed-Keeps input done fed remaining fed' remaining' p kept =
       ended = p.ended;
     }
 
--- one more line was passed
+-- the session has passed one more line
 pub Passed-append : (input : List ℕ) (done : List (List ℕ)) (fed : List ℕ)
     (remaining : Option (List ℕ)) (at : ℕ)
     → Passed input done fed remaining → position (λ b. eqb b 10) fed ≡ Some at
@@ -90,13 +91,13 @@ Passed-append input done fed remaining at p here =
       );
     }
 
--- the lines of the input are those that were passed and those to come
+-- the lines of the input are those passed and those to come
 pub Passed-lines : (input : List ℕ) (done : List (List ℕ)) (fed : List ℕ)
     (remaining : Option (List ℕ)) → (p : Passed input done fed remaining)
     → lines input ≡ done ++ lines (fed ++ p.rest)
 Passed-lines input done fed remaining p = ap lines p.whole ∙ p.split (fed ++ p.rest)
 
--- where no line feed waits, the lines that have ended are those that were passed
+-- if no line feed waits, the lines that have ended are those passed
 pub Passed-ended_lines : (input : List ℕ) (done : List (List ℕ)) (fed : List ℕ)
     (remaining : Option (List ℕ)) → (p : Passed input done fed remaining)
     → position (λ b. eqb b 10) fed ≡ None → ended_lines (p.used ++ fed) ≡ done
@@ -111,14 +112,14 @@ Passed-ended_lines input done fed remaining p none =
     ap (λ n. take n (lines (p.used ++ fed))) count ∙ (ap (take (length done)) (p.split fed)
     ∙ take-append_seam done (lines fed))
 
--- the lines that were passed are the first ones of the input
+-- the lines passed are the first lines of the input
 pub Passed-front : (input : List ℕ) (done : List (List ℕ)) (fed : List ℕ)
     (remaining : Option (List ℕ)) → Passed input done fed remaining
     → take (length done) (lines input) ≡ done
 Passed-front input done fed remaining p = ap (take (length done))
     (Passed-lines input done fed remaining p) ∙ take-append_seam done (lines (fed ++ p.rest))
 
--- where no line feed waits, as many lines have ended as were passed
+-- if no line feed waits, the number of lines that have ended is the number of lines passed
 pub Passed-count : (input : List ℕ) (done : List (List ℕ)) (fed : List ℕ)
     (remaining : Option (List ℕ)) → (p : Passed input done fed remaining)
     → position (λ b. eqb b 10) fed ≡ None → count_ended (p.used ++ fed) ≡ length done
@@ -129,20 +130,20 @@ Passed-count input done fed remaining p none = omega (
   p.ended,
 )
 
--- what holds of an element stands at its place
+-- a property of an element holds at its index
 at_seam : (done : List (List ℕ)) (line : List ℕ) (later : List (List ℕ)) (P : List ℕ → Type 0)
     → P line → IsSomeAnd (slice_get (done ++ line ∷ later) (length done)) P
 at_seam [] line later P h = h
 at_seam (x ∷ done) line later P h = at_seam done line later P h
 
--- what holds of a line in the middle of a list
+-- a property of a line in the middle of a list
 pub next_of : (ls done : List (List ℕ)) (line : List ℕ) (later : List (List ℕ))
     (P : List ℕ → Type 0) → ls ≡ done ++ line ∷ later → P line
     → IsSomeAnd (slice_get ls (length done)) P
 next_of ls done line later P e h = subst (λ (xs : List (List ℕ)).
     IsSomeAnd (slice_get xs (length done)) P) (sym e) (at_seam done line later P h)
 
--- the same lines, as if no more were to come
+-- the same lines passed, as if no more bytes remained
 pub Passed-here : (input : List ℕ) (done : List (List ℕ)) (fed : List ℕ)
     (remaining : Option (List ℕ))
     → (p : Passed input done fed remaining) → Passed (p.used ++ fed) done fed (Some [])
@@ -163,7 +164,7 @@ Passed-all input done remaining p end =
     Passed-lines input done [] remaining p ∙ (ap (λ xs. done ++ lines xs)
     (nil_at_end remaining p.rest p.known end) ∙ append-nil done)
 
--- a last line is left, which no line feed ends
+-- a last line is left, without a line feed at its end
 pub Passed-last : (input : List ℕ) (done : List (List ℕ)) (fed : List ℕ)
     (remaining : Option (List ℕ)) → Passed input done fed remaining
     → position (λ b. eqb b 10) fed ≡ None → 0 < length fed → IsAtEnd remaining
@@ -174,11 +175,11 @@ Passed-last input done fed remaining p none some end =
     ∙ (ap (λ xs. done ++ lines xs) (append-nil fed)
     ∙ ap (λ ls. done ++ ls) (lines-last fed (within_all fed none) some)))
 
--- the line stands next, behind those that are done
+-- the line is next, after the lines passed
 abbrev pub IsNext : List ℕ → List (List ℕ) → List ℕ → Type 0
 IsNext input done line = (later : List (List ℕ)) × (lines input ≡ done ++ line ∷ later)
 
--- the next line, which a line feed ends
+-- the next line, which ends with a line feed
 pub Passed-line : (input : List ℕ) (done : List (List ℕ)) (fed : List ℕ)
     (remaining : Option (List ℕ)) (k : ℕ) → Passed input done fed remaining
     → Some k ≡ position (λ b. eqb b 10) fed

@@ -1,4 +1,4 @@
--- How far a session has come, and what that says where it ends.
+-- The progress of a session, and its meaning for the end of the session.
 use Rattle.std.proofs.Common.{◌≡◌, ℕ, ◌+◌, ◌-◌, ◌^◌, ◌<◌, List, [], ◌∷◌, ◌++◌, length, take, drop}
 use Rattle.std.proofs.Common.{refl, sym, ap, ◌∙◌, Option, Some, None, Result, Ok, Err, arith, eqb}
 use Rattle.std.proofs.Common.{subst, append_assoc, length-append}
@@ -25,7 +25,7 @@ use Rattle.vb_script.proofs.Passed.{Passed, Passed-nil, Passed-Keeps, Passed-app
 use Rattle.vb_script.proofs.Passed.{Passed-ended_lines, Passed-front, Passed-count, next_of}
 use Rattle.vb_script.proofs.Passed.{Passed-here, Passed-all, Passed-last, Passed-line, IsNext}
 
--- commands were run, and their answers added to the first bytes
+-- commands were run, and their answers were appended to the first bytes
 pub record Ran (commands : List Order) (first now : Option (List ℕ)) (slots : List Slot) :
     Type 0 where
   pub replies : List Reply
@@ -51,7 +51,7 @@ lines_of-append : (replies : List Reply) (r : Reply) → lines_of (replies ++ r 
 lines_of-append replies r = flat_map-append line_of replies (r ∷ [])
     ∙ ap (λ xs. lines_of replies ++ xs) (append-nil (line_of r))
 
--- one more line was served
+-- one more line was answered
 pub Ran-append : (commands : List Order) (first now : Option (List ℕ)) (slots : List Slot)
     (o : Option (Option Order)) (r : Option Reply) (now' : Option (List ℕ)) (slots' : List Slot)
     → Ran commands first now slots → RepliesTo o slots r slots' → Appends now now' (line_of_any r)
@@ -112,7 +112,7 @@ pub RanAny-Keeps : (first now now' : Option (List ℕ)) (slots : List Slot) → 
 RanAny-Keeps first now now' slots (commands, a) told =
     (commands, Ran-Keeps commands first now now' slots a told)
 
--- all answers were written, those that waited at last
+-- all answers were written, last those that waited
 pub RanAny-written : (first written : Option (List ℕ)) (out : List ℕ) (slots : List Slot)
     (written' : Option (List ℕ)) → RanAny first (append_known written out) slots
     → Appends written written' out → AnswersRun first written'
@@ -120,7 +120,7 @@ RanAny-written first written out slots written' (commands, a) wrote =
     Ran-AnswersRun commands first written' slots (Ran-Keeps commands first
     (append_known written out) written' slots a (Keeps-written written written' out wrote))
 
--- no command was run, and nothing written
+-- no command was run, and nothing was written
 pub AnswersRun-none : (written : Option (List ℕ)) → AnswersRun written written
 AnswersRun-none written = record {
   commands = [];
@@ -163,7 +163,7 @@ Answered-AnswersLines ls first now slots a = record {
   written = a.ran.told;
 }
 
--- all answers were written, those that waited at last
+-- all answers were written, last those that waited
 pub Answered-written : (ls : List (List ℕ)) (first written : Option (List ℕ)) (out : List ℕ)
     (slots : List Slot) (written' : Option (List ℕ))
     → Answered ls first (append_known written out) slots → Appends written written' out
@@ -187,7 +187,7 @@ Answered-append ls first now slots line n now' slots' a number s =
       ran = next.2;
     }
 
--- the next line has number n: those before it were passed and answered
+-- the next line has number n: the session has passed and answered the lines before it
 pub record Progress (input : List ℕ) (first : Option (List ℕ)) (n : ℕ) (fed : List ℕ)
     (remaining now : Option (List ℕ)) (slots : List Slot) : Type 0 where
   pub done : List (List ℕ)
@@ -206,7 +206,7 @@ Progress-first input remaining first e = record {
 }
 
 module _ {input : List ℕ} {first : Option (List ℕ)} where
-  -- bytes came in and went out
+  -- bytes were read and written
   pub Progress-Keeps : (n : ℕ) (slots : List Slot) (fed : List ℕ) (remaining now : Option (List ℕ))
       (fed' : List ℕ) (remaining' now' : Option (List ℕ))
       → Progress input first n fed remaining now slots
@@ -219,7 +219,7 @@ module _ {input : List ℕ} {first : Option (List ℕ)} where
     answered = Answered-Keeps p.done first now now' slots p.answered told;
   }
 
-  -- a line was answered that a line feed ended
+  -- a line that ends with a line feed was answered
   pub Progress-next : (n : ℕ) (fed : List ℕ) (remaining now : Option (List ℕ)) (slots : List Slot)
       (k : ℕ) (fed' : List ℕ) (now' : Option (List ℕ)) (slots' : List Slot)
       → Progress input first n fed remaining now slots → Some k ≡ position (λ b. eqb b 10) fed
@@ -292,7 +292,7 @@ module _ {input : List ℕ} {first : Option (List ℕ)} where
         next = λ more. absurd (omega (arith, more, ended));
       })
 
-  -- the next line gave no command
+  -- the next line has no command
   pub Progress-unread : (n : ℕ) (fed : List ℕ) (remaining written : Option (List ℕ)) (out : List ℕ)
       (slots : List Slot) (line : List ℕ) (written' : Option (List ℕ)) (e : DriveError)
       → (p : Progress input first n fed remaining (append_known written out) slots)
@@ -329,7 +329,7 @@ module _ {input : List ℕ} {first : Option (List ℕ)} where
         next = λ more. next_of (lines input) p.done line q.0 _ q.1 s.0;
       })
 
-  -- the next line, which a line feed ends, gave no command
+  -- the next line, which ends with a line feed, has no command
   pub Progress-unread-line : (n : ℕ) (fed : List ℕ) (remaining written : Option (List ℕ))
       (out : List ℕ) (slots : List Slot) (k : ℕ) (written' : Option (List ℕ)) (e : DriveError)
       → (p : Progress input first n fed remaining (append_known written out) slots)
@@ -343,7 +343,7 @@ module _ {input : List ℕ} {first : Option (List ℕ)} where
       (Passed-line (p.passed.used ++ fed) p.done fed (Some [])
       k (Passed-here input p.done fed remaining p.passed) here) s
 
-  -- the last line, which no line feed ends, gave no command
+  -- the last line, without a line feed at its end, has no command
   Progress-unread-last : (n : ℕ) (fed : List ℕ) (remaining written : Option (List ℕ))
       (out : List ℕ) (slots : List Slot) (written' : Option (List ℕ)) (e : DriveError)
       → (p : Progress input first n fed remaining (append_known written out) slots)
@@ -390,7 +390,7 @@ module _ {input : List ℕ} {first : Option (List ℕ)} where
   Progress-ends n fed remaining written out slots written' slots' (Err e) p here end ok err =
       Progress-unread-last n fed remaining written out slots written' e p here end err
 
--- what a session read and ran where its last line was answered, if there was one
+-- the commands that a session ran, if its last line was answered or there was none
 pub RanAny-last : (first written : Option (List ℕ)) (out : List ℕ) (slots : List Slot)
     (fed : List ℕ) (n : ℕ) (written' : Option (List ℕ)) (slots' : List Slot)
     → RanAny first (append_known written out) slots
@@ -417,7 +417,7 @@ AnswersSome-none input written = record {
   next = λ more. absurd (omega (arith, more));
 }
 
--- memory was refused before any byte was read
+-- memory ran out before any byte was read
 pub SessionEnds-none : (input : List ℕ) (remaining written : Option (List ℕ))
     → remaining ≡ Some input → IsSomeAnd remaining (λ rest.
     SessionEnds {X = Unit {0}} (Err Memory) input rest written written)
@@ -425,7 +425,7 @@ SessionEnds-none input remaining written e = subst (λ (o : Option (List ℕ)).
     IsSomeAnd o (λ rest. AnswersSome input rest written written)) (sym e)
     (AnswersSome-none input written)
 
--- what holds anyway holds unless a write failed
+-- a proposition that holds also holds unless a write failed
 pub UnlessWrite-anyway : (r : Result (Unit {0}) DriveError) (P : Type 0) → P → UnlessWrite r P
 UnlessWrite-anyway (Ok x) P h = h
 UnlessWrite-anyway (Err (Unreadable line)) P h = h
@@ -433,7 +433,7 @@ UnlessWrite-anyway (Err Read) P h = h
 UnlessWrite-anyway (Err Write) P h = tt
 UnlessWrite-anyway (Err Memory) P h = h
 
--- the same where the last line may give no command
+-- the same if the last line may have no command
 pub Run-ends : (first written : Option (List ℕ)) (out : List ℕ) (slots : List Slot)
     (fed : List ℕ) (n : ℕ) (written' : Option (List ℕ)) (slots' : List Slot)
     (r : Result (Unit {0}) DriveError) → RanAny first (append_known written out) slots

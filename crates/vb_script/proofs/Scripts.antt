@@ -1,23 +1,23 @@
--- What the lines of an input ask for, one line after the other.
+-- The orders of the lines of an input, one line after the other.
 use Rattle.std.proofs.Common.{◌≡◌, ℕ, ◌+◌, ◌-◌, ◌^◌, ◌<◌, List, [], ◌∷◌, ◌++◌, length, refl, ap}
 use Rattle.std.proofs.Common.{◌∙◌, Option, Some, None, arith, lt-ltb}
 use Rattle.vb_command.specs.Machine.{Order}
 use Rattle.vb_command.specs.Optional.{◌>>=◌}
 use Rattle.vb_command.specs.Reading.{reading, script, with_order}
 
--- an order before others that are followed by more
+-- an order before a list of orders that is extended
 with_order-append : (c : Option Order) (cs more : List Order)
     → with_order c (cs ++ more) ≡ with_order c cs ++ more
 with_order-append None cs more = refl
 with_order-append (Some c) cs more = refl
 
--- a first line and those after it that can be read
+-- a first line, and the lines after it, all of which can be read
 script-cons : (n : ℕ) (line : List ℕ) (ls : List (List ℕ)) (c : Option Order) (cs : List Order)
     → n < 2 ^ 64 - 1 → reading line ≡ Some c → script (n + 1) ls ≡ Some cs
     → script n (line ∷ ls) ≡ Some (with_order c cs)
 script-cons n line ls c cs small read more = rw (lt-ltb n (2 ^ 64 - 1) small, read, more) refl
 
--- both readings gave something, if what is made of them did
+-- if the combination of two readings has a value, both have one
 both_some : (first : Option (Option Order)) (more : Option (List Order)) (cs : List Order)
     → (first >>= (λ c. more >>= (λ ds. Some (with_order c ds)))) ≡ Some cs
     → (c : Option Order) × (ds : List Order) × (first ≡ Some c) × (more ≡ Some ds) ×
@@ -26,7 +26,7 @@ both_some None more cs e = absurd (cc)
 both_some (Some c) None cs e = absurd (cc)
 both_some (Some c) (Some ds) cs e = (c, ds, refl, refl, cc)
 
--- the same of a script
+-- the same for a script
 script-parts : (n : ℕ) (line : List ℕ) (ls : List (List ℕ)) (cs : List Order) → n < 2 ^ 64 - 1
     → script n (line ∷ ls) ≡ Some cs
     → (c : Option Order) × (ds : List Order) × (reading line ≡ Some c) ×

@@ -1,4 +1,4 @@
--- Searches that go on where an earlier one ended.
+-- Searches that continue where an earlier one ended.
 use Rattle.std.proofs.Common.{◌≡◌, ℕ, zero, suc, ◌+◌, ◌<◌, ◌≤◌, Bool, true, false, cond, List, []}
 use Rattle.std.proofs.Common.{take, get_or}
 use Rattle.std.proofs.Common.{◌∷◌, ◌++◌, length, drop, sym, ap, ◌∙◌, Option, Some, None, arith}
@@ -18,7 +18,7 @@ drop_one : (p : ℕ → Bool) (b : Bool) (x : ℕ) (xs : List ℕ) (n : ℕ)
 drop_one p true x xs n rest h = let r = rest (omega arith) in omega arith
 drop_one p false x xs n rest h = absurd (omega arith)
 
--- the front that passes, without its first elements
+-- the prefix that passes, without its first elements
 prefix_len-drop : (p : ℕ → Bool) (xs : List ℕ) (n : ℕ) → n ≤ prefix_len p xs
     → n + prefix_len p (drop n xs) ≡ prefix_len p xs
 prefix_len-drop p xs zero h = omega arith
@@ -29,17 +29,17 @@ append_one : (b : Bool) (m n : ℕ) → m ≤ n → cond b (1 + m) 0 ≤ cond b 
 append_one true m n h = omega arith
 append_one false m n h = omega arith
 
--- more elements behind a list keep the front that passes
+-- appending elements does not shorten the prefix that passes
 prefix_len-le-append : (p : ℕ → Bool) (xs ys : List ℕ) → prefix_len p xs ≤ prefix_len p (xs ++ ys)
 prefix_len-le-append p [] ys = omega arith
 prefix_len-le-append p (x ∷ xs) ys = append_one (p x) (prefix_len p xs) (prefix_len p (xs ++ ys))
     (prefix_len-le-append p xs ys)
 
--- the front that was searched is no longer than the list
+-- the prefix that was searched is not longer than the list
 pub position_or_len-le : (p : ℕ → Bool) (xs : List ℕ) → position_or_len p xs ≤ length xs
 position_or_len-le p xs = prefix_len-le-length _ xs
 
--- more elements keep what was searched
+-- appending elements does not shorten the prefix that was searched
 pub position_or_len-le-append : (p : ℕ → Bool) (xs ys : List ℕ)
     → position_or_len p xs ≤ position_or_len p (xs ++ ys)
 position_or_len-le-append p xs ys = prefix_len-le-append _ xs ys
@@ -56,7 +56,7 @@ position_past : (p : ℕ → Bool) (xs : List ℕ) → length xs ≤ position_or
 position_past p xs h = ap (λ b. cond b (Some (position_or_len p xs)) None)
     (le-ltb (position_or_len p xs) (length xs) h)
 
--- a search behind what was searched finds what a search of the whole list finds
+-- a search after the searched prefix finds what a search of the whole list finds
 pub position-drop : (p : ℕ → Bool) (xs : List ℕ) (n : ℕ) → n ≤ position_or_len p xs
     → position p xs ≡ option_map (λ k. n + k) (position p (drop n xs))
 position-drop p xs n h =
@@ -70,7 +70,7 @@ position-drop p xs n h =
     (position_past p (drop n xs) (omega arith))))
     (cases_lt (position_or_len p xs) (length xs))
 
--- the first place whose byte passes
+-- the first index whose byte passes
 pub position-IsFirstByte : (p : ℕ → Bool) (xs : List ℕ) (r : Option ℕ) → IsFirstByte p xs r
     → r ≡ position p xs
 position-IsFirstByte p xs None h =
@@ -96,8 +96,8 @@ position-near p xs n k within is lt =
     (λ _. ap p (sym (get_or-take n xs k 0 lt)) ∙ there) in
     sym (position_before p xs (omega (arith, here)) ∙ ap Some here)
 
--- for `#[tactic(auto, using(..))]`: searches for a line feed
+-- searches for a line feed, for `#[tactic(auto, using(..))]`
 pub ruleset searches = (position_or_len-le, position_or_len-le-append, position-drop)
 
--- the same of what `memchr` answers
+-- the same for the result of `memchr`
 pub ruleset first_byte = (position-IsFirstByte, position_or_len-le, position-near)

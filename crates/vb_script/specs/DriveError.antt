@@ -1,4 +1,4 @@
--- What the errors of a session say.
+-- The errors of a session.
 use Rattle.std.specs.Prelude.{◌≡◌, ℕ, ◌+◌, Result, Ok, Err}
 use Rattle.vb_script.specs.declared.error.DriveError.{DriveError}
 use Rattle.vb_script.specs.declared.error.DriveError.TheVariants.{Unreadable, Read, Write, Memory}
@@ -11,7 +11,7 @@ UnlessWrite (Err Read) P = P
 UnlessWrite (Err Write) P = Unit {0}
 UnlessWrite (Err Memory) P = P
 
--- the failed reads, before and after: one more where a read failed
+-- the number of failed reads before and after: one more if a read failed
 abbrev pub FailsReads : {X : Type 0} → Result X DriveError → ℕ → ℕ → Type 0
 FailsReads (Ok x) faults faults' = faults' ≡ faults
 FailsReads (Err (Unreadable line)) faults faults' = faults' ≡ faults
@@ -19,7 +19,7 @@ FailsReads (Err Read) faults faults' = faults' ≡ faults + 1
 FailsReads (Err Write) faults faults' = faults' ≡ faults
 FailsReads (Err Memory) faults faults' = faults' ≡ faults
 
--- the failed writes, before and after: one more where a write failed
+-- the number of failed writes before and after: one more if a write failed
 abbrev pub FailsWrites : {X : Type 0} → Result X DriveError → ℕ → ℕ → Type 0
 FailsWrites (Ok x) faults faults' = faults' ≡ faults
 FailsWrites (Err (Unreadable line)) faults faults' = faults' ≡ faults
@@ -27,7 +27,7 @@ FailsWrites (Err Read) faults faults' = faults' ≡ faults
 FailsWrites (Err Write) faults faults' = faults' ≡ faults + 1
 FailsWrites (Err Memory) faults faults' = faults' ≡ faults
 
--- P holds of an error by which bytes can't be had: a read failed, or memory was refused
+-- P holds if a read or an allocation failed, and the error is one of these
 abbrev pub FailsReading : DriveError → Type 0 → Type 0
 FailsReading (Unreadable line) P = ⊥
 FailsReading Read P = P

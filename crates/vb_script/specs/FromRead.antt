@@ -1,6 +1,6 @@
--- What a source made of a reader stands on.
+-- The reader of a source.
 use Rattle.vb_script.specs.declared.source.FromRead.{FromRead}
 
--- the reader that it reads from
+-- the reader from which the source reads
 abbrev pub source_reader : {T : Type 0} → FromRead T → T
 source_reader source = source.inner

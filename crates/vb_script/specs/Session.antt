@@ -1,4 +1,4 @@
--- What a session answers to the lines of its input.
+-- The answers of a session to the lines of its input.
 use Rattle.std.specs.Prelude.{◌≡◌, ℕ, ◌+◌, ◌-◌, ◌^◌, ◌<◌, ◌≤◌, ◌⊎◌, ◌==◌, List, [], ◌∷◌, ◌++◌}
 use Rattle.std.specs.Prelude.{length, take, slice_get, count_by, Option, Some, None, Result, Ok}
 use Rattle.std.specs.Prelude.{Err, IsTrue, IfSome, IsSomeAnd}
@@ -11,8 +11,8 @@ use Rattle.vb_command.specs.Reading.{asks_memory, reading, script}
 use Rattle.vb_script.specs.declared.error.DriveError.{DriveError}
 use Rattle.vb_script.specs.declared.error.DriveError.TheVariants.{Unreadable, Read, Write, Memory}
 
--- what a line that asks for this does to the slots, and what it is answered: nothing, or what its
--- command does
+-- the answer to a line with this reading and its effect on the slots: none if it has no command,
+-- otherwise those of its command
 abbrev pub RepliesTo : Option (Option Order) → List Slot → Option Reply → List Slot → Type 0
 RepliesTo None s r t = ⊥
 RepliesTo (Some None) s r t = (r ≡ None) × (t ≡ s)
@@ -23,7 +23,7 @@ abbrev pub line_of_any : Option Reply → List ℕ
 line_of_any None = []
 line_of_any (Some r) = line_of r
 
--- the error where the line of this number gives no command
+-- the error of a line that has no command; `number` is the number of the line
 abbrev pub IsUnread : List ℕ → ℕ → DriveError → Type 0
 IsUnread line number (Unreadable n) =
     (n ≡ number) × ((number ≡ 2 ^ 64 - 1) ⊎ (reading line ≡ None))
@@ -31,7 +31,8 @@ IsUnread line number Read = ⊥
 IsUnread line number Write = ⊥
 IsUnread line number Memory = IsTrue (asks_memory (reading line))
 
--- the line of this number was carried out, and its answer, if it has one, added to the bytes
+-- the line was answered: its command was run, and its answer, if it has one, was appended to the
+-- bytes
 pub record AnswersLine (line : List ℕ) (number : ℕ) (slots slots' : List Slot)
     (old new : Option (List ℕ)) : Type 0 where
   pub numbered : number < 2 ^ 64 - 1
@@ -39,18 +40,18 @@ pub record AnswersLine (line : List ℕ) (number : ℕ) (slots slots' : List Slo
   pub ran : RepliesTo (reading line) slots answer slots'
   pub added : Appends old new (line_of_any answer)
 
--- the same of a last line, which no line feed ends: without bytes it is none
+-- the same for a last line without a line feed; without bytes it is not a line
 abbrev pub AnswersLast : List ℕ → ℕ → List Slot → List Slot → Option (List ℕ) → Option (List ℕ)
     → Type 0
 AnswersLast [] number slots slots' old new = (slots' ≡ slots) × Keeps old new
 AnswersLast (b ∷ bytes) number slots slots' old new =
     AnswersLine (b ∷ bytes) number slots slots' old new
 
--- the answers, one a line
+-- the answers, one on each line
 abbrev pub lines_of : List Reply → List ℕ
 lines_of replies = flat_map line_of replies
 
--- commands were run from sixteen empty slots on, and the answers written
+-- commands were run, starting with sixteen empty slots, and their answers were written
 pub record AnswersRun (old new : Option (List ℕ)) : Type 0 where
   pub commands : List Order
   pub replies : List Reply
@@ -58,8 +59,8 @@ pub record AnswersRun (old new : Option (List ℕ)) : Type 0 where
   pub ran : Run empty_slots commands replies last
   pub written : Appends old new (lines_of replies)
 
--- the lines were answered: their commands were run from sixteen empty slots on, and the answers
--- written
+-- the lines were answered: their commands were run, starting with sixteen empty slots, and the
+-- answers were written
 pub record AnswersLines (ls : List (List ℕ)) (old new : Option (List ℕ)) : Type 0 where
   pub commands : List Order
   pub read : script 1 ls ≡ Some commands
@@ -68,8 +69,8 @@ pub record AnswersLines (ls : List (List ℕ)) (old new : Option (List ℕ)) : T
   pub ran : Run empty_slots commands replies last
   pub written : Appends old new (lines_of replies)
 
--- the line of this number, which stands in what was read, can't be read, and those before it were
--- answered
+-- the line of this number, within the bytes that were read, cannot be read, and the lines before it
+-- were answered
 pub record StopsAt (input rest : List ℕ) (line : ℕ) (old new : Option (List ℕ)) : Type 0 where
   pub bytes : List ℕ
   pub front : input ≡ bytes ++ rest
@@ -82,7 +83,7 @@ pub record StopsAt (input rest : List ℕ) (line : ℕ) (old new : Option (List 
   pub unread : (line ≡ 2 ^ 64 - 1) ⊎ (reading this ≡ None)
   pub answered : AnswersLines earlier old new
 
--- how many lines end within the bytes, one a line feed
+-- the number of lines that end within the bytes: one for each line feed
 abbrev pub count_ended : List ℕ → ℕ
 count_ended bytes = count_by (λ b. b == 10) bytes
 
@@ -90,13 +91,13 @@ count_ended bytes = count_by (λ b. b == 10) bytes
 abbrev pub ended_lines : List ℕ → List (List ℕ)
 ended_lines bytes = take (count_ended bytes) (lines bytes)
 
--- all but the rest of the input was read, and the lines that end in what was read were answered
+-- the session read the input up to `rest`, and answered all lines that end in what it read
 abbrev pub AnswersEnded : List ℕ → List ℕ → Option (List ℕ) → Option (List ℕ) → Type 0
 AnswersEnded input rest old new =
     (bytes : List ℕ) × (input ≡ bytes ++ rest) × AnswersLines (ended_lines bytes) old new
 
--- all but the rest of the input was read, and of the lines that end in what was read some first
--- ones were answered; if the next one ends there too, it is a command that takes memory to be read
+-- the session read the input up to `rest`, and answered the first `number` of the lines that end in
+-- what it read. If the next line ends there too, its command needs memory to be read
 pub record AnswersSome (input rest : List ℕ) (old new : Option (List ℕ)) : Type 0 where
   pub bytes : List ℕ
   pub front : input ≡ bytes ++ rest
@@ -106,8 +107,8 @@ pub record AnswersSome (input rest : List ℕ) (old new : Option (List ℕ)) : T
   pub next : number < count_ended bytes
       → IsSomeAnd (slice_get (lines input) number) (λ line. IsTrue (asks_memory (reading line)))
 
--- what a session read of its input and what it wrote, by how it ended; the rest of the input is
--- still to come
+-- the input that a session read and the answers that it wrote, by its result; `rest` is the input
+-- that remains
 abbrev pub SessionEnds : {X : Type 0} → Result X DriveError → List ℕ → List ℕ
     → Option (List ℕ) → Option (List ℕ) → Type 0
 SessionEnds (Ok x) input rest old new = AnswersLines (lines input) old new × (rest ≡ [])
@@ -116,7 +117,7 @@ SessionEnds (Err Read) input rest old new = AnswersEnded input rest old new
 SessionEnds (Err Write) input rest old new = Unit {0}
 SessionEnds (Err Memory) input rest old new = AnswersSome input rest old new
 
--- how a session ended, of an input and an output that tell their bytes
+-- the same for an input that tells its bytes
 abbrev pub EndsIfKnown : {X : Type 0} → Result X DriveError → Option (List ℕ) → Option (List ℕ)
     → Option (List ℕ) → Option (List ℕ) → Type 0
 EndsIfKnown r remaining remaining' old new = IfSome remaining (λ input.

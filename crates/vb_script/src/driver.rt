@@ -1,4 +1,4 @@
-//! The whole of an input, line by line.
+//! A whole input, line by line.
 ghost use Rattle.std.specs.Prelude.{◌≡◌, ◌<◌, ◌≤◌, [], length, take, IfErr, IfOk, OnOk};
 ghost use Rattle.std.specs.Io.KnownBytes.{append_known, Appends};
 ghost use Rattle.vb_command.specs.Machine.{empty_slots};
@@ -15,31 +15,33 @@ use crate::sink::Sink;
 use crate::source::Source;
 use std::alloc::{AllocError, Allocator};
 
-/// Reads lines to the end of the input, carries out the command of each and writes the answers,
-/// one a line. The slots are empty at first and gone at the end.
+/// Reads lines to the end of the input, runs the command of each, and writes the answers, one on
+/// each line. The slots are empty at the start, and are dropped at the end.
 ///
-/// The answers to all whole lines that were read are written before more bytes are asked for.
-/// Memory is taken for the sets and what a command answers, for 65536 bytes of the input or at most
-/// twice the longest line, and once for 65536 bytes of answers: none is taken to print them.
+/// The session writes the answers to all whole lines that it has read before it reads more bytes.
+/// It allocates memory for the sets and the answers of commands, for 65536 bytes of the input or at
+/// most twice the longest line, and once for 65536 bytes of answers. It does not allocate to print
+/// answers.
 ///
-/// A stream tells its bytes where `R.remaining` or `W.contents` is `Some`, as that of a slice and
-/// of a vector is. Clause `ends` says how the session ended, of a source that tells them. Clause
-/// `ran` says of any source, and a sink that tells them, that what was written are the answers of
-/// some commands, run from empty slots on. Of a sink that doesn't, no clause says what was written.
+/// A stream tells its bytes if `R.remaining` or `W.contents` is `Some`, as for a slice and a
+/// vector. Clause `ends` states how the session ended, for a source that tells its bytes. Clause
+/// `ran` states, for any source and a sink that tells its bytes, that the session wrote the answers
+/// of some commands, run from empty slots on. For a sink that does not tell its bytes, no clause
+/// states what was written.
 ///
-/// A line that is blank or a comment asks for nothing, and has no answer. A line has ended where
-/// its line feed was read.
+/// A line that is blank or a comment has no command and no answer. A line has ended once its line
+/// feed was read.
 ///
-/// - `Ok`: the input ended, and each line that asks for something was answered.
-/// - `Unreadable`: this line can't be read, or its number is `usize::MAX`, and it did nothing;
-///   those before it were answered.
-/// - `Read`: a read failed, as the source's count of faults tells; the lines that had ended were
-///   answered.
-/// - `Write`: a write failed, as the sink's count of faults tells; what was read and written is
-///   open.
-/// - `Memory`: a request for memory was refused outside of a command; of the lines that had ended
-///   some first ones were answered, perhaps none. If any of them was left unanswered, the first
-///   that was is an `import`, `indices` or `take` that can be read.
+/// - `Ok`: the input ended, and each line with a command was answered.
+/// - `Unreadable`: this line cannot be read, or its number is `usize::MAX`, and it had no effect;
+///   the lines before it were answered.
+/// - `Read`: a read failed, and the source's count of faults is one more; all lines that had ended
+///   were answered.
+/// - `Write`: a write failed, and the sink's count of faults is one more; no clause states what was
+///   read and written.
+/// - `Memory`: an allocation outside a command failed. Of the lines that had ended, the first ones
+///   were answered, possibly none. If one of them was not answered, the first such line is an
+///   `import`, `indices` or `take` that can be read.
 pub fn drive<A: Allocator + Clone, R: Source, W: Sink>(
     alloc: A,
     input: &mut R,
@@ -53,12 +55,12 @@ pub fn drive<A: Allocator + Clone, R: Source, W: Sink>(
 {
     let (mut session, mut feed, mut out) = begin(alloc).map_err(|_| DriveError::Memory)?;
     let ended = answer_all(&mut session, &mut feed, &mut out, input, output);
-    // By a call, since the end of a block takes ten times as long to prove.
+    // This is a call, since the end of a block takes ten times as long to prove.
     drop((session, feed, out));
     ended
 }
 
-/// Empty slots, nothing read and nothing to be written.
+/// Returns empty slots, an empty feed and an empty outbox.
 fn begin<A: Allocator + Clone>(alloc: A) -> Result<(Session<A>, Feed<A>, Outbox<A>), AllocError>
     ensures slots { IfOk result (λ it. it.0.pool ≡ empty_slots) }
     ensures feed { IfOk result (λ it. it.1 ≡ []) }
@@ -96,7 +98,7 @@ fn answer_all<A: Allocator + Clone, R: Source, W: Sink>(
     answer_last(session, feed.as_slice(), number, out, output)
 }
 
-/// Answers a last line, which no line feed ends, if it has any bytes. Then what waits is written.
+/// Answers a last line without a line feed, if it has any bytes. Then writes the answers that wait.
 fn answer_last<A: Allocator + Clone, W: Sink>(
     session: &mut Session<A>,
     line: &[u8],
@@ -117,8 +119,8 @@ fn answer_last<A: Allocator + Clone, W: Sink>(
     out.flush(output).map_err(|_| DriveError::Write)
 }
 
-/// Answers the line of this number: the first `len` of these bytes, without its line feed. Where it
-/// gives no command, what waits is written.
+/// Answers the line with this number: the first `len` of the bytes, without its line feed. If that
+/// fails, writes the answers that wait and returns the error.
 fn answer_line<A: Allocator + Clone, W: Sink>(
     session: &mut Session<A>,
     bytes: &[u8],

@@ -1,14 +1,14 @@
-//! Why a session ends before its input does.
+//! The reasons why a session ends before its input does.
 
 use thiserror::Error;
 
-/// Why [`drive`](crate::drive) ended before the end of its input was answered.
+/// The reason why [`drive`](crate::drive) ended before it answered its whole input.
 #[derive(Clone, Copy, Debug, PartialEq, Eq, Error)]
 pub enum DriveError {
-    /// A line is no command, or its number is 18446744073709551615.
+    /// A line is not a command, or its number is 18446744073709551615.
     #[error("line {line} can't be read")]
     Unreadable {
-        /// The number of the line, from 1 on.
+        /// The number of the line, counted from 1.
         line: u64,
     },
     /// The source failed.
@@ -17,7 +17,7 @@ pub enum DriveError {
     /// The sink failed.
     #[error("output can't be written")]
     Write,
-    /// A request for memory was refused outside of a command.
+    /// An allocation outside a command failed.
     #[error("out of memory")]
     Memory,
 }

@@ -1,5 +1,5 @@
-//! What a stream answers where it fails.
+//! The error of a stream.
 
-/// A read or a write failed. It says no more: whoever made the stream knows the cause.
+/// A read or a write failed. It has no details: the maker of the stream knows the cause.
 #[derive(Clone, Copy, Debug, PartialEq, Eq)]
 pub struct Fault;

@@ -1,4 +1,4 @@
-//! Bytes that were read and aren't used yet.
+//! Bytes that were read and not yet used.
 ghost use Rattle.std.specs.Prelude.{◌≡◌, ℕ, ◌+◌, ◌-◌, ◌^◌, ◌<◌, ◌≤◌, ◌==◌, List, [], length, take};
 ghost use Rattle.std.specs.Prelude.{drop, position, slice_range, IfErr, IfOk, OnErr, OnOk};
 ghost use Rattle.std.specs.Io.KnownBytes.{prepend_known, IsAtEnd, Keeps};
@@ -15,23 +15,23 @@ use std::alloc::{AllocError, Allocator};
 use std::marker::Model;
 use std::simd::prelude::*;
 
-/// How many bytes there is room for at first.
+/// The first size of the buffer, in bytes.
 const CHUNK: usize = 65536;
 
-/// How many bytes are looked at at once for a line feed.
+/// The number of bytes that are searched at once for a line feed.
 const NEAR: usize = 32;
 
-/// The bytes that were read and aren't used yet. Contracts see the list of them.
+/// The bytes that were read and not yet used. Contracts see the list of them.
 #[derive(Drop)]
 pub(crate) struct Feed<A: Allocator> {
-    /// The room for bytes, each of which has been written, so that reads go there.
+    /// The buffer for reads. All of its bytes are initialized.
     room: Vec<u8, A>,
-    /// How many bytes at its front were let go.
+    /// The number of bytes at the start that were used.
     start: usize,
-    /// How many bytes at its front were read.
+    /// The number of bytes at the start that were read.
     end: usize,
-    /// How many bytes from `start` on are known to be no line feed, so that none is looked at
-    /// twice.
+    /// The number of bytes from `start` on that are known not to be line feeds, so that no byte is
+    /// searched twice.
     searched: usize,
 }
 
@@ -48,7 +48,7 @@ impl<A: Allocator> Model for Feed<A> {
 }
 
 impl<A: Allocator> Feed<A> {
-    /// No bytes. This takes no memory.
+    /// Returns a feed without bytes. Does not allocate.
     pub(crate) fn new(alloc: A) -> Self
         ensures { result ≡ [] }
     {
@@ -60,7 +60,7 @@ impl<A: Allocator> Feed<A> {
         }
     }
 
-    /// All the bytes.
+    /// Returns all the bytes.
     #[tactic(auto, using(crate::proofs::Parts::parts))]
     pub(crate) fn as_slice(&self) -> &[u8]
         ensures { result.now ≡ self.now }
@@ -68,7 +68,7 @@ impl<A: Allocator> Feed<A> {
         &self.room[self.start..self.end]
     }
 
-    /// The place of the first line feed.
+    /// Returns the index of the first line feed, if there is one.
     #[tactic(auto, using(crate::proofs::Parts::parts))]
     pub(crate) fn line_feed(&mut self) -> Option<usize>
         ensures place { result ≡ position (λ b. b == 10) self.old }
@@ -84,7 +84,7 @@ impl<A: Allocator> Feed<A> {
         }
     }
 
-    /// Lets the first `n` bytes go.
+    /// Removes the first `n` bytes, which the caller must prove to be there.
     #[tactic(auto, using(crate::proofs::Parts::parts))]
     pub(crate) fn consume(&mut self, n: usize)
         requires { n ≤ length self.old }
@@ -94,10 +94,11 @@ impl<A: Allocator> Feed<A> {
         self.searched = 0;
     }
 
-    /// Reads once and answers whether more bytes came; none come at the end of the input.
+    /// Reads once and returns whether more bytes came; none come at the end of the input.
     ///
-    /// Bytes that were let go give up their room first. Where none is left it is doubled before the
-    /// read, so that no byte is lost where memory is refused. It fails by `Read` or by `Memory`.
+    /// First reuses the space of the bytes that were removed. If none is left, doubles the buffer
+    /// before the read, so that no byte is lost if memory runs out. Returns `Read` if the read
+    /// fails and `Memory` if memory runs out.
     #[tactic(auto, using(crate::proofs::Parts::filled))]
     pub(crate) fn fill<R: Source>(&mut self, input: &mut R) -> Result<bool, DriveError>
         ensures kept { Keeps
@@ -120,7 +121,8 @@ impl<A: Allocator> Feed<A> {
     }
 }
 
-/// The place of the first line feed, where none stands among the first `searched` bytes.
+/// Returns the index of the first line feed. The caller must prove that there is none among the
+/// first `searched` bytes.
 #[tactic(auto, using(crate::proofs::Searches::searches))]
 fn line_feed_from(bytes: &[u8], searched: usize) -> Option<usize>
     requires { searched ≤ position_or_len (λ b. b == 10) bytes.now }
@@ -133,7 +135,8 @@ fn line_feed_from(bytes: &[u8], searched: usize) -> Option<usize>
     }
 }
 
-/// The place of the first line feed. Most lines are short, so some bytes are looked at first.
+/// Returns the index of the first line feed. Most lines are short, so it first searches a few bytes
+/// at once.
 #[tactic(auto, using(crate::proofs::Searches::first_byte))]
 fn line_feed(bytes: &[u8]) -> Option<usize>
     ensures { result ≡ position (λ b. b == 10) bytes.now }
@@ -147,7 +150,8 @@ fn line_feed(bytes: &[u8]) -> Option<usize>
     memchr(b'\n', bytes)
 }
 
-/// The place of the first line feed among the `NEAR` bytes at the front, or `NEAR`.
+/// Returns the index of the first line feed among the first `NEAR` bytes, or `NEAR` if there is
+/// none.
 #[inline(always)]
 fn line_feed_near(bytes: &[u8]) -> usize
     requires { NEAR ≤ length bytes.now }
@@ -163,7 +167,7 @@ fn line_feed_near(bytes: &[u8]) -> usize
     }
 }
 
-/// Moves the bytes from `start` up to `end` to the front.
+/// Moves the bytes `start..end` to the start of the buffer.
 #[tactic(auto, using(crate::proofs::Parts::parts))]
 fn move_to_front<A: Allocator>(room: &mut Vec<u8, A>, start: usize, end: usize)
     requires order { start ≤ end }
@@ -176,7 +180,7 @@ fn move_to_front<A: Allocator>(room: &mut Vec<u8, A>, start: usize, end: usize)
     }
 }
 
-/// Doubles the room, or makes the first one, where the first `end` bytes take all of it.
+/// Doubles the buffer, or makes the first one, if the first `end` bytes fill it.
 fn leave_room<A: Allocator>(room: &mut Vec<u8, A>, end: usize) -> Result<(), AllocError>
     requires { end ≤ length room.old.items }
     ensures left { OnOk result (end < length room.new.items) }
@@ -190,7 +194,8 @@ fn leave_room<A: Allocator>(room: &mut Vec<u8, A>, end: usize) -> Result<(), All
     room.resize(len.saturating_add(len.max(CHUNK)), 0)
 }
 
-/// Reads once behind the first `end` bytes, and answers how many bytes came.
+/// Reads once into the buffer after the first `end` bytes, and returns the number of bytes that
+/// came.
 fn read_behind<R: Source>(room: &mut [u8], end: usize, input: &mut R) -> Result<usize, Fault>
     requires { end < length room.old }
     ensures front { take end room.new ≡ take end room.old }

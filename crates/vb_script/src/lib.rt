@@ -1,8 +1,8 @@
 //! Sessions: lines of commands in, answers out.
 //!
-//! [`drive`] reads the lines of a [`Source`], carries out their commands on sixteen slots for sets
-//! of bits, and writes the answers to a [`Sink`]. [`FromRead`] and [`ToWrite`] make these of a
-//! reader and a writer of `std`. [`run`] carries out [`Command`]s that are at hand on a [`Pool`].
+//! [`drive`] reads the lines of a [`Source`], runs their commands on sixteen slots for sets of
+//! bits, and writes the answers to a [`Sink`]. [`FromRead`] and [`ToWrite`] make a source and a
+//! sink from a reader and a writer of `std`. [`run`] runs a slice of [`Command`]s on a [`Pool`].
 #![tactic(auto)]
 
 mod driver;

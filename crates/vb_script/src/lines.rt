@@ -12,9 +12,8 @@ use crate::sink::Sink;
 use crate::source::Source;
 use std::alloc::Allocator;
 
-/// Reads until a whole line has come and answers the place of its line feed; `None` where the
-/// input ends first. All answers are written before each read. It fails by any error but
-/// `Unreadable`.
+/// Reads until a whole line has come. Returns the index of its line feed, or `None` if the input
+/// ends first. Writes all answers before each read. Returns any error but `Unreadable`.
 pub(crate) fn line_ready<A: Allocator, R: Source, W: Sink>(
     feed: &mut Feed<A>,
     out: &mut Outbox<A>,
@@ -46,8 +45,8 @@ pub(crate) fn line_ready<A: Allocator, R: Source, W: Sink>(
     }
 }
 
-/// How many bytes the line has whose line feed is at this place, without the carriage return before
-/// that.
+/// Returns the number of bytes of the line whose line feed is at index `at`, without the carriage
+/// return before it.
 #[tactic(auto, using(crate::proofs::InputLines::fronts))]
 pub(crate) fn line_len(bytes: &[u8], at: usize) -> usize
     requires { at ≤ length bytes.now }

@@ -18,24 +18,25 @@ use std::alloc::{AllocError, Allocator};
 use std::marker::Model;
 use vb_command::{Answer, Printer};
 
-/// How many bytes wait at most.
+/// The greatest number of bytes that wait.
 const LIMIT: usize = 65536;
 
-/// How long the room is at least once it has grown.
+/// The least length of the buffer once it has grown.
 const FIRST_ROOM: usize = 1024;
 
-/// How many bytes a number in decimal and a byte beside it have at most.
+/// The greatest number of bytes of a number in decimal and one more byte.
 const PIECE: usize = 21;
 
-/// The text of the answers that waits to be written. Contracts see its bytes.
+/// The text of the answers that wait to be written. Contracts see its bytes.
 ///
-/// Its memory is there from the start, so that no answer takes any: what goes beyond is written.
+/// It allocates all its memory at the start, so that no answer allocates: if there is more text, it
+/// writes the text that waits.
 #[derive(Drop)]
 pub(crate) struct Outbox<A: Allocator> {
-    /// The room for bytes, each of which has been written, so that answers are stored there with
-    /// no look at a capacity. It grows up to `LIMIT`, within the memory that it has.
+    /// The buffer for answers. All of its bytes are initialized, so that a store needs no test of a
+    /// capacity. It grows up to `LIMIT`, within the memory that it has.
     room: Vec<u8, A>,
-    /// How many bytes at its front wait.
+    /// The number of bytes at the start that wait.
     end: usize,
 }
 
@@ -52,7 +53,7 @@ impl<A: Allocator> Model for Outbox<A> {
 }
 
 impl<A: Allocator> Outbox<A> {
-    /// No answers, and memory for them.
+    /// Returns an outbox without answers, and allocates its memory.
     pub(crate) fn new(alloc: A) -> Result<Self, AllocError>
         ensures { IfOk result (λ out. out ≡ []) }
     {
@@ -62,7 +63,7 @@ impl<A: Allocator> Outbox<A> {
         })
     }
 
-    /// Adds the line of an answer.
+    /// Appends the line of an answer.
     pub(crate) fn push<W: Sink>(&mut self, answer: &Answer<A>, output: &mut W) -> Result<(), Fault>
         ensures { Adds (line_of (reply answer.now)) result
             (W.contents output.old) self.old (W.contents output.new) self.new
@@ -71,8 +72,8 @@ impl<A: Allocator> Outbox<A> {
         answer.print(self, output)
     }
 
-    /// Adds at most `LIMIT` truth values as binary digits. What waits is written first where both
-    /// would be more than that.
+    /// Appends at most `LIMIT` truth values as binary digits. First writes the bytes that wait if
+    /// all together are more than `LIMIT`.
     #[tactic(auto, using(crate::proofs::KnownBytes::known_bytes))]
     fn put_block<W: Sink>(&mut self, bits: &[bool], output: &mut W) -> Result<(), Fault>
         requires { length bits.now ≤ LIMIT }
@@ -88,7 +89,7 @@ impl<A: Allocator> Outbox<A> {
         Ok(())
     }
 
-    /// Adds bytes. What waits is written first where both would be more than `LIMIT`.
+    /// Appends bytes. First writes the bytes that wait if all together are more than `LIMIT`.
     #[tactic(auto, using(crate::proofs::KnownBytes::known_bytes))]
     fn put<W: Sink>(&mut self, bytes: &[u8], output: &mut W) -> Result<(), Fault>
         ensures { Adds bytes.now result
@@ -106,8 +107,8 @@ impl<A: Allocator> Outbox<A> {
         Ok(())
     }
 
-    /// Adds a byte, and then a number in decimal, where both may have no room. It stands apart, so
-    /// that numbers that have it save no registers for these calls.
+    /// Appends a byte and then a number in decimal, if the buffer may have no space for both. It is
+    /// a separate function, so that numbers that have the space save no registers for these calls.
     #[cold]
     #[inline(never)]
     fn put_behind_by_pieces<W: Sink>(
@@ -124,8 +125,8 @@ impl<A: Allocator> Outbox<A> {
         self.put_number(n, output)
     }
 
-    /// Adds a number in decimal, and then a line feed, where both may have no room. It stands apart
-    /// likewise.
+    /// Appends a number in decimal and then a line feed, if the buffer may have no space for both.
+    /// It is a separate function for the same reason.
     #[cold]
     #[inline(never)]
     fn put_last_number_by_pieces<W: Sink>(&mut self, n: usize, output: &mut W) -> Result<(), Fault>
@@ -137,7 +138,7 @@ impl<A: Allocator> Outbox<A> {
         self.put_end(output)
     }
 
-    /// Writes all that waits.
+    /// Writes all bytes that wait.
     pub(crate) fn flush<W: Sink>(&mut self, output: &mut W) -> Result<(), Fault>
         ensures written { OnOk result
             (Appends (W.contents output.old) (W.contents output.new) self.old) }
@@ -153,7 +154,7 @@ impl<A: Allocator> Outbox<A> {
     }
 }
 
-/// Behind an answer stands a line feed.
+/// Each answer ends with a line feed.
 impl<A: Allocator, W: Sink> Printer<W> for Outbox<A> {
     ghost use Rattle.vb_script.specs.Outbox.{Adds, Adds-nil, Adds-trans};
 
@@ -203,7 +204,7 @@ impl<A: Allocator, W: Sink> Printer<W> for Outbox<A> {
         self.put(b"\n", output)
     }
 
-    /// It is no call, so that words of a known length are stored and not copied by one.
+    /// It is inlined, so that words of a known length are stored directly and not copied by a call.
     #[inline(always)]
     #[tactic(auto, using(crate::proofs::KnownBytes::known_bytes))]
     fn put_last_words(&mut self, words: &str, output: &mut W) -> Result<(), Fault> {
@@ -225,8 +226,8 @@ impl<A: Allocator, W: Sink> Printer<W> for Outbox<A> {
     }
 }
 
-/// Makes the room at least so long, within its memory. Where it grows it gets at least twice as
-/// long, or `LIMIT` bytes, so that it seldom does.
+/// Extends the buffer to at least `size` bytes, within its memory. If it grows, it gets at least
+/// twice as long, or `LIMIT` bytes, so that it grows seldom.
 fn lengthen<A: Allocator>(room: &mut Vec<u8, A>, size: usize)
     requires size { size ≤ LIMIT }
     requires most { length room.old.items ≤ LIMIT }

@@ -1,4 +1,4 @@
-//! What the lines of an input are run on.
+//! The state of a session.
 ghost use Rattle.std.specs.Prelude.{◌≡◌, ◌<◌, ◌≤◌, ◌-◌, ◌^◌, length, take, option_map};
 ghost use Rattle.std.specs.Prelude.{IfErr, IfOk, OnErr, OnOk};
 ghost use Rattle.vb_command.specs.Machine.{empty_slots};
@@ -11,7 +11,7 @@ use std::alloc::Allocator;
 use vb_command::{Answer, Unread, command_within};
 use vb_pool::Pool;
 
-/// The slots of a session, and the allocator that their sets are made with.
+/// The slots of a session, and the allocator for their sets.
 #[derive(Drop)]
 pub(crate) struct Session<A: Allocator + Clone> {
     alloc: A,
@@ -19,7 +19,7 @@ pub(crate) struct Session<A: Allocator + Clone> {
 }
 
 impl<A: Allocator + Clone> Session<A> {
-    /// All slots are empty. This takes no memory.
+    /// Returns a session with empty slots. Does not allocate.
     pub(crate) fn new(alloc: A) -> Self
         ensures { result.pool ≡ empty_slots }
     {
@@ -29,11 +29,11 @@ impl<A: Allocator + Clone> Session<A> {
         }
     }
 
-    /// Reads the line of this number, carries out its command and answers it; a line that asks for
-    /// nothing has no answer. The line is the first `len` of these bytes, without its line feed.
+    /// Parses the line with this number, runs its command and returns its answer; a line without a
+    /// command has no answer. The line is the first `len` of the bytes, without its line feed.
     ///
-    /// Refused by `Unreadable`, where the line is no command or its number is 18446744073709551615,
-    /// and by `Memory`, where that is refused to read it. Then nothing changes.
+    /// Returns `Unreadable` if the line is not a command or its number is 18446744073709551615, and
+    /// `Memory` if memory runs out while it parses the line. Nothing changes on error.
     #[inline(always)]
     pub(crate) fn answer(
         &mut self,

@@ -1,4 +1,4 @@
-//! Where bytes go to.
+//! Outputs of bytes.
 ghost use Rattle.std.specs.Prelude.{◌≡◌, ℕ, List, Option, None, OnOk};
 ghost use Rattle.std.specs.Io.KnownBytes.{Appends};
 ghost use Rattle.vb_script.specs.Fault.{CountsFault};
@@ -10,21 +10,21 @@ use vb_count::GhostCount;
 
 /// A writer of bytes that counts its faults in contracts.
 pub trait Sink {
-    /// The bytes that were written, where the sink tells them.
+    /// The bytes that were written, if the sink tells them.
     ghost contents: { Self → Option (List ℕ) } = { λ _. None };
 
-    /// How many writes have failed.
+    /// The number of writes that have failed.
     ghost faults: { Self → ℕ };
 
-    /// Writes all bytes, or fails. How many bytes a failed write wrote is open.
+    /// Writes all bytes, or fails. No clause states how many bytes a failed write wrote.
     fn write(&mut self, bytes: &[u8]) -> Result<(), Fault>
         ensures bytes { OnOk result (Appends (contents self.old) (contents self.new) bytes.now) }
         ensures counts { CountsFault result (faults self.old) (faults self.new) };
 }
 
-/// The [`Sink`] that writes to a writer of `std`. Each error of the writer is a fault, and so is a
-/// write that takes none of the bytes: no write is tried again, also not after `Interrupted`. The
-/// writer is never flushed.
+/// A [`Sink`] that writes to a writer of `std`. Each error of the writer is a fault, and so is a
+/// write that takes none of the bytes: the sink never retries a write, not even after
+/// `Interrupted`. It never flushes the writer.
 #[derive(Drop)]
 pub struct ToWrite<T: Write> {
     inner: T,
@@ -34,7 +34,7 @@ pub struct ToWrite<T: Write> {
 impl<T: Write> ToWrite<T> {
     ghost use Rattle.vb_script.specs.ToWrite.{sink_writer};
 
-    /// The sink that writes to `inner`. No write has failed so far. This takes no memory.
+    /// Returns a sink that writes to `inner`. No write has failed so far. Does not allocate.
     pub fn new(inner: T) -> Self
         ensures inner { sink_writer result ≡ inner }
         ensures faults { ⟦<ToWrite<T> as Sink>⟧.faults result ≡ 0 }
@@ -45,7 +45,7 @@ impl<T: Write> ToWrite<T> {
         }
     }
 
-    /// The writer, which has the bytes that were written.
+    /// Returns the writer, which has the bytes that were written.
     pub fn into_inner(self) -> T
         ensures { result ≡ sink_writer self }
     {
@@ -53,7 +53,7 @@ impl<T: Write> ToWrite<T> {
     }
 }
 
-/// The type's name alone. The text may change.
+/// Prints only the name of the type. The text may change.
 impl<T: Write> fmt::Debug for ToWrite<T> {
     fn fmt<W: fmt::Write>(&self, f: &mut fmt::Formatter<W>) -> fmt::Result {
         f.write_str("ToWrite")
@@ -76,9 +76,9 @@ impl<T: Write> Sink for ToWrite<T> {
     }
 }
 
-/// Writes all bytes, in as many writes as the writer takes for them, up to its first error.
+/// Writes all bytes with as many writes as the writer needs, up to its first error.
 ///
-/// This is no `write_all` of `std`, which tries again after `Interrupted`.
+/// Unlike `write_all` of `std`, it does not retry after `Interrupted`.
 fn write_all<W: Write>(writer: &mut W, bytes: &[u8]) -> Result<(), Fault>
     ensures { OnOk result (Appends (W.contents writer.old) (W.contents writer.new) bytes.now) }
 {

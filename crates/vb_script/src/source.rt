@@ -1,4 +1,4 @@
-//! Where bytes come from.
+//! Inputs of bytes.
 ghost use Rattle.std.specs.Prelude.{◌≡◌, ℕ, List, Option, None};
 ghost use Rattle.std.specs.Io.{ReadsAtMost};
 ghost use Rattle.std.specs.Io.KnownBytes.{ReadConsumes};
@@ -11,21 +11,21 @@ use vb_count::GhostCount;
 
 /// A reader of bytes that counts its faults in contracts.
 pub trait Source {
-    /// The bytes that are still to come, where the source tells them.
+    /// The bytes that remain, if the source tells them.
     ghost remaining: { Self → Option (List ℕ) } = { λ _. None };
 
-    /// How many reads have failed.
+    /// The number of reads that have failed.
     ghost faults: { Self → ℕ };
 
-    /// Puts bytes at the front of `buf` and answers how many: none only at the end, or where `buf`
-    /// is empty. A read that fails takes no byte.
+    /// Reads bytes into the start of `buf` and returns their number. It is 0 only at the end of the
+    /// input, or if `buf` is empty. A failed read takes no byte.
     fn read(&mut self, buf: &mut [u8]) -> Result<usize, Fault>
         ensures bound { ReadsAtMost result buf.new }
         ensures bytes { ReadConsumes (remaining self.old) (remaining self.new) result buf.new }
         ensures counts { CountsFault result (faults self.old) (faults self.new) };
 }
 
-/// The [`Source`] that reads from a reader of `std`. Each error of the reader is a fault.
+/// A [`Source`] that reads from a reader of `std`. Each error of the reader is a fault.
 #[derive(Drop)]
 pub struct FromRead<T: Read> {
     inner: T,
@@ -35,7 +35,7 @@ pub struct FromRead<T: Read> {
 impl<T: Read> FromRead<T> {
     ghost use Rattle.vb_script.specs.FromRead.{source_reader};
 
-    /// The source that reads from `inner`. No read has failed so far. This takes no memory.
+    /// Returns a source that reads from `inner`. No read has failed so far. Does not allocate.
     pub fn new(inner: T) -> Self
         ensures inner { source_reader result ≡ inner }
         ensures faults { ⟦<FromRead<T> as Source>⟧.faults result ≡ 0 }
@@ -46,7 +46,7 @@ impl<T: Read> FromRead<T> {
         }
     }
 
-    /// The reader, which has the bytes that are still to come.
+    /// Returns the reader, which has the bytes that remain.
     pub fn into_inner(self) -> T
         ensures { result ≡ source_reader self }
     {
@@ -54,7 +54,7 @@ impl<T: Read> FromRead<T> {
     }
 }
 
-/// The type's name alone. The text may change.
+/// Prints only the name of the type. The text may change.
 impl<T: Read> fmt::Debug for FromRead<T> {
     fn fmt<W: fmt::Write>(&self, f: &mut fmt::Formatter<W>) -> fmt::Result {
         f.write_str("FromRead")

@@ -1,11 +1,11 @@
-//! Pieces of answers, written into a room behind the bytes that wait there. What stands behind a
-//! piece is any bytes.
+//! Pieces of answers, written into a buffer after the bytes that wait there. The bytes after a
+//! piece may have any value.
 ghost use Rattle.std.specs.Prelude.{◌≡◌, ◌+◌, ◌<◌, ◌≤◌, [], ◌∷◌, ◌++◌, length, decimal};
 ghost use Rattle.std.specs.List.{flat_map};
 ghost use Rattle.vb_command.specs.Printed.{digit_of};
 ghost use Rattle.vb_script.specs.Outbox.{PutsBehind};
 
-/// Writes bytes behind the first `end` ones, and answers where they end.
+/// Writes bytes after the first `end` ones, and returns the index after them.
 #[inline(always)]
 pub(crate) fn write_bytes(room: &mut [u8], end: usize, bytes: &[u8]) -> usize
     requires { end + length bytes.now ≤ length room.old }
@@ -16,7 +16,7 @@ pub(crate) fn write_bytes(room: &mut [u8], end: usize, bytes: &[u8]) -> usize
     behind
 }
 
-/// Writes bytes and a line feed behind the first `end` bytes, and answers where they end.
+/// Writes bytes and a line feed after the first `end` bytes, and returns the index after them.
 #[inline(always)]
 pub(crate) fn write_line(room: &mut [u8], end: usize, bytes: &[u8]) -> usize
     requires { end + length bytes.now < length room.old }
@@ -27,8 +27,8 @@ pub(crate) fn write_line(room: &mut [u8], end: usize, bytes: &[u8]) -> usize
     behind + 1
 }
 
-/// Writes a number in decimal and a line feed behind the first `end` bytes, and answers where they
-/// end.
+/// Writes a number in decimal and a line feed after the first `end` bytes, and returns the index
+/// after them.
 #[inline(always)]
 pub(crate) fn write_number_line(room: &mut [u8], end: usize, n: usize) -> usize
     requires { end + length (decimal n) < length room.old }
@@ -39,7 +39,8 @@ pub(crate) fn write_number_line(room: &mut [u8], end: usize, n: usize) -> usize
     feed + 1
 }
 
-/// Writes a byte and a number in decimal behind the first `end` bytes, and answers where they end.
+/// Writes a byte and a number in decimal after the first `end` bytes, and returns the index after
+/// them.
 #[inline(always)]
 pub(crate) fn write_byte_and_number(room: &mut [u8], end: usize, byte: u8, n: usize) -> usize
     requires { end + length (decimal n) < length room.old }
@@ -49,11 +50,11 @@ pub(crate) fn write_byte_and_number(room: &mut [u8], end: usize, byte: u8, n: us
     write_number(room, end + 1, n)
 }
 
-/// Writes a number in decimal behind the first `end` bytes, and answers where it ends.
+/// Writes a number in decimal after the first `end` bytes, and returns the index after it.
 ///
-/// Its digits are counted first, and so written where they stay: a copy of them would wait until
-/// they are stored. The numbers of a list rise, so most have as many digits as the one before, and
-/// the branches of the count are predicted.
+/// It counts the digits first, so that it can write them in their final position: a copy would wait
+/// until they are stored. The numbers of a list rise, so most have the same number of digits as the
+/// one before, and the branches of the count are predicted.
 #[inline(always)]
 fn write_number(room: &mut [u8], end: usize, n: usize) -> usize
     requires { end + length (decimal n) ≤ length room.old }
@@ -64,7 +65,7 @@ fn write_number(room: &mut [u8], end: usize, n: usize) -> usize
     behind
 }
 
-/// How many digits a number has.
+/// Returns the number of digits of a number.
 #[inline(always)]
 fn digit_count(n: u64) -> usize
     ensures { result ≡ length (decimal n) }
@@ -80,7 +81,7 @@ fn digit_count(n: u64) -> usize
     }
 }
 
-/// How many digits a number of at most eight has.
+/// Returns the number of digits of a number below 100,000,000.
 #[inline(always)]
 fn short_count(n: u64) -> usize
     requires { n < 100000000 }
@@ -94,7 +95,7 @@ fn short_count(n: u64) -> usize
     }
 }
 
-/// How many digits a number of at most four has.
+/// Returns the number of digits of a number below 10,000.
 #[inline(always)]
 #[tactic(auto, using(crate::proofs::Lengths::counts))]
 fn few_count(n: u64) -> usize
@@ -110,7 +111,8 @@ fn few_count(n: u64) -> usize
     }
 }
 
-/// Writes truth values as binary digits behind the first `end` bytes, and answers where they end.
+/// Writes truth values as binary digits after the first `end` bytes, and returns the index after
+/// them.
 #[inline(always)]
 pub(crate) fn write_bit_codes(room: &mut [u8], end: usize, bits: &[bool]) -> usize
     requires { end + length bits.now ≤ length room.old }
@@ -121,9 +123,11 @@ pub(crate) fn write_bit_codes(room: &mut [u8], end: usize, bits: &[bool]) -> usi
     behind
 }
 
-/// Makes as many bytes as there are truth values the codes of their binary digits.
+/// Sets each byte to the code of a truth value's binary digit. There must be one byte for each
+/// truth value.
 ///
-/// The bytes are there before they are written, so the loop has no way out and goes by vectors.
+/// The bytes exist before the loop writes them, so the loop has no early exit and the compiler
+/// vectorizes it.
 fn fill_bit_codes(bytes: &mut [u8], bits: &[bool])
     requires { length bytes.old ≡ length bits.now }
     ensures { bytes.new ≡ flat_map digit_of bits.now }
@@ -133,7 +137,7 @@ fn fill_bit_codes(bytes: &mut [u8], bits: &[bool])
     }
 }
 
-/// The code of a truth value's binary digit.
+/// Returns the code of a truth value's binary digit.
 fn digit_byte(bit: bool) -> u8
     ensures { digit_of bit ≡ result ∷ [] }
 {

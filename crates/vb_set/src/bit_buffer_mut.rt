@@ -339,8 +339,8 @@ impl<A: Allocator + Clone> BitBufferMut<A> {
         self.set_to(i, false);
     }
 
-    /// Sets the bits from index `start` to `end - 1` to `v`, whole bytes at a time. `start` must be
-    /// at most `end`, and `end` at most the length. No other bit of the bytes changes.
+    /// Sets the bits at indices `start..end` to `v`, whole bytes at a time. `start` must be at most
+    /// `end`, and `end` at most the length. No other bit of the bytes changes.
     ///
     /// ```rust
     /// let mut rows = BitBufferMut::new_unset(alloc, 2)?;

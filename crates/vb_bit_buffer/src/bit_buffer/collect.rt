@@ -18,8 +18,8 @@ use vb_core::{BufferError, Result};
 
 #[tactic(auto, using(crate::proofs::SetLemmas::sets))]
 impl<A: Allocator + Clone> BitBuffer<A> {
-    /// Calls `f` with each index from 0 to `len - 1`, in order, and returns the results as a set of
-    /// offset 0. The caller must prove that `f` may be called with each index, whatever it returned
+    /// Calls `f` with each index in `0..len`, in order, and returns the results as a set of offset
+    /// 0. The caller must prove that `f` may be called with each index, whatever it returned
     /// before. Packs the results 64 at a time with byte vectors, and the rest bit by bit.
     ///
     /// Allocates as few bytes as hold the bits, and the count of owners. Returns `OutOfMemory`,
@@ -36,8 +36,8 @@ impl<A: Allocator + Clone> BitBuffer<A> {
         Ok(BitBuffer::window_of(bytes, len, 0))
     }
 
-    /// Calls `f` with each index from 0 to `len - 1`, in order, and returns the results as a set of
-    /// offset 0. The caller must prove that `f` may be called with each index, whatever it returned
+    /// Calls `f` with each index in `0..len`, in order, and returns the results as a set of offset
+    /// 0. The caller must prove that `f` may be called with each index, whatever it returned
     /// before. Runs the same code as [`collect_bool`](Self::collect_bool): it does not pick a
     /// version at run time.
     ///

@@ -1,4 +1,4 @@
-//! Answers and refusals as text, for each printer.
+//! Answers and refusals as text, for any printer.
 ghost use Rattle.std.specs.Prelude.{◌++◌, Some};
 
 use crate::answer::Answer;
@@ -12,7 +12,7 @@ use std::fmt;
 impl Refusal {
     ghost use Rattle.vb_command.specs.Printed.{refusal_text};
 
-    /// Prints the refusal, and what stands behind an answer.
+    /// Prints the refusal and the end of an answer.
     fn print<O, P: Printer<O>>(self, printer: &mut P, output: &mut O) -> Result<(), P::Error>
         ensures { P.puts printer.old output.old (refusal_text self ++ P.end) result
             printer.new output.new }
@@ -46,7 +46,7 @@ impl<A: Allocator> Answer<A> {
     ghost use Rattle.vb_command.specs.Printed.{text_of};
     ghost use Rattle.vb_command.specs.Views.{reply};
 
-    /// Prints the answer, and what stands behind one. The printer alone may take memory.
+    /// Prints the answer and its end. Only the printer may allocate.
     pub fn print<O, P: Printer<O>>(&self, printer: &mut P, output: &mut O) -> Result<(), P::Error>
         ensures { P.puts printer.old output.old (text_of (reply self.now) ++ P.end) result
             printer.new output.new }

@@ -1,4 +1,4 @@
-//! Formatters as printers: nothing stands behind an answer.
+//! Formatters as printers: an answer ends with nothing.
 ghost use Rattle.std.specs.Prelude.{[], ◌++◌};
 ghost use Rattle.std.specs.Fmt.{WritesOnOk};
 ghost use Rattle.std.proofs.Common.{refl, sym, true≢false};

@@ -1,10 +1,11 @@
-//! Lists as text: truth values, places and runs.
+//! Lists as text: truth values, indices and runs.
 ghost use Rattle.std.specs.Prelude.{◌++◌, codes};
 ghost use Rattle.vb_command.specs.Printed.{digits_of, places_text, run_text, runs_text};
 
 use crate::print::printer::Printer;
 
-/// Prints truth values as binary digits with nothing between them, or `-` where there are none.
+/// Prints truth values as binary digits with nothing between them, or `-` if there are none, and
+/// the end of an answer.
 pub(crate) fn print_digits<O, P: Printer<O>>(
     bits: &[bool],
     printer: &mut P,
@@ -20,7 +21,8 @@ pub(crate) fn print_digits<O, P: Printer<O>>(
     printer.put_end(output)
 }
 
-/// Prints places in decimal with commas between two, or `-` where there are none.
+/// Prints indices in decimal with commas between them, or `-` if there are none, and the end of an
+/// answer.
 pub(crate) fn print_places<O, P: Printer<O>>(
     places: &[usize],
     printer: &mut P,
@@ -39,7 +41,8 @@ pub(crate) fn print_places<O, P: Printer<O>>(
     printer.put_end(output)
 }
 
-/// Prints runs as `1-3` with commas between two, or `-` where there are none.
+/// Prints runs as `1-3` with commas between them, or `-` if there are none, and the end of an
+/// answer.
 pub(crate) fn print_runs<O, P: Printer<O>>(
     runs: &[(usize, usize)],
     printer: &mut P,
@@ -58,7 +61,7 @@ pub(crate) fn print_runs<O, P: Printer<O>>(
     printer.put_end(output)
 }
 
-/// Puts a run: where it begins, and the place behind it.
+/// Puts a run: the index of its first bit, and the index after its last bit.
 fn put_run<O, P: Printer<O>>(
     run: (usize, usize),
     printer: &mut P,
@@ -71,7 +74,7 @@ fn put_run<O, P: Printer<O>>(
     printer.put_behind(b'-', end, output)
 }
 
-/// Puts a comma, and a run behind it.
+/// Puts a comma and a run.
 fn put_next_run<O, P: Printer<O>>(
     run: (usize, usize),
     printer: &mut P,

@@ -1,20 +1,21 @@
-//! What answers are printed by.
+//! The trait of printers of answers.
 ghost use Rattle.std.specs.Prelude.{ℕ, List, Result, Ok, Err, [], ◌∷◌, ◌++◌, ◌<◌, decimal};
 ghost use Rattle.std.specs.List.{flat_map};
 ghost use Rattle.vb_command.specs.Printed.{digit_of};
 
-/// What prints answers: the pieces of their text are put to it, one behind the other.
+/// A printer of answers. Its methods put the pieces of an answer's text, one after the other.
 ///
-/// What it has no room for goes to an `O`, which each call is handed. A `Formatter` has none; in
-/// `vb_script` it is the sink, beside the answers that wait to be written. An error ends the text.
+/// Each call gets an `O`, to which the printer writes the text that it does not keep itself. A
+/// `Formatter` needs none. In `vb_script` the printer holds the answers that wait to be written,
+/// and `O` is the sink. An error ends the text.
 pub trait Printer<O> {
-    /// Why a piece can't be put.
+    /// The error of a piece that cannot be put.
     type Error;
 
-    // What it does to put a text, by how that ended.
+    // The effect of putting a text, by its result.
     ghost puts: { Self → O → List ℕ → Result (Unit {0}) Self.Error → Self → O → Type 0 };
 
-    // What stands behind an answer.
+    // The end of an answer.
     ghost end: { List ℕ };
 
     /// Puts words.
@@ -25,7 +26,8 @@ pub trait Printer<O> {
     fn put_number(&mut self, n: usize, output: &mut O) -> Result<(), Self::Error>
         ensures { puts self.old output.old (decimal n) result self.new output.new };
 
-    /// Puts an ASCII byte, and a number in decimal behind it.
+    /// Puts an ASCII byte and then a number in decimal. The caller must prove that the byte is
+    /// below 128.
     fn put_behind(&mut self, byte: u8, n: usize, output: &mut O) -> Result<(), Self::Error>
         requires { byte < 128 }
         ensures { puts self.old output.old (byte ∷ decimal n) result self.new output.new };
@@ -35,27 +37,27 @@ pub trait Printer<O> {
         ensures { puts self.old output.old (flat_map digit_of bits.now) result
             self.new output.new };
 
-    /// Puts what stands behind an answer.
+    /// Puts the end of an answer.
     fn put_end(&mut self, output: &mut O) -> Result<(), Self::Error>
         ensures { puts self.old output.old end result self.new output.new };
 
-    /// Puts words, and what stands behind an answer.
+    /// Puts words and the end of an answer.
     fn put_last_words(&mut self, words: &str, output: &mut O) -> Result<(), Self::Error>
         ensures { puts self.old output.old (words.now ++ end) result self.new output.new };
 
-    /// Puts a number in decimal, and what stands behind an answer.
+    /// Puts a number in decimal and the end of an answer.
     fn put_last_number(&mut self, n: usize, output: &mut O) -> Result<(), Self::Error>
         ensures { puts self.old output.old (decimal n ++ end) result self.new output.new };
 
-    // To put nothing changes nothing.
+    // Putting an empty text changes nothing.
     ghost nothing: { (p : Self) (o : O) → puts p o [] (Ok tt) p o };
 
-    // A text is put behind another one.
+    // Two texts put one after the other are one text.
     ghost joins: { (p : Self) (o : O) (front : List ℕ) (q : Self) (m : O) (back : List ℕ)
         (r : Result (Unit {0}) Self.Error) (s : Self) (n : O)
         → puts p o front (Ok tt) q m → puts q m back r s n → puts p o (front ++ back) r s n };
 
-    // What an error says of one text it says of any.
+    // An error for one text is an error for any text.
     ghost fails: { (p : Self) (o : O) (front whole : List ℕ) (why : Self.Error) (s : Self) (n : O)
         → puts p o front (Err why) s n → puts p o whole (Err why) s n };
 }

@@ -1,4 +1,4 @@
-//! What a line of words asks for.
+//! The command of a line of words.
 ghost use Rattle.std.specs.Prelude.{IsErrOf, IsTrue, Some, option_map};
 ghost use Rattle.vb_command.specs.Arguments.{arguments_of, one_word, two_words, three_words};
 ghost use Rattle.vb_command.specs.Arguments.{four_words, append_of, indices_of, set_of, not_of};
@@ -19,8 +19,8 @@ use crate::read::words::Words;
 use crate::unread::Unread;
 use std::alloc::Allocator;
 
-/// The command of this name with these words after it. Memory is taken only for a command that can
-/// be read.
+/// Returns the command of this name with these words after it. Allocates only for a command that
+/// can be read.
 #[tactic(auto, unfolding(crate::specs::Arguments::arguments_of))]
 pub(crate) fn arguments<A: Allocator + Clone>(
     alloc: &A,
@@ -49,7 +49,7 @@ pub(crate) fn arguments<A: Allocator + Clone>(
     four_words(alloc, name, a, b, c, d)
 }
 
-/// The command of this name with one word after it.
+/// Returns the command of this name with one word after it.
 #[tactic(auto, unfolding(crate::specs::Arguments::one_word))]
 fn one_word<A: Allocator>(name: &str, a: &str) -> Result<Command<A>, Unread>
     ensures { Tells order_of result (one_word name.now a.now) }
@@ -57,7 +57,7 @@ fn one_word<A: Allocator>(name: &str, a: &str) -> Result<Command<A>, Unread>
     of_number(name, usize::read(a)?)
 }
 
-/// The command of this name with two words after it.
+/// Returns the command of this name with two words after it.
 #[tactic(auto, unfolding(crate::specs::Arguments::two_words))]
 fn two_words<A: Allocator>(name: &str, a: &str, b: &str) -> Result<Command<A>, Unread>
     ensures { Tells order_of result (two_words name.now a.now b.now) }
@@ -69,7 +69,7 @@ fn two_words<A: Allocator>(name: &str, a: &str, b: &str) -> Result<Command<A>, U
     of_numbers(name, k, n)
 }
 
-/// The command of this name with three words after it.
+/// Returns the command of this name with three words after it.
 #[tactic(auto, unfolding(crate::specs::Arguments::three_words))]
 fn three_words<A: Allocator + Clone>(
     alloc: &A,
@@ -91,7 +91,7 @@ fn three_words<A: Allocator + Clone>(
     }
 }
 
-/// The command of this name with four words after it.
+/// Returns the command of this name with four words after it.
 #[tactic(auto, unfolding(crate::specs::Arguments::four_words))]
 fn four_words<A: Allocator + Clone>(
     alloc: &A,
@@ -114,7 +114,7 @@ fn four_words<A: Allocator + Clone>(
     }
 }
 
-/// The command of this name with a number after it.
+/// Returns the command of this name with a number after it.
 #[tactic(auto, unfolding(crate::specs::Arguments::of_number))]
 fn of_number<A: Allocator>(name: &str, k: usize) -> Result<Command<A>, Unread>
     ensures { Tells order_of result (of_number name.now k) }
@@ -129,7 +129,7 @@ fn of_number<A: Allocator>(name: &str, k: usize) -> Result<Command<A>, Unread>
     }
 }
 
-/// The question of this name to the set in one slot.
+/// Returns the query of this name of the set in one slot.
 #[tactic(auto, unfolding(crate::specs::Arguments::question_of_number))]
 fn question_of_number<A: Allocator>(name: &str, k: usize) -> Result<Command<A>, Unread>
     ensures { Tells order_of result (question_of_number name.now k) }
@@ -142,7 +142,7 @@ fn question_of_number<A: Allocator>(name: &str, k: usize) -> Result<Command<A>, 
     }
 }
 
-/// The question of this name to the set in one slot, which is answered by a list or a text.
+/// Returns the query of this name of the set in one slot, if its answer is a list or a text.
 #[tactic(auto, unfolding(crate::specs::Arguments::listing_of_number))]
 fn listing_of_number<A: Allocator>(name: &str, k: usize) -> Result<Command<A>, Unread>
     ensures { Tells order_of result (listing_of_number name.now k) }
@@ -156,7 +156,7 @@ fn listing_of_number<A: Allocator>(name: &str, k: usize) -> Result<Command<A>, U
     }
 }
 
-/// The command of this name with two numbers after it.
+/// Returns the command of this name with two numbers after it.
 #[tactic(auto, unfolding(crate::specs::Arguments::of_numbers))]
 fn of_numbers<A: Allocator>(name: &str, k: usize, n: usize) -> Result<Command<A>, Unread>
     ensures { Tells order_of result (of_numbers name.now k n) }
@@ -170,7 +170,7 @@ fn of_numbers<A: Allocator>(name: &str, k: usize, n: usize) -> Result<Command<A>
     }
 }
 
-/// The question of this name to the set in one slot, with a number.
+/// Returns the query of this name of the set in one slot, with a number.
 #[tactic(auto, unfolding(crate::specs::Arguments::question_of_numbers))]
 fn question_of_numbers<A: Allocator>(name: &str, k: usize, n: usize) -> Result<Command<A>, Unread>
     ensures { Tells order_of result (question_of_numbers name.now k n) }
@@ -184,7 +184,7 @@ fn question_of_numbers<A: Allocator>(name: &str, k: usize, n: usize) -> Result<C
     }
 }
 
-/// The command of this name with a number, a truth value and a number after it.
+/// Returns the command of this name with a number, a truth value and a number after it.
 #[tactic(auto, unfolding(crate::specs::Arguments::of_value))]
 fn of_value<A: Allocator>(name: &str, k: usize, v: bool, n: usize) -> Result<Command<A>, Unread>
     ensures { Tells order_of result (of_value name.now k v n) }
@@ -196,7 +196,7 @@ fn of_value<A: Allocator>(name: &str, k: usize, v: bool, n: usize) -> Result<Com
     }
 }
 
-/// The operator of this name on two sets.
+/// Returns the operator of this name on two sets.
 #[tactic(auto, unfolding(crate::specs::Arguments::of_operator))]
 fn of_operator<A: Allocator>(
     name: &str,
@@ -216,7 +216,7 @@ fn of_operator<A: Allocator>(
     }
 }
 
-/// An `append` of these words.
+/// Returns the `append` of these words.
 #[tactic(auto, unfolding(crate::specs::Arguments::append_of))]
 fn append<A: Allocator>(a: &str, b: &str) -> Result<Command<A>, Unread>
     ensures { Tells order_of result (append_of a.now b.now) }
@@ -224,7 +224,7 @@ fn append<A: Allocator>(a: &str, b: &str) -> Result<Command<A>, Unread>
     Ok(Command::Append(usize::read(a)?, bool::read(b)?))
 }
 
-/// An `indices` of these words.
+/// Returns the `indices` of these words.
 #[tactic(auto, unfolding(crate::specs::Arguments::indices_of))]
 fn indices<A: Allocator + Clone>(alloc: &A, a: &str, b: &str, c: &str) -> Result<Command<A>, Unread>
     ensures read { Gives order_of result (indices_of a.now b.now c.now) }
@@ -235,7 +235,7 @@ fn indices<A: Allocator + Clone>(alloc: &A, a: &str, b: &str, c: &str) -> Result
     Ok(Command::Indices(t, n, list(alloc, c)?))
 }
 
-/// A `set` of these words.
+/// Returns the `set` of these words.
 #[tactic(auto, unfolding(crate::specs::Arguments::set_of))]
 fn set<A: Allocator>(a: &str, b: &str, c: &str) -> Result<Command<A>, Unread>
     ensures { Tells order_of result (set_of a.now b.now c.now) }
@@ -244,7 +244,7 @@ fn set<A: Allocator>(a: &str, b: &str, c: &str) -> Result<Command<A>, Unread>
     Ok(Command::Set(k, i, bool::read(c)?))
 }
 
-/// A `not` of these words.
+/// Returns the `not` of these words.
 #[tactic(auto, unfolding(crate::specs::Arguments::not_of))]
 fn not<A: Allocator>(a: &str, b: &str, c: &str) -> Result<Command<A>, Unread>
     ensures { Tells order_of result (not_of a.now b.now c.now) }
@@ -254,7 +254,7 @@ fn not<A: Allocator>(a: &str, b: &str, c: &str) -> Result<Command<A>, Unread>
     Ok(Command::Not(m, l, t))
 }
 
-/// A `countrange` of these words.
+/// Returns the `countrange` of these words.
 #[tactic(auto, unfolding(crate::specs::Arguments::countrange_of))]
 fn countrange<A: Allocator>(a: &str, b: &str, c: &str) -> Result<Command<A>, Unread>
     ensures { Tells order_of result (countrange_of a.now b.now c.now) }
@@ -263,7 +263,8 @@ fn countrange<A: Allocator>(a: &str, b: &str, c: &str) -> Result<Command<A>, Unr
     Ok(Command::Countrange(k, i, j))
 }
 
-/// The command of this name with a number, a truth value and a number, which these words write.
+/// Returns the command of this name with a number, a truth value and a number, which these words
+/// write.
 #[tactic(auto, unfolding(crate::specs::Arguments::value_of))]
 fn value<A: Allocator>(name: &str, a: &str, b: &str, c: &str) -> Result<Command<A>, Unread>
     ensures { Tells order_of result (value_of name.now a.now b.now c.now) }
@@ -271,7 +272,7 @@ fn value<A: Allocator>(name: &str, a: &str, b: &str, c: &str) -> Result<Command<
     of_value(name, usize::read(a)?, bool::read(b)?, usize::read(c)?)
 }
 
-/// An `import` of these words.
+/// Returns the `import` of these words.
 #[tactic(auto, unfolding(crate::specs::Arguments::import_of))]
 fn import<A: Allocator + Clone>(
     alloc: &A,
@@ -289,7 +290,7 @@ fn import<A: Allocator + Clone>(
     Ok(Command::Import(t, o, n, bytes_of_pairs(alloc.clone()?, pairs)?))
 }
 
-/// A `take` of these words.
+/// Returns the `take` of these words.
 #[tactic(auto, unfolding(crate::specs::Arguments::take_of))]
 fn take<A: Allocator + Clone>(
     alloc: &A,
@@ -307,7 +308,7 @@ fn take<A: Allocator + Clone>(
     Ok(Command::Take(k, t, m, list(alloc, d)?))
 }
 
-/// A `fill` of these words.
+/// Returns the `fill` of these words.
 #[tactic(auto, unfolding(crate::specs::Arguments::fill_of))]
 fn fill<A: Allocator>(a: &str, b: &str, c: &str, d: &str) -> Result<Command<A>, Unread>
     ensures { Tells order_of result (fill_of a.now b.now c.now d.now) }
@@ -316,7 +317,7 @@ fn fill<A: Allocator>(a: &str, b: &str, c: &str, d: &str) -> Result<Command<A>, 
     Ok(Command::Fill(k, i, j, bool::read(d)?))
 }
 
-/// A `slice` of these words.
+/// Returns the `slice` of these words.
 #[tactic(auto, unfolding(crate::specs::Arguments::slice_of))]
 fn slice<A: Allocator>(a: &str, b: &str, c: &str, d: &str) -> Result<Command<A>, Unread>
     ensures { Tells order_of result (slice_of a.now b.now c.now d.now) }
@@ -325,7 +326,7 @@ fn slice<A: Allocator>(a: &str, b: &str, c: &str, d: &str) -> Result<Command<A>,
     Ok(Command::Slice(k, i, j, usize::read(d)?))
 }
 
-/// The operator of this name on two sets, with the fields that these words write.
+/// Returns the operator of this name on two sets, with the fields that these words write.
 #[tactic(auto, unfolding(crate::specs::Arguments::operator_of))]
 fn operator<A: Allocator>(
     name: &str,
@@ -341,7 +342,7 @@ fn operator<A: Allocator>(
     of_operator(name, m, l, r, t)
 }
 
-/// The numbers that two words write.
+/// Returns the numbers that two words write.
 #[tactic(auto, unfolding(crate::specs::Arguments::two_numbers))]
 fn two_numbers(a: &str, b: &str) -> Result<(usize, usize), Unread>
     ensures { Tells (λ numbers. numbers) result (two_numbers a.now b.now) }
@@ -349,7 +350,7 @@ fn two_numbers(a: &str, b: &str) -> Result<(usize, usize), Unread>
     Ok((usize::read(a)?, usize::read(b)?))
 }
 
-/// The numbers that three words write.
+/// Returns the numbers that three words write.
 #[tactic(auto, unfolding(crate::specs::Arguments::three_numbers))]
 fn three_numbers(a: &str, b: &str, c: &str) -> Result<(usize, usize, usize), Unread>
     ensures { Tells (λ numbers. numbers) result (three_numbers a.now b.now c.now) }

@@ -1,4 +1,4 @@
-//! Bytes that are written in hexadecimal.
+//! Bytes written in hexadecimal.
 ghost use Rattle.std.specs.Prelude.{◌≡◌, ◌*◌, ◌<◌, Some, None, IfOk, IsTrue, MatchResult};
 ghost use Rattle.std.specs.Prelude.{is_some, length};
 ghost use Rattle.std.specs.List.{list_all};
@@ -7,14 +7,15 @@ ghost use Rattle.vb_command.specs.Hex.{hex_value, hex_pairs, hex, is_digit};
 use crate::unread::Unread;
 use std::alloc::{AllocError, Allocator};
 
-/// Whether this is a digit, of either case.
+/// Returns whether a byte is a hexadecimal digit of either case.
 fn is_digit(byte: u8) -> bool
     ensures { result ≡ is_digit byte }
 {
     matches!(byte, b'0'..=b'9' | b'a'..=b'f' | b'A'..=b'F')
 }
 
-/// Whether all of these are digits. None is a reason to stop, so that many are looked at at once.
+/// Returns whether all bytes are hexadecimal digits. The loop does not stop early, so that the
+/// compiler can test many bytes at once.
 fn are_digits(bytes: &[u8]) -> bool
     ensures { result ≡ list_all is_digit bytes.now }
 {
@@ -25,8 +26,9 @@ fn are_digits(bytes: &[u8]) -> bool
     all
 }
 
-/// The value of a digit, with no branch. The codes of `0` to `9` end in it and lie below 64; those
-/// of `A` to `F` and of `a` to `f` end in 1 to 6, and lie above 64 and below 128.
+/// Returns the value of a digit, without a branch. The codes of `0` to `9` end in the value and are
+/// below 64; the codes of `A` to `F` and of `a` to `f` end in 1 to 6, and are above 64 and below
+/// 128.
 fn value_of(digit: u8) -> u8
     requires { IsTrue (is_digit digit) }
     ensures value { hex_value digit ≡ Some result }
@@ -35,7 +37,7 @@ fn value_of(digit: u8) -> u8
     digit % 16 + 9 * (digit / 64)
 }
 
-/// Whether these are pairs of digits.
+/// Returns whether the bytes are pairs of digits.
 #[tactic(auto, using(crate::proofs::HexLists::pairs))]
 fn are_pairs(bytes: &[u8]) -> bool
     ensures { result ≡ is_some (hex_pairs bytes.now) }
@@ -43,7 +45,7 @@ fn are_pairs(bytes: &[u8]) -> bool
     bytes.len() % 2 == 0 && are_digits(bytes)
 }
 
-/// The pairs of digits that write the bytes of a word. This takes no memory.
+/// Returns the pairs of digits that write the bytes of a word. Does not allocate.
 pub(crate) fn hex_pairs(word: &str) -> Result<&[u8], Unread>
     ensures { MatchResult result
         (λ digits. (hex word.now ≡ hex_pairs digits.now) × IsTrue (is_some (hex word.now)))
@@ -57,7 +59,7 @@ pub(crate) fn hex_pairs(word: &str) -> Result<&[u8], Unread>
     }
 }
 
-/// The bytes of pairs of digits, in memory by one request.
+/// Returns the bytes of pairs of digits. Allocates once.
 #[tactic(auto, using(crate::proofs::HexLists::pairs))]
 pub(crate) fn bytes_of_pairs<A: Allocator>(
     alloc: A,

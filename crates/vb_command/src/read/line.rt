@@ -13,8 +13,8 @@ use crate::read::words::Words;
 use crate::unread::Unread;
 use std::alloc::Allocator;
 
-/// The words of the first `len` of these bytes, if they are ASCII. Those of a few bytes are found
-/// at once, where enough stand behind them.
+/// Returns the words of the first `len` bytes, if these are ASCII. For at most 32 bytes it finds
+/// all spaces at once, if 32 bytes are there.
 #[inline(always)]
 #[tactic(auto, using(crate::proofs::Lines::ascii))]
 fn words_within(bytes: &[u8], len: usize) -> Option<Words<'_>>
@@ -36,7 +36,7 @@ fn words_within(bytes: &[u8], len: usize) -> Option<Words<'_>>
     Some(Words::new(known_text(line)))
 }
 
-/// The text of ASCII bytes. ASCII is UTF-8, as is proved here, and so it isn't looked at again.
+/// Returns ASCII bytes as text. The proof that ASCII is UTF-8 makes a test at run time unnecessary.
 #[inline(always)]
 #[tactic(auto, using(crate::proofs::Lines::ascii))]
 fn known_text(line: &[u8]) -> &str
@@ -46,7 +46,7 @@ fn known_text(line: &[u8]) -> &str
     unsafe { std::str::from_utf8_unchecked(line) }
 }
 
-/// What words ask for.
+/// Returns the command of a line's words.
 #[tactic(auto, unfolding(crate::specs::Reading::request_of))]
 fn request<A: Allocator + Clone>(
     alloc: &A,
@@ -65,24 +65,24 @@ fn request<A: Allocator + Clone>(
     Ok(Some(arguments(alloc, name, words)?))
 }
 
-/// Reads a line: the command that it asks for, or `None` where it has no words or is a comment.
-/// The line is given without its line feed and the carriage return before that.
+/// Parses a line. Returns its command, or `None` if the line has no words or is a comment. The line
+/// must not include its line feed and the carriage return before that.
 ///
-/// Words stand between spaces. The first one is the name of a command, or begins with `#` and makes
-/// the line a comment. The others are the command's fields: numbers in decimal digits, at most
-/// 18446744073709551615, with leading zeros or without and with no sign; truth values as `0` or
-/// `1`; modes as `ref` or `own`; bytes as pairs of hexadecimal digits of either case; numbers with
-/// one comma between two; and indices in the same way, from -9223372036854775808 to
-/// 9223372036854775807, with a `-` before those below 0. A `-` alone stands for no bytes, no
-/// numbers, no indices and, in a `take`, no validity.
+/// Words are separated by spaces. The first one is the name of a command, or begins with `#` and
+/// makes the line a comment. The others are the command's fields: numbers in decimal digits, at
+/// most 18446744073709551615, with or without leading zeros and without a sign; truth values as `0`
+/// or `1`; modes as `ref` or `own`; bytes as pairs of hexadecimal digits of either case; lists of
+/// numbers with one comma between two; and lists of indices in the same way, from
+/// -9223372036854775808 to 9223372036854775807, with a `-` before those below 0. A `-` alone means
+/// no bytes, no numbers, no indices and, in a `take`, no validity.
 ///
-/// A line can't be read, which is `Unread::Unreadable`, if it has a byte that isn't ASCII, be it in
-/// a comment, or if it has words, is no comment, and its first word names no command, words are
-/// missing or left over, or one is of another kind. No other line is answered so.
+/// Returns `Unread::Unreadable` exactly if the line has a byte that is not ASCII, also in a
+/// comment, or if it has words, is not a comment, and its first word is not the name of a command,
+/// words are missing or left over, or a word is malformed.
 ///
-/// Memory is taken for an `import`, `indices` or `take` that can be read: for a copy of `alloc`,
-/// and for the bytes or numbers as much as they need, by one request. Where that is refused the
-/// answer is `Unread::Memory`; no other line is answered so.
+/// Allocates only for an `import`, `indices` or `take` that can be read: a clone of `alloc`, and
+/// once for the bytes or numbers, as much as they need. Returns `Unread::Memory` if that runs out
+/// of memory, and for no other line.
 ///
 /// The time is proportional to the line's length.
 pub fn command_of<A: Allocator + Clone>(
@@ -95,9 +95,10 @@ pub fn command_of<A: Allocator + Clone>(
     command_within(alloc, line, line.len())
 }
 
-/// Reads a line as [`command_of`] does: the first `len` of these bytes, which has to be at most
-/// their number. What stands behind the line changes no answer; but a line of at most 32 bytes is
-/// read sooner where 32 are there, since its words are then found by one comparison of as many.
+/// Parses a line as [`command_of`] does: the first `len` bytes of `bytes`. The caller must prove
+/// that `len` is at most their number. The bytes after the line do not affect the result. But a
+/// line of at most 32 bytes is parsed faster if `bytes` has 32 bytes, since one comparison of 32
+/// bytes then finds its words.
 pub fn command_within<A: Allocator + Clone>(
     alloc: &A,
     bytes: &[u8],

@@ -1,4 +1,4 @@
-//! Lists that are written with commas between two, or as `-` for none.
+//! Lists with commas between the items, or `-` for no items.
 ghost use Rattle.std.specs.Prelude.{◌≡◌, [], ◌∷◌, length, MatchOption, option_map};
 ghost use Rattle.vb_command.specs.Listed.{items_of, parts};
 ghost use Rattle.vb_command.specs.Reading.{Gives, Tells};
@@ -9,7 +9,7 @@ use crate::unread::Unread;
 use std::alloc::Allocator;
 use std::marker::Model;
 
-/// The texts of a list's items that are still to come. Contracts see the list of them.
+/// The texts of the remaining items of a list. Contracts see the list of these texts.
 #[derive(Drop)]
 struct ItemTexts<'a> {
     rest: Option<&'a str>,
@@ -27,7 +27,7 @@ impl<'a> Model for ItemTexts<'a> {
 }
 
 impl<'a> ItemTexts<'a> {
-    /// What stands between the commas of a word; of `-` nothing.
+    /// Returns the texts between the commas of a word; none for `-`.
     fn new(word: &'a str) -> Self
         ensures { result ≡ parts word.now }
     {
@@ -36,7 +36,7 @@ impl<'a> ItemTexts<'a> {
         }
     }
 
-    /// The next text, if there is one.
+    /// Returns the next text, if there is one.
     #[tactic(auto, using(crate::proofs::ListedLemmas::splits))]
     fn next(&mut self) -> Option<&'a str>
         ensures { MatchOption result
@@ -53,7 +53,7 @@ impl<'a> ItemTexts<'a> {
     }
 }
 
-/// How many items a word writes.
+/// Returns the number of items that a word writes.
 #[tactic(auto, using(crate::proofs::ListedLemmas::counts))]
 fn count<T: Field>(word: &str) -> Result<usize, Unread>
     ensures { Tells (λ n. n) result (option_map length (items_of (T.written) word.now)) }
@@ -67,7 +67,7 @@ fn count<T: Field>(word: &str) -> Result<usize, Unread>
     Ok(count)
 }
 
-/// The items that a word writes, in memory by one request.
+/// Returns the items that a word writes. Allocates once.
 pub(crate) fn list<T: Field, A: Allocator + Clone>(
     alloc: &A,
     word: &str,

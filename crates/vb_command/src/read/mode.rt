@@ -1,4 +1,4 @@
-//! Modes that are written as a word.
+//! Modes written as a word.
 use crate::mode::Mode;
 use crate::read::field::Field;
 use crate::unread::Unread;

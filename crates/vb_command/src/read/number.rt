@@ -1,4 +1,4 @@
-//! Numbers that are written in decimal.
+//! Numbers written in decimal.
 ghost use Rattle.std.specs.Prelude.{◌<◌, ◌≤◌, length};
 ghost use Rattle.vb_command.specs.Reading.{Tells};
 ghost use Rattle.vb_command.specs.Words.{number};
@@ -6,17 +6,17 @@ ghost use Rattle.vb_command.specs.Words.{number};
 use crate::read::field::Field;
 use crate::unread::Unread;
 
-/// How many digits a number has at most that needs no test for overflow.
+/// The greatest number of digits that needs no test for overflow.
 const FEW: usize = 19;
 
-/// Unlike `parse`, it takes no `+`.
+/// Unlike `parse`, it does not accept a `+`.
 #[tactic(auto, using(crate::proofs::NumberWords::numbers))]
 impl Field for usize {
     ghost use Rattle.vb_command.specs.Words.{number};
 
     ghost written = { number };
 
-    /// Most slots and truth values are written by one digit, for which there is no call.
+    /// Most slots and truth values have one digit, and are read without a call.
     #[inline(always)]
     fn read(word: &str) -> Result<usize, Unread> {
         if word.len() == 1 {
@@ -26,7 +26,7 @@ impl Field for usize {
     }
 }
 
-/// The number that a word writes.
+/// Returns the number that a word writes.
 #[inline(never)]
 #[tactic(auto, using(crate::proofs::NumberWords::numbers))]
 fn digits(word: &str) -> Result<usize, Unread>
@@ -41,7 +41,7 @@ fn digits(word: &str) -> Result<usize, Unread>
     word.parse().map_err(|_| Unread::Unreadable)
 }
 
-/// The number that so few bytes write that it fits.
+/// Returns the number of a word with so few digits that it fits.
 #[inline(always)]
 #[tactic(auto, using(crate::proofs::NumberWords::few))]
 fn few_digits(bytes: &[u8]) -> Result<usize, Unread>
@@ -73,8 +73,8 @@ impl Field for Option<usize> {
     }
 }
 
-/// A number that may have a `-` before it; with none it is read as a `usize` is. Unlike `parse`, it
-/// takes no `+`.
+/// A number, or a `-` and a number. Without a `-` it is read as a `usize` is. Unlike `parse`, it
+/// does not accept a `+`.
 #[tactic(auto, using(crate::proofs::NumberWords::numbers))]
 impl Field for i64 {
     ghost use Rattle.vb_command.specs.Listed.{index};

@@ -7,11 +7,11 @@ ghost use Rattle.vb_command.specs.Words.{is_space};
 
 use std::simd::prelude::*;
 
-/// How many bytes are looked at at once. Most lines have fewer.
+/// The number of bytes that are tested at once. Most lines are shorter.
 pub(crate) const SHORT_LINE: usize = 32;
 
-/// Where spaces stand among the first `len` bytes, if these are ASCII: the lowest bit is the first
-/// byte's.
+/// Returns which of the first `len` bytes are spaces, if these bytes are ASCII. The lowest bit is
+/// for the first byte.
 #[inline(always)]
 pub(crate) fn spaces_of_ascii(bytes: &[u8], len: usize) -> Option<u64>
     requires bytes { SHORT_LINE ≤ length bytes.now }
@@ -28,8 +28,8 @@ pub(crate) fn spaces_of_ascii(bytes: &[u8], len: usize) -> Option<u64>
     Some(spaces % (1 << len))
 }
 
-/// What stands before the first space of a text whose spaces are known, what follows it, and the
-/// spaces in that.
+/// Returns the text before the first space of a text whose spaces are known, the text after it, and
+/// the spaces of that.
 #[inline(always)]
 pub(crate) fn cut_at_space(text: &str, spaces: u64) -> (&str, &str, u64)
     requires spaces { AreSpaces text.now spaces }

@@ -1,15 +1,15 @@
-//! Texts that are cut where a part ends.
+//! Texts cut at a separator.
 ghost use Rattle.std.specs.Prelude.{◌≡◌, ◌==◌, ◌<◌, ◌≤◌, length, take, MatchOption};
 ghost use Rattle.std.specs.List.{position_or_len, before_first, after_first};
 
 use std::simd::prelude::*;
 
-/// How many bytes are looked at at once. Most parts are shorter, and a search that takes any number
-/// of bytes pays for longer ones alone.
+/// The number of bytes that are compared at once. Most parts are shorter, so only longer ones pay
+/// for a search of any length.
 const HEAD: usize = 16;
 
-/// What stands before the first separator of a text, and what follows it, if there is one: what
-/// `split_once` gives, found sooner where the part is short.
+/// Returns the text before the first separator and the text after it, if there is a separator. It
+/// is `split_once`, but faster if the part is short.
 #[inline]
 pub(crate) fn split_short(text: &str, separator: char) -> Option<(&str, &str)>
     requires { separator < 128 }
@@ -29,8 +29,8 @@ pub(crate) fn split_short(text: &str, separator: char) -> Option<(&str, &str)>
     Some((&text[..at], &text[at + 1..]))
 }
 
-/// The same by a search of any number of bytes. It is a call, since it needs more registers than
-/// the loops that go from part to part can spare.
+/// Does the same by a search of any number of bytes. It is a separate function, since it needs more
+/// registers than the loops over parts can spare.
 #[inline(never)]
 fn split_far(text: &str, separator: char) -> Option<(&str, &str)>
     requires { separator < 128 }
@@ -43,8 +43,8 @@ fn split_far(text: &str, separator: char) -> Option<(&str, &str)>
     text.split_once(separator)
 }
 
-/// The place of the first separator, or where the bytes end, where that is before byte `HEAD`; else
-/// `HEAD`.
+/// Returns the index of the first separator, or the number of bytes if there is none, if that is
+/// below `HEAD`; otherwise `HEAD`.
 fn near(bytes: &[u8], separator: u8) -> usize
     ensures place { result < HEAD → result ≡ position_or_len (λ b. b == separator) bytes.now }
     ensures within { result ≤ length bytes.now }
@@ -56,7 +56,8 @@ fn near(bytes: &[u8], separator: u8) -> usize
     }
 }
 
-/// The place of the first separator, or where the bytes end, looked for byte by byte.
+/// Returns the index of the first separator, or the number of bytes if there is none. Searches byte
+/// by byte.
 #[tactic(auto, using(crate::proofs::Cuts::searches))]
 fn near_end(bytes: &[u8], separator: u8) -> usize
     ensures place { result ≡ position_or_len (λ b. b == separator) bytes.now }
@@ -69,9 +70,9 @@ fn near_end(bytes: &[u8], separator: u8) -> usize
     at
 }
 
-/// The place of the first separator among the `HEAD` bytes at the front, or `HEAD`. They are
-/// compared at once: a loop would end at a part's length, which no branch predictor foresees in a
-/// list.
+/// Returns the index of the first separator among the first `HEAD` bytes, or `HEAD` if there is
+/// none. Compares all of them at once: a loop would end at the length of a part, which no branch
+/// predictor foresees in a list.
 #[inline(always)]
 fn near_front(bytes: &[u8], separator: u8) -> usize
     requires { HEAD ≤ length bytes.now }

@@ -1,4 +1,4 @@
-//! Truth values that are written as a binary digit.
+//! Truth values written as a binary digit.
 use crate::read::field::Field;
 use crate::unread::Unread;
 

@@ -1,4 +1,4 @@
-//! The words of a line: its parts between spaces that aren't empty.
+//! The words of a line: its parts between spaces that are not empty.
 ghost use Rattle.std.specs.Prelude.{◌≡◌, [], ◌∷◌, MatchOption};
 ghost use Rattle.vb_command.specs.Words.{line_words};
 ghost use Rattle.vb_command.specs.Spaces.{AreSpaces};
@@ -7,11 +7,11 @@ use crate::read::spaces::cut_at_space;
 use crate::read::split::split_short;
 use std::marker::Model;
 
-/// The words of a text that are still to come. Contracts see the list of them.
+/// The remaining words of a text. Contracts see the list of these words.
 #[derive(Drop)]
 pub(crate) struct Words<'a> {
     rest: &'a str,
-    /// Where its spaces are, if that is known: the lowest bit is the first byte's.
+    /// Which bytes are spaces, if that is known: the lowest bit is for the first byte.
     spaces: Option<u64>,
 }
 
@@ -28,7 +28,7 @@ impl<'a> Model for Words<'a> {
 }
 
 impl<'a> Words<'a> {
-    /// The words of a text.
+    /// Returns the words of a text.
     pub(crate) fn new(text: &'a str) -> Self
         ensures { result ≡ line_words text.now }
     {
@@ -38,7 +38,7 @@ impl<'a> Words<'a> {
         }
     }
 
-    /// The words of a text whose spaces are known.
+    /// Returns the words of a text whose spaces are known.
     #[inline(always)]
     pub(crate) fn between(text: &'a str, spaces: u64) -> Self
         requires { AreSpaces text.now spaces }
@@ -50,7 +50,7 @@ impl<'a> Words<'a> {
         }
     }
 
-    /// The next word, if there is one.
+    /// Returns the next word, if there is one.
     #[inline(always)]
     pub(crate) fn next(&mut self) -> Option<&'a str>
         ensures { MatchOption result
@@ -69,7 +69,8 @@ impl<'a> Words<'a> {
     }
 }
 
-/// The first word of a text whose spaces are known, what follows it, and the spaces in that.
+/// Returns the first word of a text whose spaces are known, the text after it, and the spaces of
+/// that.
 #[inline(always)]
 #[tactic(auto, using(crate::proofs::WordLists::parts))]
 fn next_between(text: &str, spaces: u64) -> Option<(&str, &str, u64)>
@@ -96,7 +97,7 @@ fn next_between(text: &str, spaces: u64) -> Option<(&str, &str, u64)>
     }
 }
 
-/// The first word of a text, and what follows it.
+/// Returns the first word of a text, and the text after it.
 #[tactic(auto, using(crate::proofs::WordLists::parts))]
 fn next_word(text: &str) -> Option<(&str, &str)>
     ensures { MatchOption result

@@ -132,8 +132,8 @@ impl<T: Element, A: Allocator + Clone> Buffer<T, A> {
         BufferMut::from_iter(alloc, iter)?.freeze()
     }
 
-    /// Returns the items of an iterator whose length is known, over-aligned to 256 bytes. Returns
-    /// `OutOfMemory` if memory runs out.
+    /// Returns the items of an iterator whose length is known, over-aligned to 256 bytes. The
+    /// caller must prove that its `next` may be called. Returns `OutOfMemory` if memory runs out.
     pub fn from_trusted_len_iter<I: TrustedLen<Item = T>>(alloc: A, iter: I) -> Result<Self>
         requires { I.can_next iter }
         ensures made { Makes (λ b. (items : List T) × Drains I.next_gives iter items

@@ -181,9 +181,9 @@ impl<T: Element, A: Allocator> BufferMut<T, A> {
         (over, iter)
     }
 
-    /// Appends the items of an iterator whose length is known: all of them or none. If there is
-    /// capacity, the call succeeds. Otherwise it returns `OutOfMemory` if memory runs out; the
-    /// buffer is unchanged on error.
+    /// Appends the items of an iterator whose length is known: all of them or none. The caller must
+    /// prove that its `next` may be called. If there is capacity, the call succeeds. Otherwise it
+    /// returns `OutOfMemory` if memory runs out; the buffer is unchanged on error.
     pub fn extend_trusted<I: TrustedLen<Item = T>>(&mut self, iter: I) -> Result<()>
         requires { I.can_next iter }
         ensures ok { OnOk result ((items : List T) × Drains I.next_gives iter items
@@ -199,9 +199,8 @@ impl<T: Element, A: Allocator> BufferMut<T, A> {
     }
 
     /// Appends the values of an iterator whose length is known, up to its first error. Returns `Ok`
-    /// if all its items were values, and all were appended. The caller must prove that `next` of
-    /// the iterator may be called; in the contract, `I.left` is the number of items that the
-    /// iterator still has.
+    /// if all its items were values, and all were appended. The caller must prove that its `next`
+    /// may be called; in the contract, `I.left` is the number of items that the iterator still has.
     ///
     /// Returns `Memory`, before it polls the first item, if memory runs out; the buffer is
     /// unchanged then. If there is capacity, the call does not allocate. Returns `Item` with the

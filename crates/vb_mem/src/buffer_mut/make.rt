@@ -199,8 +199,9 @@ impl<T: Element, A: Allocator> BufferMut<T, A> {
         Ok(buffer)
     }
 
-    /// Returns the items of an iterator whose length is known, over-aligned to 256 bytes. Returns
-    /// `OutOfMemory`, before it polls the first item, if memory runs out.
+    /// Returns the items of an iterator whose length is known, over-aligned to 256 bytes. The
+    /// caller must prove that its `next` may be called. Returns `OutOfMemory`, before it polls the
+    /// first item, if memory runs out.
     pub fn from_trusted_len_iter<I: TrustedLen<Item = T>>(alloc: A, iter: I) -> Result<Self>
         requires { I.can_next iter }
         ensures made { Makes (λ b. (items : List T) × Drains I.next_gives iter items
@@ -212,9 +213,10 @@ impl<T: Element, A: Allocator> BufferMut<T, A> {
         Ok(buffer)
     }
 
-    /// Returns the values of an iterator whose length is known, over-aligned to 256 bytes. Returns
-    /// `Memory`, before it polls the first item, if memory runs out, and `Item` with the first
-    /// error. Does not allocate if the iterator has no items.
+    /// Returns the values of an iterator whose length is known, over-aligned to 256 bytes. The
+    /// caller must prove that its `next` may be called. Returns `Memory`, before it polls the first
+    /// item, if memory runs out, and `Item` with the first error. Does not allocate if the iterator
+    /// has no items.
     pub fn try_from_trusted_len_iter<E, I: TrustedLen<Item = Result<T, E>>>(
         alloc: A,
         iter: I,

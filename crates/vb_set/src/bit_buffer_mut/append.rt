@@ -38,7 +38,7 @@ impl<A: Allocator + Clone> BitBufferMut<A> {
     }
 
     /// Reserves capacity for `n` more bits, as [`reserve`](Self::reserve) does, but no more than
-    /// that: if the capacity grows, it becomes the length plus `n`, rounded up to whole bytes.
+    /// that: if the capacity grows, it becomes the length plus `n` and at most 7 bits more.
     pub fn reserve_exact(&mut self, n: usize) -> Result<()>
         ensures keeps { self.new ≡ record self.old { room = self.new.room } }
         ensures room { OnOk result (length self.old.bits + n ≤ self.new.room) }

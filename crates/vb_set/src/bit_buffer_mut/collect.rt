@@ -16,8 +16,8 @@ use vb_core::{BufferError, Result};
 
 #[tactic(auto, using(vb_bit_bytes::proofs::BytesLemmas::edits))]
 impl<A: Allocator + Clone> BitBufferMut<A> {
-    /// Calls `f` with each index from 0 to `len - 1`, in order, and returns the results as a set of
-    /// offset 0. The caller must prove that `f` may be called with each index, whatever it returned
+    /// Calls `f` with each index in `0..len`, in order, and returns the results as a set of offset
+    /// 0. The caller must prove that `f` may be called with each index, whatever it returned
     /// before. The set has as few bytes as hold the bits, with alignment 1; clause `fresh` proves
     /// this. Packs the results of full words with byte vectors, and the rest bit by bit.
     ///
@@ -35,8 +35,8 @@ impl<A: Allocator + Clone> BitBufferMut<A> {
         Ok(BitBufferMut::from_buffer(bytes, 0, len))
     }
 
-    /// Calls `f` with each index from 0 to `len - 1`, in order, and returns the results as a set of
-    /// offset 0. The caller must prove that `f` may be called with each index, whatever it returned
+    /// Calls `f` with each index in `0..len`, in order, and returns the results as a set of offset
+    /// 0. The caller must prove that `f` may be called with each index, whatever it returned
     /// before. Runs the same code as [`collect_bool`](Self::collect_bool): it does not pick a
     /// version at run time.
     ///

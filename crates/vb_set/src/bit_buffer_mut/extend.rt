@@ -80,8 +80,9 @@ impl<A: Allocator + Clone> BitBufferMut<A> {
         }
     }
 
-    /// Appends the items of an iterator whose length is known as bits: all of them or none. Returns
-    /// the errors of [`append_bools`](Self::append_bools), before it polls the first item.
+    /// Appends the items of an iterator whose length is known as bits: all of them or none. The
+    /// caller must prove that its `next` may be called. Returns the errors of
+    /// [`append_bools`](Self::append_bools), before it polls the first item.
     pub fn extend_trusted<I: TrustedLen<Item = bool>>(&mut self, iter: I) -> Result<()>
         requires { I.can_next iter }
         ensures ok { OnOk result ((items : List Bool) × Drains I.next_gives iter items

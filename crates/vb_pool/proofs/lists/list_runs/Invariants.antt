@@ -3,6 +3,6 @@ use Rattle.vb_bits.specs.Runs.{runs}
 use Rattle.vb_set.specs.View.{bits_of}
 use Rattle.vb_pool.proofs.lists.list_runs.Given as goal
 
--- the runs so far, and those that are still to come
+-- the previous runs, followed by the remaining ones
 abbrev pub invariant-loop-run : goal.invariant-loop-run
 invariant-loop-run g l = l.runs.items ++ l.run-iterator ≡ runs (bits_of l.fn.view)

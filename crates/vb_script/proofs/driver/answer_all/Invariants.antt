@@ -3,7 +3,7 @@ use Rattle.std.specs.Io.KnownBytes.{append_known}
 use Rattle.vb_script.proofs.Progress.{Progress, RanAny}
 use Rattle.vb_script.proofs.driver.answer_all.Given as goal
 
--- the session has come this far, and no call has failed
+-- the session's progress, and no call has failed
 abbrev pub invariant-loop-at : goal.invariant-loop-at
 invariant-loop-at g l = record {
   far : (input : List ℕ) → g.R.Source.remaining l.fn.input ≡ Some input

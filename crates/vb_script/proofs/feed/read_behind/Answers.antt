@@ -10,7 +10,7 @@ use borrow.Rule.Slice.PartMut.{put_mid}
 use Rattle.vb_script.proofs.KnownBytes.{Keeps-read}
 use Rattle.vb_script.proofs.feed.read_behind.Goals as goal
 
--- the first places of a room of which a part was written
+-- the first items of a list of which a part was written
 take-written : (room part : List ℕ) (end k count : ℕ) → end ≤ length room → count ≤ length part
     → take (end + count) (put_mid end k room part) ≡ take end room ++ take count part
 take-written room part end k count within few =
@@ -21,7 +21,7 @@ take-written room part end k count within few =
     ∙ (ap (λ n. take (n + count) (take end room ++ part)) (sym front)
     ∙ take-append-add (take end room) part count))
 
--- bytes that were read stand behind the first ones, where the read was no fault
+-- if the read did not fail, the bytes that were read are after the first ones
 read_kept : {E : Type 0} (room part : List ℕ) (end k : ℕ) (old new : Option (List ℕ))
     (r : Result ℕ E)
     → end ≤ length room → ReadsAtMost r part → ReadConsumes old new r part

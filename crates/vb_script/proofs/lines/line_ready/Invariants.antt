@@ -2,7 +2,7 @@ use Rattle.std.proofs.Common.{◌≡◌, ◌-◌, ◌^◌, length}
 use Rattle.std.specs.Io.KnownBytes.{prepend_known, append_known, Keeps}
 use Rattle.vb_script.proofs.lines.line_ready.Given as goal
 
--- no byte is lost on the way in or out, and no call has failed
+-- no byte is lost on input or output, and no call has failed
 abbrev pub invariant-loop-at : goal.invariant-loop-at
 invariant-loop-at g l = record {
   kept : Keeps (prepend_known l.fn.feed (g.R.Source.remaining l.fn.input))

@@ -4,7 +4,7 @@ use Rattle.vb_command.specs.Listed.{items_of}
 use Rattle.vb_command.proofs.ListedLemmas.{counted}
 use Rattle.vb_command.proofs.read.listed.count.Given as goal
 
--- the items are those that are counted and those of the parts that are left
+-- the items are those counted so far and those of the remaining parts
 abbrev pub invariant-loop-text : goal.invariant-loop-text
 invariant-loop-text g l = record {
   same : option_map length (items_of g.T.Field.written l.word)

@@ -4,7 +4,7 @@ use Rattle.vb_command.specs.Listed.{items_of, all_written}
 use Rattle.vb_command.proofs.Behind.{behind}
 use Rattle.vb_command.proofs.read.listed.list.Given as goal
 
--- the items are those that are read and those of the parts that are left
+-- the items are those read so far and those of the remaining parts
 abbrev pub invariant-loop-text : goal.invariant-loop-text
 invariant-loop-text g l = record {
   same : items_of g.T.Field.written l.word

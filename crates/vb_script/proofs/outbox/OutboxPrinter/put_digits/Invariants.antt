@@ -4,7 +4,7 @@ use Rattle.std.specs.List.{flat_map}
 use Rattle.vb_command.specs.Printed.{digit_of}
 use Rattle.vb_script.proofs.outbox.OutboxPrinter.put_digits.Given as goal
 
--- the digits so far were added, and no write has failed
+-- the digits so far were appended, and no write has failed
 abbrev pub invariant-loop-start : goal.invariant-loop-start
 invariant-loop-start g l = record {
   within : l.start ≤ length l.bits;

@@ -4,7 +4,7 @@ use Rattle.std.specs.List.{flat_map}
 use Rattle.vb_command.specs.Printed.{digit_of}
 use Rattle.vb_command.proofs.print.formatter.FmtFormatterPrinterUnit.put_digits.Given as goal
 
--- the digits so far
+-- the digits so far were put
 abbrev pub invariant-loop-bit : goal.invariant-loop-bit
 invariant-loop-bit g l =
     IsPlainFormatter l.initial.self
