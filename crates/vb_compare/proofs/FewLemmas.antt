@@ -1,4 +1,4 @@
--- Eight truth values, and words that are made of eights.
+-- Eight truth values, and words built from eights.
 use Rattle.std.proofs.Common.{◌≡◌, ℕ, inl, inr, ◌+◌, ◌-◌, ◌*◌, ◌/◌, ◌%◌, ◌^◌, ◌<◌, ◌≤◌, Bool, true}
 use Rattle.std.proofs.Common.{false, ◌||◌, List, length, map, take, drop, get_or, eqb, refl, sym}
 use Rattle.std.proofs.Common.{ap, ◌∙◌, arith, subst, zero-add}
@@ -16,7 +16,7 @@ use Rattle.vb_bits.proofs.DigitsLemmas.{at-digits, has_bit-or, length-digits}
 use Rattle.vb_bits.proofs.ShiftLemmas.{shl_low, shl_high, bit_at_cut, digits_shr}
 use Rattle.vb_pack.proofs.WordsLemmas.{has_bit_above}
 
--- the digits behind the first ones
+-- the bits after the first ones
 pub digits_behind : (w s n : ℕ) → digits (w / 2 ^ s) 0 n ≡ digits w (0 + s) n
 digits_behind w s n = digits_shr w s n ∙ ap (λ x. digits w x n) (sym (zero-add s))
 
@@ -36,14 +36,14 @@ bytes_back bytes l n long same_len same =
     told true = refl
     told false = refl
 
--- a digit of a list's values
+-- a bit of a word of a list's values
 digit_of : (w k m i : ℕ) (l : List Bool) (d : Bool) → digits w 0 m ≡ take m (drop k l) → i < m
     → has_bit w i ≡ get_or l (k + i) d
 digit_of w k m i l d e h =
     ap (has_bit w) (sym (zero-add i)) ∙ sym (at-digits w 0 m i d h) ∙ ap (λ x. get_or x i d) e
     ∙ get_or-take m (drop k l) i d h ∙ get_or-drop k l i d
 
--- the first m values, and eight from place s on, which may begin before the end of the others
+-- the first m values and the eight from index s on, which may begin before the end of the first m
 pub joined : (p e s m : ℕ) (l : List Bool) → s ≤ m → m ≤ s + 8 → s + 8 ≤ 64 → s + 8 ≤ length l
     → p < 2 ^ m → digits p 0 m ≡ take m (drop 0 l) → digits e 0 8 ≡ take 8 (drop s l)
     → digits (bit_or p (e * 2 ^ s % 2 ^ 64)) 0 (s + 8) ≡ take (s + 8) l
@@ -87,7 +87,7 @@ joined p e s m l over reach in_word inside small first second =
     or_same true = refl
     or_same false = refl
 
--- no digits come behind them
+-- the word has no ones after them
 pub joined_below : (p e s : ℕ) → p < 2 ^ s → e < 2 ^ 8
     → bit_or p (e * 2 ^ s % 2 ^ 64) < 2 ^ (s + 8)
 joined_below p e s small few =
@@ -98,7 +98,7 @@ joined_below p e s small few =
     or_lt (s + 8) p (e * 2 ^ s % 2 ^ 64) (omega (arith, more))
     (omega (arith, mod-le (e * 2 ^ s) (2 ^ 64)))
 
--- the same place
+-- the same write at the same position
 pub Writes_moved : (b d : List ℕ) (o p : ℕ) (m : List Bool) → o ≡ p → Writes b d o m
     → Writes b d p m
 Writes_moved b d o p m e h = subst (λ a. Writes b d a m) e h

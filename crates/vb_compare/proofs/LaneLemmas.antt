@@ -1,4 +1,4 @@
--- The word that a comparison of lanes makes.
+-- The word that a comparison of lanes builds.
 use Rattle.std.proofs.Common.{◌≡◌, ℕ, ℤ, pos, ◌-◌, ◌%◌, ◌^◌, ◌<◌, Bool, cond, eqb, ltb, int_eq}
 use Rattle.std.proofs.Common.{int_lt, All, List, [], ◌∷◌, map, length, FitsSigned, refl, sym, ap}
 use Rattle.std.proofs.Common.{◌∙◌, false, replicate, get_or, subst, arith}
@@ -13,7 +13,7 @@ use mir.Val.{hbits, bits as width, to_z, of_z}
 use Rattle.vb_bits.specs.Digits.{digits}
 use Rattle.vb_pack.proofs.MaskLemmas.{digits-mask_l}
 
--- its digits are what the comparison answers
+-- its bits are the results of the comparison
 pub digits_compared : {X : Type 0} (w : Width) (t : X → X → Bool) (xs ys : List X)
     → length xs ≡ 64 → length ys ≡ 64
     → digits (mask_l (map (top (hbits w)) (zip2 (λ x y. cond (t x y) (2 ^ width w - 1) 0) xs ys))
@@ -51,7 +51,7 @@ unsigned_less w xs ys lx ly =
 
 -- ---- signed lanes, which are compared as bits
 module _ (w : Width) where
-  -- a vector holds bits, and hands out what it was made of
+  -- a vector has bits, which read back as the values that it was built from
   pub carried : (xs : List ℤ) → All (FitsSigned w) xs → map (to_z w) (map (of_z w) xs) ≡ xs
   carried [] f = refl
   carried (x ∷ xs) f =
@@ -115,7 +115,7 @@ module _ (w : Width) where
       (length-map xs (of_z w) ∙ lx) (length-map ys (of_z w) ∙ ly)
       ∙ same_signed (λ x y. int_lt (to_z w x) (to_z w y)) int_lt bits_less xs ys f g
 
--- ---- values that are compared one by one
+-- ---- values compared one by one
 pub compared_each : {X : Type 0} (t : X → X → Bool) (xs ys : List X) (d : X) (l : List Bool)
     → length xs ≡ 64 → length ys ≡ 64 → length l ≡ 64
     → ((k : ℕ) → k < 64 → get_or l k false ≡ t (get_or xs k d) (get_or ys k d)) → l ≡ zip2 t xs ys

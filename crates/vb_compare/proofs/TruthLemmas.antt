@@ -1,4 +1,4 @@
--- What a comparison answers of lists, and of their parts.
+-- Results of a comparison of lists, and of their parts.
 use Rattle.std.proofs.Common.{◌≡◌, ℕ, suc, zero, ◌+◌, ◌-◌, ◌*◌, ◌/◌, ◌^◌, ◌<◌, ◌≤◌, Bool, not}
 use Rattle.std.proofs.Common.{List, [], ◌∷◌, ◌++◌, length, map, take, drop, replicate, refl, sym}
 use Rattle.std.proofs.Common.{ap, ◌∙◌, arith, false, get_or}
@@ -11,8 +11,8 @@ use Rattle.vb_bits.specs.Digits.{digits}
 use Rattle.vb_bits.proofs.DigitsLemmas.{length-digits, digits-add}
 use Rattle.vb_pack.proofs.TruthLemmas.{last_values}
 
--- ---- two lists, place by place
--- the other way round
+-- ---- two lists, index by index
+-- the sides swapped
 pub flipped : {X Y Z : Type 0} (f : X → Y → Z) (xs : List X) (ys : List Y)
     → zip2 f xs ys ≡ zip2 (λ y x. f x y) ys xs
 flipped f [] [] = refl
@@ -20,14 +20,14 @@ flipped f [] (y ∷ ys) = refl
 flipped f (x ∷ xs) [] = refl
 flipped f (x ∷ xs) (y ∷ ys) = ap (λ l. f x y ∷ l) (flipped f xs ys)
 
--- the other answers
+-- the results negated
 pub negated : {X Y : Type 0} (f : X → Y → Bool) (xs : List X) (ys : List Y)
     → map not (zip2 f xs ys) ≡ zip2 (λ x y. not (f x y)) xs ys
 negated f [] ys = refl
 negated f (x ∷ xs) [] = refl
 negated f (x ∷ xs) (y ∷ ys) = ap (λ l. not (f x y) ∷ l) (negated f xs ys)
 
--- the first ones
+-- the first results
 pub take-zip2 : {X Y Z : Type 0} (f : X → Y → Z) (n : ℕ) (xs : List X) (ys : List Y)
     → take n (zip2 f xs ys) ≡ zip2 f (take n xs) (take n ys)
 take-zip2 f zero xs ys = refl
@@ -35,7 +35,7 @@ take-zip2 f (suc n) [] ys = refl
 take-zip2 f (suc n) (x ∷ xs) [] = refl
 take-zip2 f (suc n) (x ∷ xs) (y ∷ ys) = ap (λ l. f x y ∷ l) (take-zip2 f n xs ys)
 
--- as many as either has
+-- as many results as values
 pub length_paired : {X Y Z : Type 0} (f : X → Y → Z) (xs : List X) (ys : List Y)
     → length ys ≡ length xs → length (zip2 f xs ys) ≡ length xs
 length_paired f xs ys same = length-zip2 f xs ys (omega arith)
@@ -44,7 +44,7 @@ zip2-nil : {X Y Z : Type 0} (f : X → Y → Z) (xs : List X) → zip2 f xs [] �
 zip2-nil f [] = refl
 zip2-nil f (x ∷ xs) = refl
 
--- those behind them
+-- the results after the first ones
 pub drop-zip2 : {X Y Z : Type 0} (f : X → Y → Z) (n : ℕ) (xs : List X) (ys : List Y)
     → drop n (zip2 f xs ys) ≡ zip2 f (drop n xs) (drop n ys)
 drop-zip2 f zero xs ys = refl
@@ -60,12 +60,12 @@ take-digits w k m h =
     ∙ ap (λ n. take n (digits w 0 k ++ digits w (0 + k) (m - k))) (sym (length-digits w 0 k))
     ∙ take-append_seam (digits w 0 k) (digits w (0 + k) (m - k)))
 
--- the first ones of those of a list
+-- the first bits of those of a list
 pub front_digits : (w a k m : ℕ) (l : List Bool) → digits w 0 m ≡ take m (drop a l) → k ≤ m
     → digits w 0 k ≡ take k (drop a l)
 front_digits w a k m l e h = take-digits w k m h ∙ ap (take k) e ∙ take-take k m (drop a l) h
 
--- the last ones of the word of the last 64
+-- the last bits of the word of the last 64
 pub last_digits : (w r : ℕ) (l : List Bool) → 64 ≤ length l
     → digits w 0 64 ≡ take 64 (drop (length l - 64) l) → r ≤ 64
     → digits (w / 2 ^ (64 - r)) 0 r ≡ drop (length l - r) l
@@ -93,14 +93,14 @@ module _ {X Y : Type 0} (s : Y → Y → Bool) (f : X → Y) (y : Y) (xs : List 
 
 -- ---- values and others
 module _ {X Y : Type 0} (s : Y → Y → Bool) (f : X → Y) where
-  -- by what is compared
+  -- values are compared as numbers
   pub zip2-values : (xs ys : List X)
       → zip2 s (map f xs) (map f ys) ≡ zip2 (λ x y. s (f x) (f y)) xs ys
   zip2-values [] ys = refl
   zip2-values (x ∷ xs) [] = refl
   zip2-values (x ∷ xs) (y ∷ ys) = ap (λ l. s (f x) (f y) ∷ l) (zip2-values xs ys)
 
-  -- the answer at one place
+  -- the result at one index
   pub one_of_others : (xs ys : List X) (k : ℕ) (x y : X) (b : Bool) → length ys ≡ length xs
       → k < length (zip2 (λ x y. s (f x) (f y)) xs ys)
       → b ≡ s (f (get_or xs k x)) (f (get_or ys k y))
@@ -110,7 +110,7 @@ module _ {X Y : Type 0} (s : Y → Y → Bool) (f : X → Y) where
       let long = length_paired answer xs ys same in
       e ∙ sym (get_or-zip2 answer xs ys k x y false (omega arith) (omega arith))
 
-  -- the first 64 of a part
+  -- the first 64 values of a part
   loaded : (at : ℕ) (zs : List Y) (xs : List X)
       → zs ≡ map f (take 64 (take (length xs - at) (drop at xs)))
       → zs ≡ map f (take 64 (drop at xs))
@@ -131,8 +131,8 @@ module _ {X Y : Type 0} (s : Y → Y → Bool) (f : X → Y) where
       ∙ sym (ap (take 64) (drop-zip2 answer at xs ys)
       ∙ take-zip2 answer 64 (drop at xs) (drop at ys))
 
--- ---- a list cut where words begin
--- one word more
+-- ---- a list cut at word ends
+-- one more word
 pub next_word : (l : List Bool) (from k : ℕ)
     → take (64 * k) (drop from l) ++ take 64 (drop (from + 64 * k) l)
     ≡ take (64 * (k + 1)) (drop from l)
@@ -141,7 +141,7 @@ next_word l from k =
     ap (λ m. take (64 * k) (drop from l) ++ take 64 m) (sym (drop-drop (64 * k) from l))
     ∙ sym (take-add (64 * k) 64 (drop from l)) ∙ ap (λ n. take n (drop from l)) more
 
--- all of it
+-- the whole list
 pub no_rest : (l : List Bool) (h q : ℕ) → h + q ≡ length l → take h l ++ take q (drop h l) ≡ l
 no_rest l h q e = sym (take-add h q l) ∙ take_all (h + q) l (omega arith)
 

@@ -1,4 +1,4 @@
--- What a comparison answers of two numbers.
+-- The result of a comparison of two numbers.
 use Rattle.std.specs.Prelude.{ℤ, Bool, not, int_lt, int_le}
 use Rattle.std.specs.Ordering.{int_eq}
 use Rattle.vb_compare.specs.declared.comparison.Comparison.{Comparison}
@@ -6,7 +6,7 @@ use Rattle.vb_compare.specs.declared.comparison.Comparison.TheVariants.{Equal, N
 use Rattle.vb_compare.specs.declared.comparison.Comparison.TheVariants.{LessOrEqual, Greater}
 use Rattle.vb_compare.specs.declared.comparison.Comparison.TheVariants.{GreaterOrEqual}
 
--- whether two numbers compare so
+-- whether a compares with b by a comparison
 abbrev pub compares : Comparison → ℤ → ℤ → Bool
 compares Equal a b = int_eq a b
 compares NotEqual a b = not (int_eq a b)

@@ -1,4 +1,4 @@
-//! Values compared, into bits.
+//! Comparisons of whole numbers, with the results as bits.
 ghost use Rattle.std.specs.Prelude.{◌≡◌, length, map};
 ghost use Rattle.std.specs.Simd.Lanes.{zip2};
 ghost use Rattle.vb_compare.specs.Compares.{compares};
@@ -12,12 +12,13 @@ use crate::truths::{ToNumber, ToOthers};
 use crate::write::write_truths;
 
 /// Writes to bit `offset + k` of `out`, for each `k` below the number of values, whether
-/// `values[k]` compares with `number` as `op` says. No other bit changes.
+/// `values[k]` compares with `number` by `op`. No other bit changes.
 ///
-/// These bits have to lie in `out`, and `offset` plus the number of values has to fit in a `usize`.
+/// These bits must be in `out`, and `offset` plus the number of values must fit in a `usize`. Does
+/// not allocate.
 ///
-/// 64 values are compared at once by vectors, or eight times eight of 64 bits and more; fewer than
-/// 64 by eights, and fewer than eight one by one.
+/// Compares 64 values at a time by vectors, those of 64 bits and more eight at a time. Compares
+/// fewer than 64 by eights, and fewer than eight one by one.
 pub fn compare_into<T: CompareLanes>(
     out: &mut [u8],
     offset: usize,
@@ -55,14 +56,14 @@ pub fn compare_into<T: CompareLanes>(
     }
 }
 
-/// Writes to bit `offset + k` of `out`, for each `k` below the number of values, how `values[k]`
-/// compares with `others[k]`. No other bit changes.
+/// Writes to bit `offset + k` of `out`, for each `k` below the number of values, whether
+/// `values[k]` compares with `others[k]` by `op`. No other bit changes.
 ///
-/// There have to be as many others. These bits have to lie in `out`, and `offset` plus the number
-/// of values has to fit in a `usize`.
+/// `others` must have the same length as `values`. These bits must be in `out`, and `offset` plus
+/// the number of values must fit in a `usize`. Does not allocate.
 ///
-/// 64 values are compared at once by vectors, or eight times eight of 64 bits and more; fewer than
-/// 64 by eights, and fewer than eight one by one.
+/// Compares 64 values at a time by vectors, those of 64 bits and more eight at a time. Compares
+/// fewer than 64 by eights, and fewer than eight one by one.
 #[tactic(auto, using(crate::proofs::TruthLemmas::length_paired))]
 pub fn compare_with_into<T: CompareLanes>(
     out: &mut [u8],

@@ -1,18 +1,18 @@
-//! How two values are compared.
+//! The comparisons of two values.
 
-/// How two values are compared.
+/// A comparison of a left value with a right one.
 #[derive(Clone, Copy, Debug, PartialEq, Eq)]
 pub enum Comparison {
-    /// The left one is the right one.
+    /// The values are equal.
     Equal,
-    /// The left one isn't the right one.
+    /// The values differ.
     NotEqual,
-    /// The left one is below the right one.
+    /// The left value is less than the right one.
     Less,
-    /// The left one is below the right one, or it is the right one.
+    /// The left value is less than the right one, or equal to it.
     LessOrEqual,
-    /// The left one is above the right one.
+    /// The left value is greater than the right one.
     Greater,
-    /// The left one is above the right one, or it is the right one.
+    /// The left value is greater than the right one, or equal to it.
     GreaterOrEqual,
 }

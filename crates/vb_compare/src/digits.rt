@@ -1,4 +1,4 @@
-//! Digits of words written as bits.
+//! Bits of words written to bytes.
 ghost use Rattle.std.specs.Prelude.{◌≡◌, ◌+◌, ◌-◌, ◌*◌, ◌%◌, ◌^◌, ◌<◌, ◌≤◌, length};
 ghost use Rattle.vb_compare.specs.Digits.{digits};
 ghost use Rattle.vb_compare.specs.InBytes.{InBytes};
@@ -6,9 +6,9 @@ ghost use Rattle.vb_compare.specs.Writes.{Writes};
 
 use vb_bits::write_word;
 
-/// Writes the `n` lowest digits of `word`, fewer than 64, to the bits from bit `at` on.
+/// Writes the `n` lowest bits of `word`, fewer than 64, to the bits from bit `at` on.
 ///
-/// Only partial bytes are read, so nothing waits for what was just written.
+/// It reads partial bytes only, so it waits for no byte that was just written.
 pub(crate) fn write_digits(out: &mut [u8], at: usize, n: usize, word: u64)
     requires in_word { n < 64 }
     requires window { InBytes out.old at n }
@@ -22,7 +22,7 @@ pub(crate) fn write_digits(out: &mut [u8], at: usize, n: usize, word: u64)
     write_in_byte(out, at + done, n - done, word >> done);
 }
 
-/// Writes the `n` lowest digits of `word` to the bits from bit `at` on, which lie in one byte.
+/// Writes the `n` lowest bits of `word` to the bits from bit `at` on, which must be in one byte.
 #[inline(always)]
 pub(crate) fn write_in_byte(out: &mut [u8], at: usize, n: usize, word: u64)
     requires in_byte { at % 8 + n ≤ 8 }
@@ -38,7 +38,7 @@ pub(crate) fn write_in_byte(out: &mut [u8], at: usize, n: usize, word: u64)
     out[at / 8] = (out[at / 8] & !mask) | (byte & mask);
 }
 
-/// Ones in the digits from `from` up to `to`, `to` excluded.
+/// Returns a byte with ones in bits `from` up to `to`, `to` excluded.
 #[inline(always)]
 fn ones(from: usize, to: usize) -> u8
     requires ordered { from ≤ to }
@@ -50,8 +50,8 @@ fn ones(from: usize, to: usize) -> u8
 
 /// Writes the bytes of `word` from byte `at` on.
 ///
-/// It isn't inlined: where the answers of a comparison are stored right away, the compiler stores
-/// each lane of its vector apart, which is slower at x86-64-v3.
+/// Not inlined: when the results of a comparison are stored right away, the compiler stores each
+/// lane of its vector separately, which is slower at x86-64-v3.
 #[inline(never)]
 pub(crate) fn store_word(out: &mut [u8], at: usize, word: u64)
     requires { at + 8 ≤ length out.old }
@@ -60,7 +60,7 @@ pub(crate) fn store_word(out: &mut [u8], at: usize, word: u64)
     write_word(out, at, word);
 }
 
-/// Writes the `n` lowest bytes of `word` to the bits from the first one of a byte on.
+/// Writes the `n` lowest bytes of `word` to the bits from bit `at` on, the first bit of a byte.
 #[inline(always)]
 fn write_bytes(out: &mut [u8], at: usize, n: usize, word: u64)
     requires in_word { n ≤ 8 }

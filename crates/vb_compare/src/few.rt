@@ -1,14 +1,14 @@
-//! Fewer than 64 truth values as digits of one word.
+//! Fewer than 64 truth values as the bits of one word.
 ghost use Rattle.std.specs.Prelude.{◌≡◌, ◌+◌, ◌-◌, ◌*◌, ◌^◌, ◌<◌, ◌≤◌, length, take, drop};
 ghost use Rattle.vb_compare.specs.Digits.{digits};
 
 use crate::truths::Truths;
 use std::simd::prelude::*;
 
-/// The word whose lowest digits are the last `n` truth values, fewer than 64.
+/// Returns a word whose lowest bits are the last `n` truth values, fewer than 64.
 ///
-/// From eight on they are made by eights, of which the last one may begin before the end of the one
-/// in front of it.
+/// Computes eight or more of them by eights; the last eight may begin before the end of the
+/// previous eight.
 #[inline(always)]
 pub(crate) fn last_values<S: Truths>(source: &S, n: usize) -> u64
     requires few { n < 64 }
@@ -24,7 +24,7 @@ pub(crate) fn last_values<S: Truths>(source: &S, n: usize) -> u64
     }
 }
 
-/// The word whose digits are the 64 truth values from place `from` on.
+/// Returns a word whose bits are the 64 truth values from index `from` on.
 #[inline(always)]
 pub(crate) fn word_from<S: Truths>(source: &S, from: usize) -> u64
     requires fits { length (S.truths source.now) < 2 ^ 64 }
@@ -38,7 +38,7 @@ pub(crate) fn word_from<S: Truths>(source: &S, from: usize) -> u64
     }
 }
 
-/// The word whose lowest digits are the `n` truth values from place `from` on.
+/// Returns a word whose lowest bits are the `n` truth values from index `from` on.
 #[inline(always)]
 fn one_by_one<S: Truths>(source: &S, from: usize, n: usize) -> u64
     requires few { n < 8 }
@@ -53,8 +53,8 @@ fn one_by_one<S: Truths>(source: &S, from: usize, n: usize) -> u64
     word
 }
 
-/// The word whose lowest digits are the `n` times eight truth values from place `from` on, and
-/// whose other digits are 0.
+/// Returns a word whose lowest bits are the `8 * n` truth values from index `from` on; its higher
+/// bits are 0.
 #[inline(always)]
 fn eights<S: Truths>(source: &S, from: usize, n: usize) -> u64
     requires few { n ≤ 8 }
@@ -70,9 +70,9 @@ fn eights<S: Truths>(source: &S, from: usize, n: usize) -> u64
     word
 }
 
-/// The eight truth values from place `from` on, as a number below 256.
+/// Returns the eight truth values from index `from` on, as a number below 256.
 ///
-/// They go through bytes, of which the compiler makes vectors of the values.
+/// Takes them as bytes, for which the compiler builds vectors of the values.
 #[inline(always)]
 pub(crate) fn eight<S: Truths>(source: &S, from: usize) -> u64
     requires fits { length (S.truths source.now) < 2 ^ 64 }

@@ -1,4 +1,4 @@
-//! Whole numbers that are compared 64 at a time.
+//! Whole numbers, compared 64 at a time.
 ghost use Rattle.std.specs.Prelude.{◌≡◌, ℤ, ◌<◌, ◌≤◌, List, length, map, replicate, take};
 ghost use Rattle.std.specs.Prelude.{All, int_lt};
 ghost use Rattle.std.specs.Ordering.{int_eq};
@@ -11,51 +11,52 @@ mod wide;
 
 use vb_core::{BitIndex, Element};
 
-/// A whole number, of which 64 are compared at once. The twelve whole-number types are.
+/// A whole number whose values are compared 64 at a time. The twelve whole-number types implement
+/// it.
 pub trait CompareLanes: BitIndex + Element {
-    /// 64 values: a vector, or an array where the processor has no vectors of the type.
+    /// 64 values: a vector, or an array if the processor has no vectors of the type.
     type Block: Copy;
 
-    // The numbers that they are, in order.
+    // The values of a block as numbers, in order.
     ghost numbers: { Self.Block → List ℤ };
 
-    // Holds of the blocks that `load` and `splat` make.
+    // The property of blocks that `load` and `splat` return.
     ghost is_block: { Self.Block → Type 0 };
 
-    /// The first 64 values.
+    /// Returns the first 64 values, of which there must be so many.
     fn load(values: &[Self]) -> Self::Block
         requires { 64 ≤ length values.now }
         ensures numbers { numbers result ≡ map Self.number (take 64 values.now) }
         ensures block { is_block result };
 
-    /// One value, 64 times.
+    /// Returns a block of 64 times `value`.
     fn splat(value: Self) -> Self::Block
         ensures numbers { numbers result ≡ replicate 64 (Self.number value) }
         ensures block { is_block result };
 
-    /// The word whose digit `k` is whether value `k` of both blocks is the same.
+    /// Returns a word whose bit `k` says whether value `k` is the same in both blocks.
     fn equal(left: Self::Block, right: Self::Block) -> u64
         requires left { is_block left }
         requires right { is_block right }
         ensures { digits result 0 64 ≡ zip2 int_eq (numbers left) (numbers right) };
 
-    /// The word whose digit `k` is whether value `k` of the left block is below that of the right
-    /// one.
+    /// Returns a word whose bit `k` says whether value `k` of the left block is less than value `k`
+    /// of the right one.
     fn less(left: Self::Block, right: Self::Block) -> u64
         requires left { is_block left }
         requires right { is_block right }
         ensures { digits result 0 64 ≡ zip2 int_lt (numbers left) (numbers right) };
 
-    /// Whether this value is the other one.
+    /// Returns whether this value equals `other`.
     fn is_equal(self, other: Self) -> bool
         ensures { result ≡ int_eq (Self.number self) (Self.number other) };
 
-    /// Whether this value is below the other one.
+    /// Returns whether this value is less than `other`.
     fn is_less(self, other: Self) -> bool
         ensures { result ≡ int_lt (Self.number self) (Self.number other) };
 }
 
-/// The first 64 values.
+/// Returns the first 64 values, of which there must be so many.
 pub(crate) fn first_values<T: Element>(values: &[T]) -> [T; 64]
     requires { 64 ≤ length values.now }
     ensures values { result ≡ take 64 values.now }

@@ -1,8 +1,8 @@
-//! Values compared by lanes, into bits.
+//! Values compared by vectors, with the results as bits.
 //!
-//! [`write_truths`] writes truth values of any kind, as comparisons of whole numbers here and of
-//! floats in `vb_float`. Lengths and places are counted in values, or in bits. No call takes
-//! memory.
+//! [`write_truths`] writes truth values of any kind: results of comparisons of whole numbers here,
+//! and of floats in `vb_float`. Lengths and offsets are in values, or in bits. What "must" hold is
+//! for the caller to prove. No call allocates.
 #![tactic(auto)]
 
 mod compare;

@@ -7,32 +7,32 @@ ghost use Rattle.vb_compare.specs.Digits.{digits};
 use crate::lanes::CompareLanes;
 use std::marker::PhantomData;
 
-/// A comparison of two values. It is a type, so that each has loops of its own.
+/// A comparison of two values. Each is a type, so that it has its own loops.
 pub(crate) trait Test {
-    // What it answers of two numbers.
+    // The result for two numbers.
     ghost holds: { ℤ → ℤ → Bool };
 
-    /// What it answers of two values.
+    /// Returns the result for two values.
     fn one<T: CompareLanes>(left: T, right: T) -> bool
         ensures { result ≡ holds (T.number left) (T.number right) };
 
-    /// The word whose digit `k` is what it answers of value `k` of each block.
+    /// Returns a word whose bit `k` is the result for value `k` of each block.
     fn word<T: CompareLanes>(left: T::Block, right: T::Block) -> u64
         requires left { T.is_block left }
         requires right { T.is_block right }
         ensures { digits result 0 64 ≡ zip2 holds (T.numbers left) (T.numbers right) };
 }
 
-/// The left value is the right one.
+/// The two values are equal.
 pub(crate) struct IsEqual;
 
-/// The left value is below the right one.
+/// The left value is less than the right one.
 pub(crate) struct IsLess;
 
-/// The left value is above the right one.
+/// The left value is greater than the right one.
 pub(crate) struct IsGreater;
 
-/// The other comparison answers false.
+/// The comparison `C` is false.
 pub(crate) struct IsNot<C> {
     test: PhantomData<C>,
 }

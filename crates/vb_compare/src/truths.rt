@@ -1,4 +1,4 @@
-//! What a comparison answers of values, one or a word at a time.
+//! The results of a comparison of values, one or 64 at a time.
 ghost use Rattle.std.specs.Prelude.{◌≡◌, ◌+◌, ◌<◌, ◌≤◌, Bool, List, length, map, take, drop};
 ghost use Rattle.std.specs.Simd.Lanes.{zip2};
 ghost use Rattle.vb_bits.specs.Bits.{at};
@@ -8,33 +8,34 @@ use crate::lanes::CompareLanes;
 use crate::test::Test;
 use std::marker::PhantomData;
 
-/// Truth values by position, such as the results of a comparison: one, or 64 in a row at once.
-///
-/// [`write_truths`](crate::write_truths) writes them as bits.
+/// A sequence of truth values, such as the results of a comparison. It returns one of them, or 64
+/// in a row at once.
 pub trait Truths {
-    /// Whether 64 are made sooner as eight times eight, by [`one`](Truths::one), than at once: so
-    /// it is of whole numbers of eight bytes and more, of which a vector has few.
+    /// Whether [`one`](Truths::one), called for eight times eight values, is faster than
+    /// [`word`](Truths::word). It is for whole numbers of eight bytes and more, since a vector has
+    /// few.
     const IS_WIDE: bool;
 
     // The truth values.
     ghost truths: { Self → List Bool };
 
-    /// How many there are.
+    /// Returns the number of truth values.
     fn len(&self) -> usize
         ensures { result ≡ length (truths self.now) };
 
-    /// The one at place `k`.
+    /// Returns the truth value at index `k`, which must be below the length.
     fn one(&self, k: usize) -> bool
         requires { k < length (truths self.now) }
         ensures { result ≡ at (truths self.now) k };
 
-    /// The word whose digits are the 64 from place `k` on.
+    /// Returns a word whose bits are the 64 truth values from index `k` on. `k + 64` must be at
+    /// most the length.
     fn word(&self, k: usize) -> u64
         requires { k + 64 ≤ length (truths self.now) }
         ensures { digits result 0 64 ≡ take 64 (drop k (truths self.now)) };
 }
 
-/// What `C` answers of each value and one number.
+/// The results of `C` for each value and one number.
 #[derive(Drop)]
 pub(crate) struct ToNumber<'a, T, C> {
     values: &'a [T],
@@ -76,7 +77,8 @@ impl<T: CompareLanes, C: Test> Truths for ToNumber<'_, T, C> {
     }
 }
 
-/// What `C` answers of each value and of that at its place among others, which are as many.
+/// The results of `C` for each value and the one at the same index of `others`, which must be as
+/// long.
 #[derive(Drop)]
 pub(crate) struct ToOthers<'a, T, C> {
     values: &'a [T],

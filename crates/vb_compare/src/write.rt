@@ -9,10 +9,11 @@ use crate::digits::{store_word, write_digits, write_in_byte};
 use crate::few::{eight, last_values, word_from};
 use crate::truths::Truths;
 
-/// Writes the truth values to the bits of `out` from bit `offset` on. No other bit changes.
+/// Writes the truth values of `source` to the bits of `out` from bit `offset` on. No other bit
+/// changes.
 ///
-/// These bits have to lie in `out`, and `offset` plus the number of truth values has to fit in a
-/// `usize`. The call is inlined, so that each kind of truth values has loops of its own.
+/// These bits must be in `out`, and `offset` plus the number of truth values must fit in a `usize`.
+/// The call is inlined, so that each kind of truth values has its own loops. Does not allocate.
 #[inline(always)]
 pub fn write_truths<S: Truths>(out: &mut [u8], offset: usize, source: &S)
     requires { InBytes out.old offset (length (S.truths source.now)) }
@@ -26,8 +27,8 @@ pub fn write_truths<S: Truths>(out: &mut [u8], offset: usize, source: &S)
     }
 }
 
-/// [`write_truths`] of 64 and more: those of a partial first byte, those behind them by words that
-/// begin with a byte, and what is left by fewer digits.
+/// Does [`write_truths`] for at least 64: writes those in a partial first byte, then whole words of
+/// bytes, and then those left.
 #[inline(always)]
 fn write_many<S: Truths>(out: &mut [u8], offset: usize, source: &S)
     requires many { 64 ≤ length (S.truths source.now) }
@@ -41,7 +42,8 @@ fn write_many<S: Truths>(out: &mut [u8], offset: usize, source: &S)
     write_rest(out, offset, source, (len - head) % 64);
 }
 
-/// [`write_truths`] of the first `n`, fewer than eight of at least 64, whose bits lie in one byte.
+/// Does [`write_truths`] for the first `n`, fewer than eight of at least 64, whose bits must be in
+/// one byte.
 #[inline(always)]
 fn write_head<S: Truths>(out: &mut [u8], offset: usize, source: &S, n: usize)
     requires few { n < 8 }
@@ -55,7 +57,7 @@ fn write_head<S: Truths>(out: &mut [u8], offset: usize, source: &S, n: usize)
     }
 }
 
-/// The word whose lowest digits are the first eight truth values, of at least 64.
+/// Returns a word whose lowest bits are the first eight truth values, of at least 64.
 #[inline(always)]
 fn first_digits<S: Truths>(source: &S) -> u64
     requires fits { length (S.truths source.now) < 2 ^ 64 }
@@ -69,7 +71,8 @@ fn first_digits<S: Truths>(source: &S) -> u64
     }
 }
 
-/// [`write_truths`] of `words` times 64 from place `from` on, whose bits begin with a byte.
+/// Does [`write_truths`] for `64 * words` from index `from` on, whose first bit must be the first
+/// of a byte.
 #[inline(always)]
 fn write_words<S: Truths>(out: &mut [u8], offset: usize, source: &S, from: usize, words: usize)
     requires whole { (offset + from) % 8 ≡ 0 }
@@ -84,7 +87,7 @@ fn write_words<S: Truths>(out: &mut [u8], offset: usize, source: &S, from: usize
     }
 }
 
-/// [`write_truths`] of the last `n`, fewer than 64 of at least 64.
+/// Does [`write_truths`] for the last `n`, fewer than 64 of at least 64.
 #[inline(always)]
 fn write_rest<S: Truths>(out: &mut [u8], offset: usize, source: &S, n: usize)
     requires few { n < 64 }
@@ -99,9 +102,9 @@ fn write_rest<S: Truths>(out: &mut [u8], offset: usize, source: &S, n: usize)
     }
 }
 
-/// The word whose lowest digits are the last `n` truth values, fewer than 64 of at least 64.
+/// Returns a word whose lowest bits are the last `n` truth values, fewer than 64 of at least 64.
 ///
-/// Up to two eights take less than a word of 64, and where one goes by eights any number does.
+/// Up to two eights are faster than a word of 64, and wide values always go by eights.
 #[inline(always)]
 fn rest_digits<S: Truths>(source: &S, n: usize) -> u64
     requires few { n < 64 }

@@ -1,7 +1,7 @@
-//! The signed whole numbers, compared by lanes.
+//! The signed whole numbers, compared by vectors.
 //!
-//! A vector is made of an array of the values, one by one, since a contract knows of a value that
-//! was read alone that it is one of the type; what is built is a load.
+//! `load` builds a vector from an array, value by value, since a contract knows only of a value
+//! that was read on its own that it is in its type. The compiler makes one load of it.
 ghost use Rattle.std.specs.Prelude.{◌≡◌, All, length, FitsSigned};
 ghost use Rattle.std.specs.Int.{w8, w16, w32, w64};
 

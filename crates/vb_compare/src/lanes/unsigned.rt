@@ -1,4 +1,4 @@
-//! The unsigned whole numbers, compared by lanes.
+//! The unsigned whole numbers, compared by vectors.
 ghost use Rattle.std.specs.Prelude.{◌≡◌, length, map, pos};
 
 use crate::lanes::CompareLanes;

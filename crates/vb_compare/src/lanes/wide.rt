@@ -1,4 +1,4 @@
-//! The whole numbers of 128 bits, which no vector has: compared one by one.
+//! The whole numbers of 128 bits, compared one by one, since no vector has them.
 ghost use Rattle.std.specs.Prelude.{◌≡◌, All, length, map, pos, FitsSigned};
 ghost use Rattle.std.specs.Int.{w128};
 
