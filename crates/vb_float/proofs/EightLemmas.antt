@@ -31,7 +31,7 @@ module _ {X : Type 0} (w : Width) (t : X → X → Bool) (xs ys : List X)
       subst (λ n. n < 2 ^ 8) (sym told)
       (subst (λ n. mask_l (zip2 t xs ys) < 2 ^ n) long (mask_l-lt (zip2 t xs ys)))
 
--- the eight from a place on
+-- the eight from an index on
 pub eight_at : {X : Type 0} (t : X → X → Bool) (at w : ℕ) (xs ys : List X)
     → digits w 0 8 ≡ zip2 t (take 8 (drop at xs)) (take 8 (drop at ys))
     → digits w 0 8 ≡ take 8 (drop at (zip2 t xs ys))

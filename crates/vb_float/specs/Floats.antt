@@ -1,4 +1,4 @@
--- What a comparison answers of two floats.
+-- The result of a comparison of two floats.
 use Rattle.std.specs.Prelude.{Bool}
 use lib.Ieee.{Float, eq, ne, lt, le}
 use Rattle.vb_compare.specs.declared.comparison.Comparison.{Comparison}
@@ -6,7 +6,8 @@ use Rattle.vb_compare.specs.declared.comparison.Comparison.TheVariants.{Equal, N
 use Rattle.vb_compare.specs.declared.comparison.Comparison.TheVariants.{LessOrEqual, Greater}
 use Rattle.vb_compare.specs.declared.comparison.Comparison.TheVariants.{GreaterOrEqual}
 
--- whether two floats compare so, as IEEE 754 says: of what isn't a number only NotEqual holds
+-- whether a compares with b by a comparison, as IEEE 754 defines it: with a NaN only NotEqual is
+-- true
 abbrev pub compares_floats : Comparison → Float → Float → Bool
 compares_floats Equal a b = eq a b
 compares_floats NotEqual a b = ne a b

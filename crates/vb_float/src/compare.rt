@@ -1,4 +1,4 @@
-//! Floats compared, into bits.
+//! Comparisons of floats, with the results as bits.
 ghost use Rattle.std.specs.Prelude.{◌≡◌, length, map};
 ghost use Rattle.std.specs.Simd.Lanes.{zip2};
 ghost use Rattle.vb_bits.specs.InBytes.{InBytes};
@@ -10,12 +10,14 @@ use crate::test::{IsEqual, IsGreater, IsGreaterOrEqual, IsLess, IsLessOrEqual, I
 use crate::truths::{ToNumber, ToOthers};
 use vb_compare::{Comparison, write_truths};
 
-/// Writes to bit `offset + k` of `out`, for each `k` below the number of values, how `values[k]`
-/// compares with `number`. No other bit changes.
+/// Writes to bit `offset + k` of `out`, for each `k` below the number of values, whether
+/// `values[k]` compares with `number` by `op`, as IEEE 754 defines it: with a NaN on either side
+/// only `NotEqual` is true, and 0.0 equals -0.0. No other bit changes.
 ///
-/// These bits have to lie in `out`, and `offset` plus the number of values has to fit in a `usize`.
+/// These bits must be in `out`, and `offset` plus the number of values must fit in a `usize`. Does
+/// not allocate.
 ///
-/// 64 values are compared at once by vectors; fewer than 64 by eights, and fewer than eight one by
+/// Compares 64 values at a time by vectors, fewer than 64 by eights, and fewer than eight one by
 /// one.
 pub fn compare_floats_into<T: FloatLanes>(
     out: &mut [u8],
@@ -54,13 +56,14 @@ pub fn compare_floats_into<T: FloatLanes>(
     }
 }
 
-/// Writes to bit `offset + k` of `out`, for each `k` below the number of values, how `values[k]`
-/// compares with `others[k]`. No other bit changes.
+/// Writes to bit `offset + k` of `out`, for each `k` below the number of values, whether
+/// `values[k]` compares with `others[k]` by `op`, as IEEE 754 defines it: with a NaN on either side
+/// only `NotEqual` is true, and 0.0 equals -0.0. No other bit changes.
 ///
-/// There have to be as many others. These bits have to lie in `out`, and `offset` plus the number
-/// of values has to fit in a `usize`.
+/// `others` must have the same length as `values`. These bits must be in `out`, and `offset` plus
+/// the number of values must fit in a `usize`. Does not allocate.
 ///
-/// 64 values are compared at once by vectors; fewer than 64 by eights, and fewer than eight one by
+/// Compares 64 values at a time by vectors, fewer than 64 by eights, and fewer than eight one by
 /// one.
 #[tactic(auto, using(vb_compare::proofs::TruthLemmas::length_paired))]
 pub fn compare_floats_with_into<T: FloatLanes>(

@@ -1,7 +1,7 @@
-//! 64 values of `f64` compared as eight times eight.
+//! 64 values of `f64`, compared eight at a time.
 //!
-//! Of one comparison of 64 the compiler tests each result again before it makes a digit of it. Of
-//! eight it doesn't.
+//! From one comparison of 64 the compiler builds code that tests each result again before it makes
+//! a bit of it; from a comparison of eight it doesn't.
 ghost use Rattle.std.specs.Prelude.{◌≡◌, ◌^◌, ◌<◌, Bool, length};
 ghost use Rattle.std.specs.Simd.Lanes.{zip2};
 ghost use Rattle.vb_bits.specs.Digits.{digits};
@@ -11,25 +11,25 @@ use std::simd::prelude::*;
 
 /// A comparison of eight floats with eight others.
 pub(crate) trait Eight {
-    // What it answers of two floats.
+    // The result for two floats.
     ghost holds: { Float → Float → Bool };
 
-    /// The number below 256 whose digit `k` is what it answers of value `k` of each vector.
+    /// Returns a number below 256 whose bit `k` is the result for value `k` of each vector.
     fn eight(left: Simd<f64, 8>, right: Simd<f64, 8>) -> u64
         ensures digits { digits result 0 8 ≡ zip2 holds left right }
         ensures clear { result < 2 ^ 8 };
 }
 
-/// Equal floats.
+/// The floats are equal.
 pub(crate) struct Equal;
 
-/// Floats that aren't equal.
+/// The floats aren't equal.
 pub(crate) struct NotEqual;
 
-/// The left ones below the right ones.
+/// The left float is less than the right one.
 pub(crate) struct Less;
 
-/// The left ones below the right ones or equal to them.
+/// The left float is less than the right one, or equal to it.
 pub(crate) struct LessOrEqual;
 
 impl Eight for Equal {
@@ -68,7 +68,8 @@ impl Eight for LessOrEqual {
     }
 }
 
-/// The word whose digit `k` is what `C` answers of value `k` of both sides, which have 64.
+/// Returns a word whose bit `k` is the result of `C` for value `k` of both sides, which must have
+/// 64.
 #[inline(always)]
 pub(crate) fn by_eights<C: Eight>(left: &[f64], right: &[f64]) -> u64
     requires left { length left.now ≡ 64 }

@@ -1,4 +1,4 @@
-//! Floats that are compared 64 at a time.
+//! Floats, compared 64 at a time.
 ghost use Rattle.std.specs.Prelude.{◌≡◌, ◌≤◌, List, length, map, replicate, take};
 ghost use Rattle.std.specs.Simd.Lanes.{zip2};
 ghost use Rattle.vb_bits.specs.Digits.{digits};
@@ -7,59 +7,59 @@ ghost use lib.Ieee.{Float, eq, ne, lt, le};
 use crate::eights::{Equal, Less, LessOrEqual, NotEqual, by_eights};
 use std::simd::prelude::*;
 
-/// A float, of which 64 are compared at once. `f32` and `f64` are.
+/// A float whose values are compared 64 at a time. `f32` and `f64` implement it.
 pub trait FloatLanes: Copy {
     /// 64 values.
     type Block: Copy;
 
-    // The value, as IEEE 754 has it.
+    // The value, by IEEE 754.
     ghost float: { Self → Float };
 
-    // Those of a block, in order.
+    // The values of a block, in order.
     ghost floats: { Self.Block → List Float };
 
-    /// The first 64 values.
+    /// Returns the first 64 values, of which there must be so many.
     fn load(values: &[Self]) -> Self::Block
         requires { 64 ≤ length values.now }
         ensures { floats result ≡ map float (take 64 values.now) };
 
-    /// One value, 64 times.
+    /// Returns a block of 64 times `value`.
     fn splat(value: Self) -> Self::Block
         ensures { floats result ≡ replicate 64 (float value) };
 
-    /// The word whose digit `k` is whether value `k` of the left block is equal to that of the
-    /// right one.
+    /// Returns a word whose bit `k` says whether value `k` of the left block equals value `k` of
+    /// the right one.
     fn equal(left: Self::Block, right: Self::Block) -> u64
         ensures { digits result 0 64 ≡ zip2 eq (floats left) (floats right) };
 
-    /// The word whose digit `k` is whether value `k` of the left block isn't equal to that of the
-    /// right one.
+    /// Returns a word whose bit `k` says whether value `k` of the left block doesn't equal value
+    /// `k` of the right one.
     fn not_equal(left: Self::Block, right: Self::Block) -> u64
         ensures { digits result 0 64 ≡ zip2 ne (floats left) (floats right) };
 
-    /// The word whose digit `k` is whether value `k` of the left block is below that of the right
-    /// one.
+    /// Returns a word whose bit `k` says whether value `k` of the left block is less than value `k`
+    /// of the right one.
     fn less(left: Self::Block, right: Self::Block) -> u64
         ensures { digits result 0 64 ≡ zip2 lt (floats left) (floats right) };
 
-    /// The word whose digit `k` is whether value `k` of the left block is below that of the right
-    /// one or equal to it.
+    /// Returns a word whose bit `k` says whether value `k` of the left block is less than value `k`
+    /// of the right one, or equal to it.
     fn less_or_equal(left: Self::Block, right: Self::Block) -> u64
         ensures { digits result 0 64 ≡ zip2 le (floats left) (floats right) };
 
-    /// Whether this value is equal to the other one.
+    /// Returns whether this value equals `other`.
     fn is_equal(self, other: Self) -> bool
         ensures { result ≡ eq (float self) (float other) };
 
-    /// Whether this value isn't equal to the other one.
+    /// Returns whether this value doesn't equal `other`.
     fn is_not_equal(self, other: Self) -> bool
         ensures { result ≡ ne (float self) (float other) };
 
-    /// Whether this value is below the other one.
+    /// Returns whether this value is less than `other`.
     fn is_less(self, other: Self) -> bool
         ensures { result ≡ lt (float self) (float other) };
 
-    /// Whether this value is below the other one or equal to it.
+    /// Returns whether this value is less than `other`, or equal to it.
     fn is_less_or_equal(self, other: Self) -> bool
         ensures { result ≡ le (float self) (float other) };
 }

@@ -1,8 +1,8 @@
-//! Floats compared by lanes, into bits.
+//! Floats compared by vectors, with the results as bits.
 //!
-//! They compare as IEEE 754 says: what isn't a number equals nothing, itself neither, and is
-//! neither below nor above anything; the two zeros are equal. Lengths and places are counted in
-//! values, or in bits. No call takes memory.
+//! They compare by IEEE 754: a NaN equals nothing, not even itself, and is neither less nor greater
+//! than anything; the two zeros are equal. Lengths and offsets are in values, or in bits. What
+//! "must" hold is for the caller to prove. No call allocates.
 #![tactic(auto)]
 
 mod compare;

@@ -6,21 +6,21 @@ ghost use lib.Ieee.{Float, eq, ne, lt, le};
 
 use crate::lanes::FloatLanes;
 
-/// A comparison of two floats. It is a type, so that each has loops of its own.
+/// A comparison of two floats. Each is a type, so that it has its own loops.
 pub(crate) trait Test {
-    // What it answers of two floats.
+    // The result for two floats.
     ghost holds: { Float → Float → Bool };
 
-    /// What it answers of two values.
+    /// Returns the result for two values.
     fn one<T: FloatLanes>(left: T, right: T) -> bool
         ensures { result ≡ holds (T.float left) (T.float right) };
 
-    /// The word whose digit `k` is what it answers of value `k` of each block.
+    /// Returns a word whose bit `k` is the result for value `k` of each block.
     fn word<T: FloatLanes>(left: T::Block, right: T::Block) -> u64
         ensures { digits result 0 64 ≡ zip2 holds (T.floats left) (T.floats right) };
 }
 
-/// The left value is equal to the right one.
+/// The two values are equal.
 pub(crate) struct IsEqual;
 
 impl Test for IsEqual {
@@ -37,7 +37,7 @@ impl Test for IsEqual {
     }
 }
 
-/// The left value isn't equal to the right one.
+/// The two values aren't equal.
 pub(crate) struct IsNotEqual;
 
 impl Test for IsNotEqual {
@@ -54,7 +54,7 @@ impl Test for IsNotEqual {
     }
 }
 
-/// The left value is below the right one.
+/// The left value is less than the right one.
 pub(crate) struct IsLess;
 
 impl Test for IsLess {
@@ -71,7 +71,7 @@ impl Test for IsLess {
     }
 }
 
-/// The left value is below the right one or equal to it.
+/// The left value is less than the right one, or equal to it.
 pub(crate) struct IsLessOrEqual;
 
 impl Test for IsLessOrEqual {
@@ -88,7 +88,7 @@ impl Test for IsLessOrEqual {
     }
 }
 
-/// The left value is above the right one.
+/// The left value is greater than the right one.
 pub(crate) struct IsGreater;
 
 impl Test for IsGreater {
@@ -105,7 +105,7 @@ impl Test for IsGreater {
     }
 }
 
-/// The left value is above the right one or equal to it.
+/// The left value is greater than the right one, or equal to it.
 pub(crate) struct IsGreaterOrEqual;
 
 impl Test for IsGreaterOrEqual {

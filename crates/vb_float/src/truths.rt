@@ -1,7 +1,7 @@
-//! What a comparison answers of floats, one or a word at a time.
+//! The results of a comparison of floats, one or 64 at a time.
 //!
-//! A word is made by [`FloatLanes`] for `f64` too: of comparisons of single floats the compiler
-//! makes no vectors, as it does of single whole numbers.
+//! [`FloatLanes`] computes a word for `f64` too: the compiler builds no vectors from comparisons of
+//! single floats, as it does from those of single whole numbers.
 ghost use Rattle.std.specs.Prelude.{◌≡◌, length, map};
 ghost use Rattle.std.specs.Simd.Lanes.{zip2};
 
@@ -10,7 +10,7 @@ use crate::test::Test;
 use std::marker::PhantomData;
 use vb_compare::Truths;
 
-/// What `C` answers of each float and one number.
+/// The results of `C` for each float and one number.
 #[derive(Drop)]
 pub(crate) struct ToNumber<'a, T, C> {
     values: &'a [T],
@@ -52,7 +52,8 @@ impl<T: FloatLanes, C: Test> Truths for ToNumber<'_, T, C> {
     }
 }
 
-/// What `C` answers of each float and of that at its place among others, which are as many.
+/// The results of `C` for each float and the one at the same index of `others`, which must be as
+/// long.
 #[derive(Drop)]
 pub(crate) struct ToOthers<'a, T, C> {
     values: &'a [T],
