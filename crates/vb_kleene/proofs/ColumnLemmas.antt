@@ -20,7 +20,7 @@ use Rattle.vb_kleene.proofs.PartLemmas.{both_parts, part_negated}
 use Rattle.vb_view.specs.View.{bits_of}
 use Rattle.vb_view.specs.declared.view.BitBufferView.{BitBufferView}
 
--- what it was made of
+-- the column that is built from values and a validity
 column_of : (c : Column) (values : BitBufferView) (validity : Option BitBufferView)
     → c.values ≡ values → c.validity ≡ validity
     → column c ≡ truths (bits_of values) (option_map bits_of validity)
@@ -28,7 +28,7 @@ column_of c values validity e f =
     ap (λ x. truths (bits_of x) (option_map bits_of c.validity)) e
     ∙ ap (λ v. truths (bits_of values) (option_map bits_of v)) f
 
--- ---- a part, of which x are the values and y says which are valid
+-- ---- a part, with x as its values and y as its validity
 module _ (l m : List Bool) (v : Option (List Bool)) (x y : List Bool) (a b : ℕ) where
   pub true_part : v ≡ Some m → y ≡ slice_range m a b → x ≡ slice_range l a b
       → merged_by (λ a b. a && b) y x ≡ slice_range (map (is_truth true) (truths l v)) a b
@@ -44,7 +44,7 @@ module _ (l m : List Bool) (v : Option (List Bool)) (x y : List Bool) (a b : ℕ
       ∙ ap (λ k. slice_range k a b)
       (where_false l m ∙ ap (λ w. map (is_truth false) (truths l w)) (sym e))
 
--- ---- a part, where all are valid
+-- ---- a part with all values valid
 module _ (l : List Bool) (v : Option (List Bool)) (x : List Bool) (a b : ℕ) where
   pub all_true_part : v ≡ None → x ≡ slice_range l a b
       → x ≡ slice_range (map (is_truth true) (truths l v)) a b
@@ -86,13 +86,13 @@ module _ (l r : Column) (same : length (bits_of r.values) ≡ length (bits_of l.
       (merged_by g (map (is_truth false) (column l)) (map (is_truth false) (column r)))
       (length-trues_by f ∙ sym (length-both g false)) ∙ length-trues_by f
 
--- ---- what two views with validities are combined to
+-- ---- the results for two views with validities
 abbrev answers : (Option Bool → Option Bool → Option Bool) → BitBufferView → Option BitBufferView
     → BitBufferView → Option BitBufferView → List (Option Bool)
 answers op l v r w =
     zip2 op (truths (bits_of l) (option_map bits_of v)) (truths (bits_of r) (option_map bits_of w))
 
--- where the answer is true, and where it isn't null
+-- which results are true, and which aren't null
 pub record Answered (op : Option Bool → Option Bool → Option Bool) (l : BitBufferView)
     (v : Option BitBufferView) (r : BitBufferView) (w : Option BitBufferView)
     (true_bits valid_bits : List Bool) : Type 0 where
@@ -106,7 +106,7 @@ none_is (Some x) e = absurd (true≢false e)
 
 module _ {op : Option Bool → Option Bool → Option Bool} {f g : Bool → Bool → Bool}
     (by : CombinedBy op f g) where
-  -- of the columns that are made of them
+  -- from columns built from the views
   pub answered_by : {l r : BitBufferView} {v w : Option BitBufferView} → (x y : Column)
       → x.values ≡ l → x.validity ≡ v → y.values ≡ r → y.validity ≡ w
       → Answered op l v r w (trues_by f (column x) (column y)) (valid_by f g (column x) (column y))
@@ -120,7 +120,7 @@ module _ {op : Option Bool → Option Bool → Option Bool} {f g : Bool → Bool
             ∙ valid_of by a b;
       }
 
-  -- of their values, where they have no validities
+  -- from the values, if there are no validities
   pub answered_known : (l : BitBufferView) (v : Option BitBufferView) (r : BitBufferView)
       (w : Option BitBufferView) → is_some v ≡ false → is_some w ≡ false
       → length (bits_of r) ≡ length (bits_of l) → Answered op l v r w

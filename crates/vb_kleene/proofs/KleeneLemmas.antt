@@ -1,5 +1,4 @@
--- Truth values that may be null: what is true, false and valid of them, and of what they are
--- combined to.
+-- Truth values that may be null, and their combinations: which of them are true, false and valid.
 use Rattle.std.proofs.Common.{◌≡◌, ℕ, Bool, true, false, not, ◌&&◌, ◌||◌, List, [], ◌∷◌, length}
 use Rattle.std.proofs.Common.{map, replicate, Option, Some, None, is_some, refl, sym, ap, ◌∙◌}
 use Rattle.std.proofs.Common.{arith}
@@ -13,7 +12,7 @@ use Rattle.vb_kleene.specs.Combined.{trues_by, valid_by}
 use Rattle.vb_kleene.specs.Kleene.{and_truths, or_truths, truth, truths, valid_list, is_truth}
 
 -- ---- columns
--- which are valid and true
+-- valid and true
 pub where_true : (values valid : List Bool)
     → merged_by (λ a b. a && b) valid values ≡ map (is_truth true) (zip2 truth values valid)
 unfolding merged_by
@@ -23,7 +22,7 @@ where_true (x ∷ values) [] = refl
 where_true (x ∷ values) (true ∷ valid) = ap (λ l. x ∷ l) (where_true values valid)
 where_true (x ∷ values) (false ∷ valid) = ap (λ l. false ∷ l) (where_true values valid)
 
--- which are valid and false
+-- valid and false
 pub where_false : (values valid : List Bool)
     → merged_by (λ a b. a && not b) valid values ≡ map (is_truth false) (zip2 truth values valid)
 unfolding merged_by
@@ -33,7 +32,7 @@ where_false (x ∷ values) [] = refl
 where_false (x ∷ values) (true ∷ valid) = ap (λ l. not x ∷ l) (where_false values valid)
 where_false (x ∷ values) (false ∷ valid) = ap (λ l. false ∷ l) (where_false values valid)
 
--- the same where all are valid
+-- the same if all are valid
 pub all_true : (values : List Bool)
     → values ≡ map (is_truth true) (zip2 truth values (replicate (length values) true))
 all_true [] = refl
@@ -50,7 +49,7 @@ long_validity : {X : Type 0} (f : X → List Bool) (o : Option X) (n : ℕ)
 long_validity f None n h = length-replicate n true
 long_validity f (Some x) n h = h x refl
 
--- and there are as many truth values
+-- and so is the list of truth values
 pub length-truths : {X : Type 0} (f : X → List Bool) (l : List Bool) (v : Option X)
     → ForSome v (λ x. length (f x) ≡ length l) → length (truths l (option_map f v)) ≡ length l
 length-truths f l v h =
@@ -58,8 +57,8 @@ length-truths f l v h =
     (sym (long_validity f v (length l) h))
 
 -- ---- `and` and `or`
--- f combines where both sides are true to where the answer is, and g where they are false to where
--- it is false; of two that aren't null it isn't
+-- f combines which of both sides are true to which results are true, and g which are false to which
+-- are false; the result of two values that aren't null isn't null
 pub record CombinedBy (op : Option Bool → Option Bool → Option Bool) (f g : Bool → Bool → Bool)
     : Type 0 where
   pub trues : (a b : Option Bool) → f (is_truth true a) (is_truth true b) ≡ is_truth true (op a b)
@@ -121,7 +120,7 @@ or_combined = record { trues = trues; valid = valid; known = known }
     known true y = refl
     known false y = refl
 
--- ---- columns that are combined
+-- ---- combinations of columns
 module _ {op : Option Bool → Option Bool → Option Bool} {f g : Bool → Bool → Bool}
     (by : CombinedBy op f g) where
   pub trues_of : (l r : List (Option Bool)) → trues_by f l r ≡ map (is_truth true) (zip2 op l r)
@@ -140,7 +139,7 @@ module _ {op : Option Bool → Option Bool → Option Bool} {f g : Bool → Bool
       ap (λ x. x ∷ valid_by f g l r) (by.valid a b)
       ∙ ap (λ k. is_some (op a b) ∷ k) (valid_of l r)
 
-  -- where none is null
+  -- without nulls
   pub trues_of_known : (l r : List Bool)
       → merged_by f l r ≡ map (is_truth true) (zip2 op (truths l None) (truths r None))
   trues_of_known l r =

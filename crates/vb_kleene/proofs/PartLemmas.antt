@@ -1,4 +1,4 @@
--- Parts of lists that are combined place by place, and writes of one part after another.
+-- Parts of lists that are combined index by index, and writes of one part after another.
 use Rattle.std.proofs.Common.{◌≡◌, ℕ, zero, suc, ◌+◌, ◌-◌, ◌<◌, ◌≤◌, ◌⊎◌, Bool, not, List}
 use Rattle.std.proofs.Common.{[], ◌∷◌, ◌++◌}
 use Rattle.std.proofs.Common.{length, take, drop, refl, sym, ap, subst, ◌∙◌, arith}
@@ -32,7 +32,7 @@ drop-merged_by f (suc n) [] r = refl
 drop-merged_by f (suc n) (x ∷ l) [] = sym (none_merged f (drop n l))
 drop-merged_by f (suc n) (x ∷ l) (y ∷ r) = drop-merged_by f n l r
 
--- parts that are combined are a part of what the lists are combined to
+-- the combination of two parts is a part of the combination of the lists
 pub both_parts : (f : Bool → Bool → Bool) (l r x y : List Bool) (a b : ℕ)
     → x ≡ slice_range l a b → y ≡ slice_range r a b
     → merged_by f x y ≡ slice_range (merged_by f l r) a b
@@ -41,14 +41,14 @@ both_parts f l r x y a b left right =
     ∙ sym (ap (take (b - a)) (drop-merged_by f a l r)
     ∙ take-merged_by f (b - a) (drop a l) (drop a r))
 
--- and so is one that is negated
+-- and the negation of a part is a part of the negation
 pub part_negated : (l x : List Bool) (a b : ℕ) → x ≡ slice_range l a b
     → complement x ≡ slice_range (complement l) a b
 part_negated l x a b e =
     ap complement e
     ∙ sym (ap (take (b - a)) (drop-map not a l) ∙ take-map not (b - a) (drop a l))
 
--- w values written behind all that come before them
+-- w values written after those before them
 pub Writes-part : (b c d : List ℕ) (o p m w e : ℕ) (l : List Bool) → m ≤ length l
     → p ≡ o + m → m + w ≡ e → Writes b c o (take m l) → Writes c d p (slice_range l m (m + w))
     → Writes b d o (take e l)
@@ -59,7 +59,7 @@ Writes-part b c d o p m w e l inside at end one two =
     ∙ ap (λ n. take n l) end)
     (Writes-add b c d o p (take m l) (slice_range l m (m + w)) (omega arith) one two)
 
--- the same of a part that doesn't begin with the first value
+-- the same for a part that doesn't begin with the first value
 pub Writes-next : (b c d : List ℕ) (o p a m w e : ℕ) (l : List Bool) → a ≤ m → m ≤ length l
     → p ≡ o + (m - a) → m + w ≡ e → Writes b c o (slice_range l a m)
     → Writes c d p (slice_range l m (m + w)) → Writes b d o (slice_range l a e)
@@ -72,7 +72,7 @@ Writes-next b c d o p a m w e l from inside at end one two =
     ∙ ap (take (m - a + w - (m - a))) (ap (λ n. drop n l) (sym here) ∙ sym (drop-drop (m - a) a l)))
     two)
 
--- how many are in a part
+-- the length of a part
 pub length-part : (l : List Bool) (a w : ℕ) → a + w ≤ length l
     → length (slice_range l a (a + w)) ≡ w
 length-part l a w inside =
@@ -89,6 +89,6 @@ Writes-over b c d o l m e one two = record {
   others = λ i h. two.others i h ∙ one.others i (subst (λ n. (i < o) ⊎ (o + n ≤ i)) (sym e) h);
 }
 
--- a list that is another one
+-- two equal lists
 pub Writes-as : {b c : List ℕ} {o : ℕ} {l m : List Bool} → l ≡ m → Writes b c o l → Writes b c o m
 Writes-as {b} {c} {o} same wrote = subst (Writes b c o) same wrote

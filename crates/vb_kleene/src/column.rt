@@ -1,4 +1,4 @@
-//! Truth values that may be null, read by words.
+//! Truth values that may be null, read a word at a time.
 ghost use Rattle.std.specs.Prelude.{◌≡◌, ◌+◌, ◌*◌, ◌<◌, ◌≤◌, true, false, length, map};
 ghost use Rattle.std.specs.Prelude.{slice_range};
 ghost use Rattle.std.specs.Option.{ForSome};
@@ -10,7 +10,7 @@ use std::simd::prelude::*;
 use vb_bits::{And, AndNot, Merge, shifted_words, words_at};
 use vb_view::{BitBufferView, view_word};
 
-/// Truth values that may be null: bits, and which of them are valid, all without a validity.
+/// Truth values that may be null: bits, and their validity. Without a validity all are valid.
 #[derive(Clone, Copy)]
 pub(crate) struct Column<'a> {
     values: BitBufferView<'a>,
@@ -29,14 +29,14 @@ impl<'a> Column<'a> {
         Column { values, validity }
     }
 
-    /// How many there are.
+    /// Returns the number of truth values.
     pub(crate) fn len(&self) -> usize
         ensures { result ≡ length (bits_of self.now.values) }
     {
         self.values.len()
     }
 
-    /// Which are true, and which are false, of the 256 from place `256 * k` on.
+    /// Returns which of the 256 truth values from index `256 * k` on are true, and which are false.
     #[inline(always)]
     pub(crate) fn block(&self, k: usize) -> (u64x4, u64x4)
         requires { 256 * k + 256 ≤ length (bits_of self.now.values) }
@@ -57,8 +57,8 @@ impl<'a> Column<'a> {
         }
     }
 
-    /// Which are true, and which are false, of the `n` from place `at` on, as the lowest digits of
-    /// words.
+    /// Returns which of the `n` truth values from index `at` on are true, and which are false, as
+    /// the lowest bits of two words.
     #[inline(always)]
     pub(crate) fn word(&self, at: usize, n: usize) -> (u64, u64)
         requires few { n ≤ 64 }
@@ -79,7 +79,7 @@ impl<'a> Column<'a> {
     }
 }
 
-/// The 256 bits from place `256 * k` on as four words.
+/// Returns the 256 bits from index `256 * k` on as four words.
 #[inline(always)]
 #[tactic(auto, using(vb_bits::proofs::WindowLemmas::windows))]
 fn block_of(view: BitBufferView<'_>, k: usize) -> u64x4

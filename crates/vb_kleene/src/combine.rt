@@ -1,8 +1,8 @@
-//! Truth values that may be null, combined by words.
+//! Truth values that may be null, combined a word at a time.
 //!
-//! Where the answer is true is `T` of where the two sides are true, and where it is false is `F` of
-//! where they are false: `and` is `And` and `Or`, and `or` is `Or` and `And`. What is neither is
-//! null.
+//! The results that are true are `T` of the sides' true ones, and those that are false are `F` of
+//! their false ones: `and` is `And` and `Or`, and `or` is `Or` and `And`. A result that is neither
+//! is null.
 ghost use Rattle.std.specs.Prelude.{◌≡◌, ◌+◌, ◌*◌, ◌≤◌, length, slice_range};
 ghost use Rattle.vb_kleene.specs.Combined.{column, trues_by, valid_by};
 ghost use Rattle.vb_kleene.specs.Digits.{digits, lane_bits};
@@ -12,8 +12,8 @@ use crate::column::Column;
 use std::simd::prelude::*;
 use vb_bits::{Merge, Or};
 
-/// Where the answer is true, and where it isn't null, of the 256 truth values from place `256 * k`
-/// on.
+/// Returns which results are true, and which aren't null, for the 256 truth values from index
+/// `256 * k` on.
 #[inline(always)]
 pub(crate) fn block<T: Merge, F: Merge>(
     left: &Column<'_>,
@@ -35,7 +35,7 @@ pub(crate) fn block<T: Merge, F: Merge>(
     (trues, Or::words(trues, F::words(left_falses, right_falses)))
 }
 
-/// The same of the `n` from place `at` on, as the lowest digits of words.
+/// Returns the same for the `n` truth values from index `at` on, as the lowest bits of two words.
 #[inline(always)]
 pub(crate) fn word<T: Merge, F: Merge>(
     left: &Column<'_>,

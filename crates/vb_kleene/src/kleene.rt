@@ -13,19 +13,19 @@ use crate::write::write_combined;
 use vb_bits::{And, BitOp, Or};
 use vb_view::BitBufferView;
 
-/// Writes `left and right` of truth values that may be null, by three-valued logic, Kleene's, as in
-/// SQL: false where one of the two is false, even if the other one is null; else null where one is
-/// null. Which are true goes to the bits of `trues` from bit `trues_offset` on, and which aren't
-/// null to those of `valid` from bit `valid_offset` on, one for each value. No other bit changes.
+/// Writes `left and right` of truth values that may be null, by three-valued logic (Kleene's, as in
+/// SQL): false if one of the two is false, even if the other one is null; else null if one is null;
+/// else true. Writes two bits for each pair: whether the result is true to the bits of `trues` from
+/// bit `trues_offset` on, with false at nulls, and whether it isn't null to the bits of `valid`
+/// from bit `valid_offset` on. No other bit changes.
 ///
-/// A validity says which values aren't null; without one, no value is. It has to be as long as its
-/// values, and `right` as long as `left`. Both windows that are written have to lie in their bytes,
-/// and their ends have to fit in a `usize`. What values have at nulls counts for nothing, and at a
-/// null of the answer the bit of `trues` is false.
+/// A value is null if its bit of the validity is false; without a validity no value is. `right` and
+/// both validities must be as long as `left`. Both windows that are written must be in their bytes,
+/// and their ends must fit in a `usize`. The bits of `left` and `right` at nulls are ignored.
 ///
-/// It goes over the bits once, by four words at a time, whatever the offsets are. Where a window
-/// that is written doesn't begin with a byte, what is made is copied into it, by blocks. Without
-/// validities the values alone are combined.
+/// Reads the bits once, four words at a time, at any offsets. Copies the results in blocks to a
+/// window that doesn't begin with a byte. Without validities it combines only the values. Does not
+/// allocate.
 pub fn and_kleene_into(
     trues: &mut [u8],
     trues_offset: usize,
@@ -68,9 +68,9 @@ pub fn and_kleene_into(
     write_combined::<And, Or>(trues, trues_offset, valid, valid_offset, &left, &right);
 }
 
-/// Writes `left or right` of truth values that may be null, by three-valued logic: true where one
-/// of the two is true, even if the other one is null; else null where one is null. Of windows,
-/// lengths, validities and nulls [`and_kleene_into`] says all.
+/// Writes `left or right` of truth values that may be null, by three-valued logic: true if one of
+/// the two is true, even if the other one is null; else null if one is null; else false. Windows,
+/// lengths, validities and nulls are as in [`and_kleene_into`]. Does not allocate.
 pub fn or_kleene_into(
     trues: &mut [u8],
     trues_offset: usize,

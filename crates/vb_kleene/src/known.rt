@@ -1,4 +1,4 @@
-//! Truth values of which none is null, combined.
+//! Truth values combined, with none of them null.
 ghost use Rattle.std.specs.Prelude.{◌≡◌, true, length, replicate};
 ghost use Rattle.vb_bits.specs.Bits.{bits};
 ghost use Rattle.vb_bits.specs.Operators.{combined_by};
@@ -9,8 +9,8 @@ ghost use Rattle.vb_kleene.specs.Writes.{Writes};
 use vb_bits::{BitOp, copy_bits, fill_bits, zip_words};
 use vb_view::BitBufferView;
 
-/// Writes the values combined by `op` to the bits of `trues` from bit `t` on, and as many true ones
-/// to those of `valid` from bit `v` on; every other bit stays.
+/// Writes the values combined by `op` to the bits of `trues` from bit `t` on, and the same number
+/// of ones to the bits of `valid` from bit `v` on. Every other bit is unchanged.
 pub(crate) fn write_known(
     trues: &mut [u8],
     t: usize,

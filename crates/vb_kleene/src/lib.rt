@@ -1,6 +1,7 @@
-//! Truth values that may be null, combined by three-valued logic, over slices.
+//! `and` and `or` of truth values that may be null, by three-valued logic, over slices.
 //!
-//! Lengths and places are counted in bits. No call takes memory.
+//! Lengths, offsets and indices are in bits. What "must" hold is for the caller to prove. No call
+//! allocates.
 #![tactic(auto)]
 
 mod column;

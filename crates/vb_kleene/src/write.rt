@@ -11,13 +11,13 @@ use crate::combine::{block, word};
 use std::simd::prelude::*;
 use vb_bits::{Merge, copy_bits, write_word};
 
-/// How many times 256 truth values are made before they are copied to a window that doesn't begin
-/// with a byte: so many that the copy's call is little beside them, and few enough that clearing
-/// their bytes is.
+/// The number of blocks of 256 truth values that are computed before they are copied to a window
+/// that doesn't begin with a byte: enough that the call of the copy costs little, and few enough
+/// that clearing their bytes does too.
 const COPIED: usize = 16;
 
-/// Writes where the answer is true to the bits of `trues` from bit `t` on, and where it isn't null
-/// to those of `valid` from bit `v` on; every other bit stays.
+/// Writes which results are true to the bits of `trues` from bit `t` on, and which aren't null to
+/// the bits of `valid` from bit `v` on. Every other bit is unchanged.
 pub(crate) fn write_combined<T: Merge, F: Merge>(
     trues: &mut [u8],
     t: usize,
@@ -45,8 +45,8 @@ pub(crate) fn write_combined<T: Merge, F: Merge>(
     }
 }
 
-/// [`write_combined`] of the first `n` times 256 truth values. Where a window doesn't begin with a
-/// byte, they go by way of bytes that do, and are copied.
+/// Does [`write_combined`] for the first `256 * n` truth values. If one of the two windows doesn't
+/// begin with a byte, computes them in bytes of its own and copies these.
 fn write_blocks<T: Merge, F: Merge>(
     trues: &mut [u8],
     t: usize,
@@ -84,8 +84,8 @@ fn write_blocks<T: Merge, F: Merge>(
     }
 }
 
-/// Writes where the answer is true, of `n` times 256 truth values from place `256 * first` on, to
-/// the bytes of `trues` from byte `t` on, and where it isn't null to those of `valid` from byte `v`
+/// Writes which results are true to the bytes of `trues` from byte `t` on, and which aren't null to
+/// the bytes of `valid` from byte `v` on, for the `256 * n` truth values from index `256 * first`
 /// on.
 fn fill_blocks<T: Merge, F: Merge>(
     trues: &mut [u8],
@@ -117,8 +117,8 @@ fn fill_blocks<T: Merge, F: Merge>(
     }
 }
 
-/// [`write_combined`] of `n` times 256 truth values from place `256 * first` on, at most as many as
-/// are copied at once.
+/// Does [`write_combined`] for the `256 * n` truth values from index `256 * first` on. `n` must be
+/// at most [`COPIED`].
 #[inline(never)]
 fn copy_blocks<T: Merge, F: Merge>(
     trues: &mut [u8],
@@ -149,9 +149,9 @@ fn copy_blocks<T: Merge, F: Merge>(
     copy_bits(valid, v + 256 * first, &made_valid, 0, 256 * n);
 }
 
-/// [`write_combined`] of the `n` truth values from place `at` on.
+/// Does [`write_combined`] for the `n` truth values from index `at` on.
 ///
-/// It isn't inlined: of a loop over words the compiler makes vectors that gather, which are slower.
+/// Not inlined: for a loop over words the compiler builds vectors by gathers, which are slower.
 #[inline(never)]
 fn write_part<T: Merge, F: Merge>(
     trues: &mut [u8],
@@ -178,7 +178,7 @@ fn write_part<T: Merge, F: Merge>(
     write_digits(valid, v + at, n, valid_word);
 }
 
-/// Writes the `n` lowest digits of `word` to the bits from bit `at` on.
+/// Writes the `n` lowest bits of `word` to the bits from bit `at` on.
 #[inline(always)]
 fn write_digits(out: &mut [u8], at: usize, n: usize, word: u64)
     requires in_word { n ≤ 64 }

@@ -7,7 +7,7 @@ use Rattle.vb_kleene.proofs.ColumnLemmas.{length-trues_by, length-valid_by}
 use Rattle.vb_kleene.proofs.PartLemmas.{length-part}
 use Rattle.vb_kleene.proofs.write.copy_blocks.Goals as goal
 
--- what was made is copied
+-- the results are copied
 copied : (before made b c : List ℕ) (o a w : ℕ) (l : List Bool) → a + w ≤ length l
     → Writes before made 0 (slice_range l a (a + w)) → Writes b c o (bits made 0 w)
     → Writes b c o (slice_range l a (a + w))

@@ -13,7 +13,7 @@ none_written : (b : List ℕ) (o a : ℕ) (l : List Bool) → a ≤ length l
 none_written b o a l inside = Writes_none b o (slice_range l a (a + 0))
     (length-part l a 0 (omega arith))
 
--- one block more
+-- one more block
 block_written : (b c d : List ℕ) (t first k : ℕ) (l m : List Bool)
     → 256 * first + 256 * k ≤ length l
     → m ≡ slice_range l (256 * (first + k)) (256 * (first + k) + 256)

@@ -11,7 +11,7 @@ use Rattle.vb_kleene.proofs.write.write_blocks.Goals as goal
 none_written : (b : List ℕ) (o k : ℕ) (l : List Bool) → k ≡ 0 → Writes b b o (take k l)
 none_written b o k l none = Writes_none b o (take k l) (ap (λ n. length (take n l)) none)
 
--- up to 16 blocks more
+-- up to 16 more blocks
 more_written : (b c d : List ℕ) (o n j w : ℕ) (l : List Bool) → 256 * n ≤ length l → 16 * j < n
     → w ≡ min (n - 16 * j) 16 → Writes b c o (take (256 * min n (16 * j)) l)
     → Writes c d (o + 256 * (16 * j)) (slice_range l (256 * (16 * j)) (256 * (16 * j) + 256 * w))

@@ -25,7 +25,7 @@ loop-k-preserved g c =
           c.loop-k.invariant.valid c.write_part.ensures.valid;
     }
 
--- the last ones, which are no whole word
+-- the last ones, fewer than a word
 module _ (b c d : List ℕ) (o k n r : ℕ) (l : List Bool) (long : length l ≡ n) where
   with_rest : n ≡ 64 * k + r → Writes b c o (take (64 * k) l)
       → Writes c d (o + (n - r)) (slice_range l (n - r) (n - r + r)) → Writes b d o l
