@@ -1,4 +1,4 @@
--- Windows of bytes, in those of the bytes alone that have a bit of them.
+-- Windows of bytes, as windows of only those bytes that have a bit of them.
 use Rattle.std.proofs.Common.{◌≡◌, ◌⊎◌, inl, inr, ℕ, ◌+◌, ◌-◌, ◌*◌, ◌/◌, ◌%◌, ◌<◌, ◌≤◌, Bool, List}
 use Rattle.std.proofs.Common.{length, take, drop, get_or, ap, sym, ◌∙◌, arith}
 use Rattle.std.specs.Int.{div_ceil}
@@ -13,23 +13,23 @@ use Rattle.vb_bits.proofs.WindowLemmas.{bits-take_bytes, bits-drop_bytes, bit_of
 use Rattle.vb_bits.proofs.WritesLemmas.{Writes_by_bits, Writes-at, length-put_mid}
 use Rattle.vb_bits.proofs.WritesLemmas.{get_or-put_mid_inside, get_or-put_mid_outside}
 
--- the bytes from that of bit o up to byte e, e excluded
+-- the bytes from the one of bit o up to byte e, e excluded
 abbrev pub part : List ℕ → ℕ → ℕ → List ℕ
 part b o e = take (e - o / 8) (drop (o / 8) b)
 
--- they have the window of n bits from bit o on, where it ends in the last one of them
+-- they have the window of n bits from bit o on, if it ends in the last of them
 pub bits_of_part : (b : List ℕ) (o n e : ℕ) → e ≡ div_ceil (o + n) 8
     → bits (part b o e) (o % 8) n ≡ bits b o n
 bits_of_part b o n e end =
     bits-take_bytes (e - o / 8) (drop (o / 8) b) (o % 8) n (omega (arith, end))
     ∙ bits-drop_bytes b o n
 
--- as many bytes
+-- the number of these bytes
 length-part : (b : List ℕ) (o e : ℕ) → e ≤ length b → length (part b o e) ≡ e - o / 8
 length-part b o e inside = simp (length-take, length-drop) (omega arith)
 
 module _ (b c : List ℕ) (o e : ℕ) where
-  -- the bytes with c in place of these
+  -- the bytes, with c in place of these
   abbrev whole : List ℕ
   whole = put_mid (o / 8) (e - o / 8) b c
 
@@ -47,7 +47,7 @@ module _ (b c : List ℕ) (o e : ℕ) where
       ∙ ap (λ j. has_bit (get_or c j 0) (i % 8)) (sym here)
       ∙ ap (has_bit (get_or c ((i - 8 * (o / 8)) / 8) 0)) digit
 
-  -- what is written there is written in all of them
+  -- a write to these bytes is a write to all bytes
   pub Writes_in_part : (n : ℕ) (m : List Bool) → length m ≡ n → InBytes b o n
       → e ≡ div_ceil (o + n) 8 → Writes (part b o e) c (o % 8) m → Writes b whole o m
   Writes_in_part n m size window end w =

@@ -1,4 +1,4 @@
--- What a place that crosses to C stands for.
+-- The index that C functions return.
 use Rattle.std.specs.Prelude.{ℕ, Option, Some, None, if◌then◌else◌}
 use Rattle.vb_c_core.specs.declared.place.Place.{Place}
 

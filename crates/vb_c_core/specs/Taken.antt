@@ -1,4 +1,4 @@
--- What the end of a take that crosses to C stands for.
+-- The result of a take that C functions return.
 use Rattle.std.specs.Prelude.{ℕ, Option, Some, None, if◌then◌else◌}
 use Rattle.vb_c_core.specs.declared.taken.Taken.{Taken}
 

@@ -3,10 +3,12 @@ ghost use Rattle.vb_bits.specs.Bits.{bits};
 ghost use Rattle.vb_bits.specs.InBytes.{InBytes};
 ghost use Rattle.vb_bits.specs.Writes.{Writes};
 
-/// Copies the `len` bits of `src` from bit `s` on to the bits of `dst` from bit `d` on, and stores
-/// only the bytes of `dst` from that of the first one up to that of the last one.
+/// Copies the `len` bits of `src` from bit `s` on to the bits of `dst` from bit `d` on. Both
+/// windows must be in their bytes, and their ends must fit in a `usize`. Every other bit of `dst`
+/// is unchanged.
 ///
-/// The kernel, `copy_bits` of `vb_bits`, stores whole words where its slice has room for them.
+/// Stores only the bytes of `dst` that have a bit of the window. The kernel, `copy_bits` of
+/// `vb_bits`, stores whole words where its slice has space for them.
 pub fn copy_to_window(dst: &mut [u8], d: usize, src: &[u8], s: usize, len: usize)
     requires into { InBytes dst.old d len }
     requires from { InBytes src.now s len }

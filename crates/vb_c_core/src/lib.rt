@@ -1,5 +1,5 @@
-//! What crosses to C and is more than a number, how calls from C answer, and how bits are copied to
-//! memory that other threads may write beside: what the static libraries over the kernels share.
+//! The types that the C functions return, the contracts of their checked forms, and a copy of bits
+//! to memory next to which other threads may write. The crates of C functions share these.
 #![tactic(auto)]
 
 mod copy;

@@ -1,15 +1,14 @@
-//! Places as they cross to C.
+//! The index of a bit, as C functions return it.
 ghost use Rattle.std.specs.Prelude.{◌≡◌};
 ghost use Rattle.vb_c_core.specs.Place.{answered_place};
 
-/// The place of a bit, as an `Option<usize>` crosses to C: `index` says something only where
-/// `found` is true.
+/// The index of a bit: an `Option<usize>` for C. `index` is meaningful only if `found` is true.
 #[repr(C)]
 #[derive(Clone, Copy)]
 pub struct Place {
-    /// Whether there is a place.
+    /// Whether there is such a bit.
     pub found: bool,
-    /// The place, counted from 0; it says something only where `found` is true.
+    /// The index, counted from 0; meaningful only if `found` is true.
     pub index: usize,
 }
 

@@ -1,15 +1,15 @@
-//! How takes end, as it crosses to C.
+//! The result of a take, as C functions return it.
 ghost use Rattle.std.specs.Prelude.{◌≡◌};
 ghost use Rattle.vb_c_core.specs.Taken.{first_past};
 
-/// How a take ended. The first position whose index is out of range crosses to C so, an
-/// `Option<usize>`: `position` says something only where `out_of_range` is true.
+/// The result of a take: the first position whose index is out of range, an `Option<usize>` for C.
+/// `position` is meaningful only if `out_of_range` is true.
 #[repr(C)]
 #[derive(Clone, Copy)]
 pub struct Taken {
     /// Whether an index that counts is out of range.
     pub out_of_range: bool,
-    /// The first position of such an index; it says something only where `out_of_range` is true.
+    /// The first position of such an index; meaningful only if `out_of_range` is true.
     pub position: usize,
 }
 
