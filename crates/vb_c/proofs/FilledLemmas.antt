@@ -1,4 +1,4 @@
--- Memory of the caller that is written to its end.
+-- The caller's memory, written to its end.
 use Rattle.std.proofs.Common.{◌≡◌, ℕ, ◌≤◌, List, ◌++◌, length, take, drop, sym, ap, ◌∙◌, arith}
 use Rattle.std.specs.Prelude.{min}
 use Rattle.std.proofs.Math.Seq.{take-append_seam}
@@ -6,7 +6,7 @@ use Rattle.std.proofs.lemmas.List.{append_assoc, drop-append-le, length-append, 
 use Rattle.std.proofs.lemmas.List.{take-append-drop}
 use Rattle.vb_bits.specs.Fills.{Fills}
 
--- as many of the values as there was room for
+-- the first values, up to the end of the memory
 pub Fills-full : {T : Type 0} (front rest all old new : List T) (n : ℕ) → front ++ rest ≡ all
     → n ≡ length front → n ≡ length old → new ≡ front ++ drop n old → Fills all old new n
 Fills-full front rest all old new n whole len full items =
@@ -18,7 +18,7 @@ Fills-full front rest all old new n whole len full items =
       items = items ∙ ap (λ l. l ++ drop n old) (sym first);
     }
 
--- the same by the first k places alone, as many as there is something to write to
+-- the same from a write to the first k items alone, k being the number of those written
 pub Fills-in_front : {T : Type 0} (all old new : List T) (k n : ℕ)
     → k ≡ min (length all) (length old) → Fills all (take k old) new n
     → Fills all old (new ++ drop k old) n

@@ -7,8 +7,9 @@ ghost use Rattle.vb_c.specs.Windows.{AllInBytes, BothInBytes};
 
 use vb_bits::{BitOp, window_fits, zip_into, zip_words};
 
-/// Makes each of the `len` bits of `dst` from bit `d` on true exactly where it is true and that of
-/// `src` from bit `s` on is, and leaves every other bit of `dst`. The two may not overlap.
+/// Sets each of the `len` bits of `dst` from bit `d` on to true if it is true and that of `src`
+/// from bit `s` on is, else to false. Every other bit of `dst` is unchanged. The two must not
+/// overlap.
 #[unsafe(no_mangle)]
 pub extern "C" fn vb_and_bits(dst: &mut [u8], d: usize, src: &[u8], s: usize, len: usize)
     requires { BothInBytes dst.old d src.now s len }
@@ -17,8 +18,8 @@ pub extern "C" fn vb_and_bits(dst: &mut [u8], d: usize, src: &[u8], s: usize, le
     combine(dst, d, src, s, len, BitOp::And);
 }
 
-/// Makes each of the `len` bits of `dst` from bit `d` on true exactly where it is true or that of
-/// `src` from bit `s` on is, and leaves every other bit of `dst`. The two may not overlap.
+/// Sets each of the `len` bits of `dst` from bit `d` on to true if it is true or that of `src` from
+/// bit `s` on is, else to false. Every other bit of `dst` is unchanged. The two must not overlap.
 #[unsafe(no_mangle)]
 pub extern "C" fn vb_or_bits(dst: &mut [u8], d: usize, src: &[u8], s: usize, len: usize)
     requires { BothInBytes dst.old d src.now s len }
@@ -27,8 +28,8 @@ pub extern "C" fn vb_or_bits(dst: &mut [u8], d: usize, src: &[u8], s: usize, len
     combine(dst, d, src, s, len, BitOp::Or);
 }
 
-/// Makes each of the `len` bits of `dst` from bit `d` on true exactly where it is another than that
-/// of `src` from bit `s` on, and leaves every other bit of `dst`. The two may not overlap.
+/// Sets each of the `len` bits of `dst` from bit `d` on to true if it differs from that of `src`
+/// from bit `s` on, else to false. Every other bit of `dst` is unchanged. The two must not overlap.
 #[unsafe(no_mangle)]
 pub extern "C" fn vb_xor_bits(dst: &mut [u8], d: usize, src: &[u8], s: usize, len: usize)
     requires { BothInBytes dst.old d src.now s len }
@@ -37,8 +38,9 @@ pub extern "C" fn vb_xor_bits(dst: &mut [u8], d: usize, src: &[u8], s: usize, le
     combine(dst, d, src, s, len, BitOp::Xor);
 }
 
-/// Makes each of the `len` bits of `dst` from bit `d` on true exactly where it is true and that of
-/// `src` from bit `s` on isn't, and leaves every other bit of `dst`. The two may not overlap.
+/// Sets each of the `len` bits of `dst` from bit `d` on to true if it is true and that of `src`
+/// from bit `s` on isn't, else to false. Every other bit of `dst` is unchanged. The two must not
+/// overlap.
 #[unsafe(no_mangle)]
 pub extern "C" fn vb_and_not_bits(dst: &mut [u8], d: usize, src: &[u8], s: usize, len: usize)
     requires { BothInBytes dst.old d src.now s len }
@@ -47,7 +49,8 @@ pub extern "C" fn vb_and_not_bits(dst: &mut [u8], d: usize, src: &[u8], s: usize
     combine(dst, d, src, s, len, BitOp::AndNot);
 }
 
-/// Whether both windows lie in their bytes; [`vb_and_bits`] is then done, else nothing.
+/// Returns whether both windows are in their bytes. If so, does [`vb_and_bits`]; else leaves `dst`
+/// unchanged.
 #[unsafe(no_mangle)]
 pub extern "C" fn vb_try_and_bits(
     dst: &mut [u8],
@@ -67,7 +70,8 @@ pub extern "C" fn vb_try_and_bits(
     true
 }
 
-/// Whether both windows lie in their bytes; [`vb_or_bits`] is then done, else nothing.
+/// Returns whether both windows are in their bytes. If so, does [`vb_or_bits`]; else leaves `dst`
+/// unchanged.
 #[unsafe(no_mangle)]
 pub extern "C" fn vb_try_or_bits(dst: &mut [u8], d: usize, src: &[u8], s: usize, len: usize) -> bool
     ensures { DoneIf (BothInBytes dst.old d src.now s len)
@@ -81,7 +85,8 @@ pub extern "C" fn vb_try_or_bits(dst: &mut [u8], d: usize, src: &[u8], s: usize,
     true
 }
 
-/// Whether both windows lie in their bytes; [`vb_xor_bits`] is then done, else nothing.
+/// Returns whether both windows are in their bytes. If so, does [`vb_xor_bits`]; else leaves `dst`
+/// unchanged.
 #[unsafe(no_mangle)]
 pub extern "C" fn vb_try_xor_bits(
     dst: &mut [u8],
@@ -101,7 +106,8 @@ pub extern "C" fn vb_try_xor_bits(
     true
 }
 
-/// Whether both windows lie in their bytes; [`vb_and_not_bits`] is then done, else nothing.
+/// Returns whether both windows are in their bytes. If so, does [`vb_and_not_bits`]; else leaves
+/// `dst` unchanged.
 #[unsafe(no_mangle)]
 pub extern "C" fn vb_try_and_not_bits(
     dst: &mut [u8],
@@ -121,9 +127,9 @@ pub extern "C" fn vb_try_and_not_bits(
     true
 }
 
-/// Makes each of the `len` bits of `out` from bit `o` on true exactly where that of `left` from bit
-/// `l` on is true and that of `right` from bit `r` on is, and leaves every other bit of `out`. It
-/// may overlap neither of the two.
+/// Sets each of the `len` bits of `out` from bit `o` on to true if that of `left` from bit `l` on
+/// and that of `right` from bit `r` on are true, else to false. Every other bit of `out` is
+/// unchanged. `out` must not overlap `left` or `right`.
 #[unsafe(no_mangle)]
 pub extern "C" fn vb_and_into(
     out: &mut [u8],
@@ -140,9 +146,9 @@ pub extern "C" fn vb_and_into(
     combine_within(out, o, left, l, right, r, len, BitOp::And);
 }
 
-/// Makes each of the `len` bits of `out` from bit `o` on true exactly where that of `left` from bit
-/// `l` on is true, or that of `right` from bit `r` on, or both, and leaves every other bit of
-/// `out`. It may overlap neither of the two.
+/// Sets each of the `len` bits of `out` from bit `o` on to true if that of `left` from bit `l` on
+/// is true, or that of `right` from bit `r` on, or both, else to false. Every other bit of `out` is
+/// unchanged. `out` must not overlap `left` or `right`.
 #[unsafe(no_mangle)]
 pub extern "C" fn vb_or_into(
     out: &mut [u8],
@@ -159,9 +165,9 @@ pub extern "C" fn vb_or_into(
     combine_within(out, o, left, l, right, r, len, BitOp::Or);
 }
 
-/// Makes each of the `len` bits of `out` from bit `o` on true exactly where that of `left` from bit
-/// `l` on is another than that of `right` from bit `r` on, and leaves every other bit of `out`. It
-/// may overlap neither of the two.
+/// Sets each of the `len` bits of `out` from bit `o` on to true if that of `left` from bit `l` on
+/// differs from that of `right` from bit `r` on, else to false. Every other bit of `out` is
+/// unchanged. `out` must not overlap `left` or `right`.
 #[unsafe(no_mangle)]
 pub extern "C" fn vb_xor_into(
     out: &mut [u8],
@@ -178,9 +184,9 @@ pub extern "C" fn vb_xor_into(
     combine_within(out, o, left, l, right, r, len, BitOp::Xor);
 }
 
-/// Makes each of the `len` bits of `out` from bit `o` on true exactly where that of `left` from bit
-/// `l` on is true and that of `right` from bit `r` on isn't, and leaves every other bit of `out`.
-/// It may overlap neither of the two.
+/// Sets each of the `len` bits of `out` from bit `o` on to true if that of `left` from bit `l` on
+/// is true and that of `right` from bit `r` on isn't, else to false. Every other bit of `out` is
+/// unchanged. `out` must not overlap `left` or `right`.
 #[unsafe(no_mangle)]
 pub extern "C" fn vb_and_not_into(
     out: &mut [u8],
@@ -197,7 +203,8 @@ pub extern "C" fn vb_and_not_into(
     combine_within(out, o, left, l, right, r, len, BitOp::AndNot);
 }
 
-/// Whether the three windows lie in their bytes; [`vb_and_into`] is then done, else nothing.
+/// Returns whether the three windows are in their bytes. If so, does [`vb_and_into`]; else leaves
+/// `out` unchanged.
 #[unsafe(no_mangle)]
 pub extern "C" fn vb_try_and_into(
     out: &mut [u8],
@@ -219,7 +226,8 @@ pub extern "C" fn vb_try_and_into(
     true
 }
 
-/// Whether the three windows lie in their bytes; [`vb_or_into`] is then done, else nothing.
+/// Returns whether the three windows are in their bytes. If so, does [`vb_or_into`]; else leaves
+/// `out` unchanged.
 #[unsafe(no_mangle)]
 pub extern "C" fn vb_try_or_into(
     out: &mut [u8],
@@ -241,7 +249,8 @@ pub extern "C" fn vb_try_or_into(
     true
 }
 
-/// Whether the three windows lie in their bytes; [`vb_xor_into`] is then done, else nothing.
+/// Returns whether the three windows are in their bytes. If so, does [`vb_xor_into`]; else leaves
+/// `out` unchanged.
 #[unsafe(no_mangle)]
 pub extern "C" fn vb_try_xor_into(
     out: &mut [u8],
@@ -263,7 +272,8 @@ pub extern "C" fn vb_try_xor_into(
     true
 }
 
-/// Whether the three windows lie in their bytes; [`vb_and_not_into`] is then done, else nothing.
+/// Returns whether the three windows are in their bytes. If so, does [`vb_and_not_into`]; else
+/// leaves `out` unchanged.
 #[unsafe(no_mangle)]
 pub extern "C" fn vb_try_and_not_into(
     out: &mut [u8],
@@ -295,8 +305,8 @@ fn combine(dst: &mut [u8], d: usize, src: &[u8], s: usize, len: usize, op: BitOp
     zip_words(&mut dst[d / 8..end], d % 8, src, s, len, op);
 }
 
-/// Combines the two windows into that of `out` by `op`, in the bytes of `out` that have a bit of
-/// it: the kernel can store no other byte.
+/// Combines the two windows by `op` into that of `out`. Passes the kernel only the bytes of `out`
+/// that have a bit of the window, so it can store no others.
 fn combine_within(
     out: &mut [u8],
     o: usize,

@@ -1,4 +1,4 @@
-//! How many bits are true, of a window and of two that are combined.
+//! Counts of set bits, of a window and of two combined windows.
 ghost use Rattle.std.specs.Prelude.{◌≡◌};
 ghost use Rattle.vb_bits.specs.Bits.{bits, count};
 ghost use Rattle.vb_bits.specs.InBytes.{InBytes};
@@ -9,8 +9,8 @@ ghost use Rattle.vb_c_core.specs.Fits.{DoneIf};
 
 use vb_bits::window_fits;
 
-/// How many of the `len` bits from bit `offset` on are true. The window is read once, 64 bytes at a
-/// time.
+/// Returns the number of set bits among the `len` bits from bit `offset` on. Reads the window once,
+/// 64 bytes at a time.
 #[unsafe(no_mangle)]
 pub extern "C" fn vb_count_ones(bytes: &[u8], offset: usize, len: usize) -> usize
     requires window { InBytes bytes.now offset len }
@@ -19,8 +19,8 @@ pub extern "C" fn vb_count_ones(bytes: &[u8], offset: usize, len: usize) -> usiz
     vb_count::count_ones(bytes, offset, len)
 }
 
-/// [`vb_count_ones`] for vectors of 32 bytes and more: adders count long windows. It is in no
-/// header: from x86-64-v3 on `bindings/build` gives it the name of the other.
+/// Does [`vb_count_ones`] for vectors of at least 32 bytes: counts long windows by adders. It is in
+/// no header: from x86-64-v3 on `bindings/build` gives it the name of the other function.
 #[unsafe(no_mangle)]
 pub extern "C" fn vb_count_ones_wide(bytes: &[u8], offset: usize, len: usize) -> usize
     requires window { InBytes bytes.now offset len }
@@ -29,7 +29,8 @@ pub extern "C" fn vb_count_ones_wide(bytes: &[u8], offset: usize, len: usize) ->
     vb_count::count_ones_wide(bytes, offset, len)
 }
 
-/// Whether the window lies in the bytes; `ones` is then [`vb_count_ones`], and else as it was.
+/// Returns whether the window is in the bytes. If so, writes the result of [`vb_count_ones`] to
+/// `ones`; else leaves it unchanged.
 #[unsafe(no_mangle)]
 pub extern "C" fn vb_try_count_ones(
     bytes: &[u8],
@@ -47,7 +48,7 @@ pub extern "C" fn vb_try_count_ones(
     true
 }
 
-/// [`vb_try_count_ones`] by [`vb_count_ones_wide`], and named as that one.
+/// Does [`vb_try_count_ones`] by [`vb_count_ones_wide`], and is renamed like it.
 #[unsafe(no_mangle)]
 pub extern "C" fn vb_try_count_ones_wide(
     bytes: &[u8],
@@ -65,8 +66,8 @@ pub extern "C" fn vb_try_count_ones_wide(
     true
 }
 
-/// For how many places below `len` the bit of `left` from bit `l` on and that of `right` from bit
-/// `r` on are true. Both windows are read once, and nothing is written.
+/// Returns the number of indices below `len` for which the bit of `left` from bit `l` on and that
+/// of `right` from bit `r` on are true. Reads each window once, and writes nothing.
 #[unsafe(no_mangle)]
 pub extern "C" fn vb_and_count(left: &[u8], l: usize, right: &[u8], r: usize, len: usize) -> usize
     requires { BothInBytes left.now l right.now r len }
@@ -75,7 +76,8 @@ pub extern "C" fn vb_and_count(left: &[u8], l: usize, right: &[u8], r: usize, le
     vb_pair::and_count(left, l, right, r, len)
 }
 
-/// Whether both windows lie in their bytes; `ones` is then [`vb_and_count`], and else as it was.
+/// Returns whether both windows are in their bytes. If so, writes the result of [`vb_and_count`] to
+/// `ones`; else leaves it unchanged.
 #[unsafe(no_mangle)]
 pub extern "C" fn vb_try_and_count(
     left: &[u8],
@@ -96,8 +98,8 @@ pub extern "C" fn vb_try_and_count(
     true
 }
 
-/// For how many places below `len` the bit of `left` from bit `l` on or that of `right` from bit
-/// `r` on is true. Both windows are read once, and nothing is written.
+/// Returns the number of indices below `len` for which the bit of `left` from bit `l` on or that of
+/// `right` from bit `r` on is true. Reads each window once, and writes nothing.
 #[unsafe(no_mangle)]
 pub extern "C" fn vb_or_count(left: &[u8], l: usize, right: &[u8], r: usize, len: usize) -> usize
     requires { BothInBytes left.now l right.now r len }
@@ -106,7 +108,8 @@ pub extern "C" fn vb_or_count(left: &[u8], l: usize, right: &[u8], r: usize, len
     vb_pair::or_count(left, l, right, r, len)
 }
 
-/// Whether both windows lie in their bytes; `ones` is then [`vb_or_count`], and else as it was.
+/// Returns whether both windows are in their bytes. If so, writes the result of [`vb_or_count`] to
+/// `ones`; else leaves it unchanged.
 #[unsafe(no_mangle)]
 pub extern "C" fn vb_try_or_count(
     left: &[u8],
@@ -127,8 +130,8 @@ pub extern "C" fn vb_try_or_count(
     true
 }
 
-/// For how many places below `len` the bit of `left` from bit `l` on is another than that of
-/// `right` from bit `r` on. Both windows are read once, and nothing is written.
+/// Returns the number of indices below `len` for which the bit of `left` from bit `l` on differs
+/// from that of `right` from bit `r` on. Reads each window once, and writes nothing.
 #[unsafe(no_mangle)]
 pub extern "C" fn vb_xor_count(left: &[u8], l: usize, right: &[u8], r: usize, len: usize) -> usize
     requires { BothInBytes left.now l right.now r len }
@@ -137,7 +140,8 @@ pub extern "C" fn vb_xor_count(left: &[u8], l: usize, right: &[u8], r: usize, le
     vb_pair::xor_count(left, l, right, r, len)
 }
 
-/// Whether both windows lie in their bytes; `ones` is then [`vb_xor_count`], and else as it was.
+/// Returns whether both windows are in their bytes. If so, writes the result of [`vb_xor_count`] to
+/// `ones`; else leaves it unchanged.
 #[unsafe(no_mangle)]
 pub extern "C" fn vb_try_xor_count(
     left: &[u8],
@@ -158,8 +162,8 @@ pub extern "C" fn vb_try_xor_count(
     true
 }
 
-/// For how many places below `len` the bit of `left` from bit `l` on is true and that of `right`
-/// from bit `r` on isn't. Both windows are read once, and nothing is written.
+/// Returns the number of indices below `len` for which the bit of `left` from bit `l` on is true
+/// and that of `right` from bit `r` on isn't. Reads each window once, and writes nothing.
 #[unsafe(no_mangle)]
 pub extern "C" fn vb_and_not_count(
     left: &[u8],
@@ -174,8 +178,8 @@ pub extern "C" fn vb_and_not_count(
     vb_pair::andnot_count(left, l, right, r, len)
 }
 
-/// Whether both windows lie in their bytes; `ones` is then [`vb_and_not_count`], and else as it
-/// was.
+/// Returns whether both windows are in their bytes. If so, writes the result of
+/// [`vb_and_not_count`] to `ones`; else leaves it unchanged.
 #[unsafe(no_mangle)]
 pub extern "C" fn vb_try_and_not_count(
     left: &[u8],

@@ -1,11 +1,11 @@
-//! Windows compared.
+//! Equality of windows.
 ghost use Rattle.std.specs.Prelude.{◌≡◌, ◌↔◌, IsTrue};
 ghost use Rattle.vb_bits.specs.Bits.{bits};
 ghost use Rattle.vb_c_core.specs.Fits.{DoneIf};
 ghost use Rattle.vb_c.specs.Windows.{BothInBytes};
 
-/// Whether the `len` bits of `left` from bit `l` on are those of `right` from bit `r` on. No block
-/// of 512 bytes behind the first difference is read.
+/// Returns whether the `len` bits of `left` from bit `l` on equal those of `right` from bit `r` on.
+/// Reads no block of 512 bytes after the one with the first difference.
 #[unsafe(no_mangle)]
 pub extern "C" fn vb_equal_bits(left: &[u8], l: usize, right: &[u8], r: usize, len: usize) -> bool
     requires { BothInBytes left.now l right.now r len }
@@ -14,7 +14,8 @@ pub extern "C" fn vb_equal_bits(left: &[u8], l: usize, right: &[u8], r: usize, l
     vb_bits::equal_bits(left, l, right, r, len)
 }
 
-/// Whether both windows lie in their bytes; `equal` is then [`vb_equal_bits`], and else as it was.
+/// Returns whether both windows are in their bytes. If so, writes the result of [`vb_equal_bits`]
+/// to `equal`; else leaves it unchanged.
 #[unsafe(no_mangle)]
 pub extern "C" fn vb_try_equal_bits(
     left: &[u8],

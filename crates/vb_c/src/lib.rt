@@ -1,15 +1,15 @@
-//! The kernels over slices as C functions, for programs in other languages.
+//! The functions over bits of slices as C functions, for programs in other languages.
 //!
-//! A slice crosses as a pointer and the number of its items. During a call nothing else may write
-//! what a function reads, and nothing else may touch what it writes: that, and pointers that are
-//! valid and not null, is what a C caller owes. For a slice of no items the C library of bindings/c
-//! takes null too, which it replaces. A window is the `len` bits from bit `offset` on, least
-//! significant bit first.
+//! C passes a slice as a pointer and the number of its items. A C caller must ensure that pointers
+//! are valid and not null; that nothing else writes, during the call, what the function reads; and
+//! that nothing else accesses what it writes. For a slice of no items the C library of bindings/c
+//! also takes null, which it replaces. A window is the `len` bits from bit `offset` on, least
+//! significant first. Indices are relative to the window.
 //!
-//! Each function has the clauses of the kernel that it calls, and requires that windows lie in
-//! their bytes, which nothing checks of a C caller. Beside it stands a checked form, `vb_try_..`,
-//! that requires nothing: it answers whether the numbers are good, and where they aren't, it leaves
-//! everything as it was.
+//! A function has the contract of the kernel that it calls. It requires that windows are in their
+//! bytes and that their ends fit in a `usize`, which nothing checks for a C caller. The checked
+//! form next to it, `vb_try_..`, requires nothing: it returns whether the arguments are good, and
+//! leaves everything unchanged if they aren't. No function allocates.
 #![tactic(auto)]
 
 pub mod bit;

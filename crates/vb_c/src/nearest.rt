@@ -1,4 +1,4 @@
-//! The nearest bits from a place on and before one, and whether there are any.
+//! The nearest bits at or after an index, and before one, and whether there are any.
 ghost use Rattle.std.specs.Prelude.{◌≡◌, ◌↔◌, ◌<◌, IsTrue};
 ghost use Rattle.vb_bits.specs.Bits.{bits, complement, count};
 ghost use Rattle.vb_bits.specs.InBytes.{InBytes};
@@ -9,9 +9,9 @@ ghost use Rattle.vb_c_core.specs.Place.{answered_place};
 use vb_bits::window_fits;
 use vb_c_core::Place;
 
-/// The place of the first true bit from place `from` on among the `len` bits from bit `offset` on;
-/// none where there is none, as there is none from the end on. It reads up to the word that has it,
-/// four words at once.
+/// Returns the index of the first set bit at or after index `from` of the `len` bits from bit
+/// `offset` on; finds none if there is none, or if `from` is at least `len`. Reads up to the word
+/// that has it, four words at once.
 #[unsafe(no_mangle)]
 pub extern "C" fn vb_next_set(bytes: &[u8], offset: usize, len: usize, from: usize) -> Place
     requires window { InBytes bytes.now offset len }
@@ -20,7 +20,8 @@ pub extern "C" fn vb_next_set(bytes: &[u8], offset: usize, len: usize, from: usi
     vb_select::next_set(bytes, offset, len, from).into()
 }
 
-/// Whether the window lies in the bytes; `place` is then [`vb_next_set`], and else as it was.
+/// Returns whether the window is in the bytes. If so, writes the result of [`vb_next_set`] to
+/// `place`; else leaves it unchanged.
 #[unsafe(no_mangle)]
 pub extern "C" fn vb_try_next_set(
     bytes: &[u8],
@@ -40,8 +41,9 @@ pub extern "C" fn vb_try_next_set(
     true
 }
 
-/// The place of the first false bit from place `from` on among the `len` bits from bit `offset` on;
-/// none where there is none. It reads as [`vb_next_set`] does.
+/// Returns the index of the first unset bit at or after index `from` of the `len` bits from bit
+/// `offset` on; finds none if there is none, or if `from` is at least `len`. Reads as
+/// [`vb_next_set`] does.
 #[unsafe(no_mangle)]
 pub extern "C" fn vb_next_unset(bytes: &[u8], offset: usize, len: usize, from: usize) -> Place
     requires window { InBytes bytes.now offset len }
@@ -50,7 +52,8 @@ pub extern "C" fn vb_next_unset(bytes: &[u8], offset: usize, len: usize, from: u
     vb_select::next_unset(bytes, offset, len, from).into()
 }
 
-/// Whether the window lies in the bytes; `place` is then [`vb_next_unset`], and else as it was.
+/// Returns whether the window is in the bytes. If so, writes the result of [`vb_next_unset`] to
+/// `place`; else leaves it unchanged.
 #[unsafe(no_mangle)]
 pub extern "C" fn vb_try_next_unset(
     bytes: &[u8],
@@ -70,9 +73,9 @@ pub extern "C" fn vb_try_next_unset(
     true
 }
 
-/// The place of the last true bit before place `before` among the `len` bits from bit `offset` on;
-/// none where there is none. From the end on each place has all bits before it. It reads to the
-/// front, eight words at once.
+/// Returns the index of the last set bit before index `before` of the `len` bits from bit `offset`
+/// on; finds none if there is none. A `before` of at least `len` searches all bits. Reads towards
+/// the front, eight words at once.
 #[unsafe(no_mangle)]
 pub extern "C" fn vb_previous_set(bytes: &[u8], offset: usize, len: usize, before: usize) -> Place
     requires window { InBytes bytes.now offset len }
@@ -81,7 +84,8 @@ pub extern "C" fn vb_previous_set(bytes: &[u8], offset: usize, len: usize, befor
     vb_select::previous_set(bytes, offset, len, before).into()
 }
 
-/// Whether the window lies in the bytes; `place` is then [`vb_previous_set`], and else as it was.
+/// Returns whether the window is in the bytes. If so, writes the result of [`vb_previous_set`] to
+/// `place`; else leaves it unchanged.
 #[unsafe(no_mangle)]
 pub extern "C" fn vb_try_previous_set(
     bytes: &[u8],
@@ -101,8 +105,9 @@ pub extern "C" fn vb_try_previous_set(
     true
 }
 
-/// The place of the last false bit before place `before` among the `len` bits from bit `offset` on;
-/// none where there is none. It reads as [`vb_previous_set`] does.
+/// Returns the index of the last unset bit before index `before` of the `len` bits from bit
+/// `offset` on; finds none if there is none. A `before` of at least `len` searches all bits. Reads
+/// as [`vb_previous_set`] does.
 #[unsafe(no_mangle)]
 pub extern "C" fn vb_previous_unset(bytes: &[u8], offset: usize, len: usize, before: usize) -> Place
     requires window { InBytes bytes.now offset len }
@@ -111,7 +116,8 @@ pub extern "C" fn vb_previous_unset(bytes: &[u8], offset: usize, len: usize, bef
     vb_select::previous_unset(bytes, offset, len, before).into()
 }
 
-/// Whether the window lies in the bytes; `place` is then [`vb_previous_unset`], and else as it was.
+/// Returns whether the window is in the bytes. If so, writes the result of [`vb_previous_unset`] to
+/// `place`; else leaves it unchanged.
 #[unsafe(no_mangle)]
 pub extern "C" fn vb_try_previous_unset(
     bytes: &[u8],
@@ -131,8 +137,8 @@ pub extern "C" fn vb_try_previous_unset(
     true
 }
 
-/// Whether one of the `len` bits from bit `offset` on is true, as none is of no bits. It reads up
-/// to the first true one, four words at once.
+/// Returns whether any of the `len` bits from bit `offset` on is set (false for no bits). Reads up
+/// to the first set bit, four words at once.
 #[unsafe(no_mangle)]
 pub extern "C" fn vb_any_set(bytes: &[u8], offset: usize, len: usize) -> bool
     requires window { InBytes bytes.now offset len }
@@ -141,7 +147,8 @@ pub extern "C" fn vb_any_set(bytes: &[u8], offset: usize, len: usize) -> bool
     vb_select::any_set(bytes, offset, len)
 }
 
-/// Whether the window lies in the bytes; `any` is then [`vb_any_set`], and else as it was.
+/// Returns whether the window is in the bytes. If so, writes the result of [`vb_any_set`] to `any`;
+/// else leaves it unchanged.
 #[unsafe(no_mangle)]
 pub extern "C" fn vb_try_any_set(bytes: &[u8], offset: usize, len: usize, any: &mut bool) -> bool
     ensures { DoneIf (InBytes bytes.now offset len)
@@ -154,8 +161,8 @@ pub extern "C" fn vb_try_any_set(bytes: &[u8], offset: usize, len: usize, any: &
     true
 }
 
-/// Whether all of the `len` bits from bit `offset` on are true, as of no bits. It reads up to the
-/// first false one, four words at once.
+/// Returns whether all of the `len` bits from bit `offset` on are set (true for no bits). Reads up
+/// to the first unset bit, four words at once.
 #[unsafe(no_mangle)]
 pub extern "C" fn vb_all_set(bytes: &[u8], offset: usize, len: usize) -> bool
     requires window { InBytes bytes.now offset len }
@@ -164,7 +171,8 @@ pub extern "C" fn vb_all_set(bytes: &[u8], offset: usize, len: usize) -> bool
     vb_select::all_set(bytes, offset, len)
 }
 
-/// Whether the window lies in the bytes; `all` is then [`vb_all_set`], and else as it was.
+/// Returns whether the window is in the bytes. If so, writes the result of [`vb_all_set`] to `all`;
+/// else leaves it unchanged.
 #[unsafe(no_mangle)]
 pub extern "C" fn vb_try_all_set(bytes: &[u8], offset: usize, len: usize, all: &mut bool) -> bool
     ensures { DoneIf (InBytes bytes.now offset len)

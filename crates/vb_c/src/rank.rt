@@ -1,4 +1,4 @@
-//! Ranks, and places of ranks, over a table of counts that the caller keeps.
+//! Ranks and selects over a table of counts that the caller keeps.
 ghost use Rattle.std.specs.Prelude.{◌≡◌, ◌≤◌, ◌↔◌, IsTrue, take};
 ghost use Rattle.vb_bits.specs.Bits.{bits, count, complement, Selects};
 ghost use Rattle.vb_bits.specs.InBytes.{InBytes};
@@ -12,9 +12,9 @@ use vb_c_core::Place;
 use vb_count::Plain;
 use vb_rank::PlainTable;
 
-/// Writes, for each block of 512 bits of the `len` bits from bit `offset` on, how many true bits
-/// are before it, to the front of `table`, as many as have room there, and answers how many these
-/// are. There are `ceil(len / 512)` blocks.
+/// Writes the number of set bits before each block of 512 bits of the window, which is the `len`
+/// bits from bit `offset` on, to the front of `table`, up to its length. Returns the number of
+/// items written. There are `ceil(len / 512)` blocks.
 #[unsafe(no_mangle)]
 pub extern "C" fn vb_block_counts(
     table: &mut [usize],
@@ -29,8 +29,8 @@ pub extern "C" fn vb_block_counts(
     vb_rank::write_block_counts(bytes, offset, len, &mut table[..blocks])
 }
 
-/// Whether the window lies in the bytes; the table and `written` are then as [`vb_block_counts`]
-/// makes and answers them, and else as they were.
+/// Returns whether the window is in the bytes. If so, does [`vb_block_counts`] and writes its
+/// result to `written`; else leaves `table` and `written` unchanged.
 #[unsafe(no_mangle)]
 pub extern "C" fn vb_try_block_counts(
     table: &mut [usize],
@@ -50,9 +50,9 @@ pub extern "C" fn vb_try_block_counts(
     true
 }
 
-/// How many of the first `index` bits of the window are true, where the table is that of
-/// [`vb_block_counts`]; of any other table with an entry a block the number says nothing. It reads
-/// one entry, and the bits of one block.
+/// Returns the number of set bits among the first `index` bits of the window; `index` must be at
+/// most `len`. The table must have one entry for each block. If it isn't the one of
+/// [`vb_block_counts`], the result is meaningless. Reads one entry, and the bits of one block.
 #[unsafe(no_mangle)]
 pub extern "C" fn vb_rank(
     bytes: &[u8],
@@ -70,8 +70,8 @@ pub extern "C" fn vb_rank(
     vb_rank::rank_by(&mut Plain::new(bytes), offset, len, table, index)
 }
 
-/// Whether the window lies in the bytes, the table has an entry a block, and `index` is at most
-/// `len`; `rank` is then [`vb_rank`], and else as it was.
+/// Returns whether the window is in the bytes, the table has one entry for each block, and `index`
+/// is at most `len`. If so, writes the result of [`vb_rank`] to `rank`; else leaves it unchanged.
 #[unsafe(no_mangle)]
 pub extern "C" fn vb_try_rank(
     bytes: &[u8],
@@ -93,9 +93,9 @@ pub extern "C" fn vb_try_rank(
     true
 }
 
-/// The place of the `n`-th true bit of the window, counted from 0, if there is one: by halves of
-/// the table, and then within a block. The table has to have an entry a block; where it isn't that
-/// of [`vb_block_counts`], the place says nothing.
+/// Returns the index of the `n`-th set bit of the window, counted from 0, if there is one. Searches
+/// the table by halves, and then one block. The table must have one entry for each block. If it
+/// isn't the one of [`vb_block_counts`], the result is meaningless.
 #[unsafe(no_mangle)]
 pub extern "C" fn vb_ranked_select(
     bytes: &[u8],
@@ -112,8 +112,8 @@ pub extern "C" fn vb_ranked_select(
     vb_rank::select_by(&mut Plain::new(bytes), offset, len, table, n).into()
 }
 
-/// Whether the window lies in the bytes, and the table has an entry a block; `place` is then
-/// [`vb_ranked_select`], and else as it was.
+/// Returns whether the window is in the bytes, and the table has one entry for each block. If so,
+/// writes the result of [`vb_ranked_select`] to `place`; else leaves it unchanged.
 #[unsafe(no_mangle)]
 pub extern "C" fn vb_try_ranked_select(
     bytes: &[u8],
@@ -135,9 +135,9 @@ pub extern "C" fn vb_try_ranked_select(
     true
 }
 
-/// The place of the `n`-th false bit of the window, counted from 0, if there is one: by halves of
-/// the table, and then within a block. The table has to have an entry a block; where it isn't that
-/// of [`vb_block_counts`], the place says nothing.
+/// Returns the index of the `n`-th unset bit of the window, counted from 0, if there is one.
+/// Searches the table by halves, and then one block. The table must have one entry for each block.
+/// If it isn't the one of [`vb_block_counts`], the result is meaningless.
 #[unsafe(no_mangle)]
 pub extern "C" fn vb_ranked_select_unset(
     bytes: &[u8],
@@ -154,8 +154,8 @@ pub extern "C" fn vb_ranked_select_unset(
     vb_rank::select_unset_by(&mut Plain::new(bytes), offset, len, table, n).into()
 }
 
-/// Whether the window lies in the bytes, and the table has an entry a block; `place` is then
-/// [`vb_ranked_select_unset`], and else as it was.
+/// Returns whether the window is in the bytes, and the table has one entry for each block. If so,
+/// writes the result of [`vb_ranked_select_unset`] to `place`; else leaves it unchanged.
 #[unsafe(no_mangle)]
 pub extern "C" fn vb_try_ranked_select_unset(
     bytes: &[u8],
@@ -177,7 +177,7 @@ pub extern "C" fn vb_try_ranked_select_unset(
     true
 }
 
-/// Whether the window lies in the bytes, and the table has an entry for each of its blocks.
+/// Returns whether the window is in the bytes, and the table has one entry for each of its blocks.
 fn has_table(bytes: &[u8], offset: usize, len: usize, table: &[usize]) -> bool
     ensures { IsTrue result ↔ HasTable bytes.now offset len table.now }
 {

@@ -1,4 +1,4 @@
-//! Whether two windows have any bit in common, or one has all of the other's.
+//! Whether two windows have a set bit in common, or one has all set bits of the other.
 ghost use Rattle.std.specs.Prelude.{◌≡◌, ◌↔◌, IsTrue};
 ghost use Rattle.vb_bits.specs.Bits.{bits, count};
 ghost use Rattle.vb_bits.specs.Operators.{combined_by};
@@ -8,8 +8,8 @@ ghost use Rattle.vb_c_core.specs.Fits.{DoneIf};
 
 use vb_bits::window_fits;
 
-/// Whether at no place below `len` the bit of `left` from bit `l` on and that of `right` from bit
-/// `r` on are both true, as of no bits. It reads up to the first word that has such a place.
+/// Returns whether no index below `len` has a set bit both of `left` from bit `l` on and of `right`
+/// from bit `r` on (true for no bits). Reads up to the first word that has such an index.
 #[unsafe(no_mangle)]
 pub extern "C" fn vb_is_disjoint(left: &[u8], l: usize, right: &[u8], r: usize, len: usize) -> bool
     requires { BothInBytes left.now l right.now r len }
@@ -19,8 +19,8 @@ pub extern "C" fn vb_is_disjoint(left: &[u8], l: usize, right: &[u8], r: usize, 
     vb_pair::is_disjoint(left, l, right, r, len)
 }
 
-/// Whether both windows lie in their bytes; `disjoint` is then [`vb_is_disjoint`], and else as it
-/// was.
+/// Returns whether both windows are in their bytes. If so, writes the result of [`vb_is_disjoint`]
+/// to `disjoint`; else leaves it unchanged.
 #[unsafe(no_mangle)]
 pub extern "C" fn vb_try_is_disjoint(
     left: &[u8],
@@ -42,9 +42,9 @@ pub extern "C" fn vb_try_is_disjoint(
     true
 }
 
-/// Whether at each place below `len` where the bit of `left` from bit `l` on is true that of
-/// `right` from bit `r` on is true too, as of no bits. It reads up to the first word that has
-/// another place.
+/// Returns whether each set bit of `left` from bit `l` on, of `len` bits, is set in `right` from
+/// bit `r` on too (true for no bits). Reads up to the first word that has a bit set in `left`
+/// alone.
 #[unsafe(no_mangle)]
 pub extern "C" fn vb_is_subset(left: &[u8], l: usize, right: &[u8], r: usize, len: usize) -> bool
     requires { BothInBytes left.now l right.now r len }
@@ -54,7 +54,8 @@ pub extern "C" fn vb_is_subset(left: &[u8], l: usize, right: &[u8], r: usize, le
     vb_pair::is_subset(left, l, right, r, len)
 }
 
-/// Whether both windows lie in their bytes; `subset` is then [`vb_is_subset`], and else as it was.
+/// Returns whether both windows are in their bytes. If so, writes the result of [`vb_is_subset`] to
+/// `subset`; else leaves it unchanged.
 #[unsafe(no_mangle)]
 pub extern "C" fn vb_try_is_subset(
     left: &[u8],

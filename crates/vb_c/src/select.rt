@@ -1,4 +1,4 @@
-//! The places of bits.
+//! Indices of bits by their rank, and of the last set bit.
 ghost use Rattle.std.specs.Prelude.{◌≡◌};
 ghost use Rattle.vb_bits.specs.Bits.{bits, complement, Selects, InvertsCount};
 ghost use Rattle.vb_bits.specs.InBytes.{InBytes};
@@ -8,9 +8,9 @@ ghost use Rattle.vb_c_core.specs.Place.{answered_place};
 
 use vb_c_core::Place;
 
-/// The place, relative to the window of `len` bits from bit `offset` on, of its `n`-th true bit,
-/// counted from 0; none where the window has at most `n`. It counts from the front, 64 bytes at a
-/// time, up to the bytes that have it.
+/// Returns the index of the `n`-th set bit of the window of `len` bits from bit `offset` on,
+/// counted from 0; finds none if at most `n` are set. Reads from the front, 64 bytes at a time, up
+/// to the bytes that have it.
 #[unsafe(no_mangle)]
 pub extern "C" fn vb_select(bytes: &[u8], offset: usize, len: usize, n: usize) -> Place
     requires window { InBytes bytes.now offset len }
@@ -20,8 +20,8 @@ pub extern "C" fn vb_select(bytes: &[u8], offset: usize, len: usize, n: usize) -
     vb_select::bit_select(bytes, offset, len, n).into()
 }
 
-/// The place, relative to the window of `len` bits from bit `offset` on, of its `n`-th false bit,
-/// counted from 0; none where the window has at most `n`. It costs what [`vb_select`] does.
+/// Returns the index of the `n`-th unset bit of the window of `len` bits from bit `offset` on,
+/// counted from 0; finds none if at most `n` are unset. Costs the same as [`vb_select`].
 #[unsafe(no_mangle)]
 pub extern "C" fn vb_select_unset(bytes: &[u8], offset: usize, len: usize, n: usize) -> Place
     requires window { InBytes bytes.now offset len }
@@ -31,8 +31,8 @@ pub extern "C" fn vb_select_unset(bytes: &[u8], offset: usize, len: usize, n: us
     vb_select::bit_select_unset(bytes, offset, len, n).into()
 }
 
-/// [`vb_select`] for vectors of 32 bytes and more: adders pass long windows. It is in no header:
-/// from x86-64-v3 on `bindings/build` gives it the name of the other.
+/// Does [`vb_select`] for vectors of at least 32 bytes: skips long windows by adders. It is in no
+/// header: from x86-64-v3 on `bindings/build` gives it the name of the other function.
 #[unsafe(no_mangle)]
 pub extern "C" fn vb_select_wide(bytes: &[u8], offset: usize, len: usize, n: usize) -> Place
     requires window { InBytes bytes.now offset len }
@@ -42,8 +42,8 @@ pub extern "C" fn vb_select_wide(bytes: &[u8], offset: usize, len: usize, n: usi
     vb_select::bit_select_wide(bytes, offset, len, n).into()
 }
 
-/// [`vb_select_unset`] for vectors of 32 bytes and more: adders pass long windows. It is in no
-/// header: from x86-64-v3 on `bindings/build` gives it the name of the other.
+/// Does [`vb_select_unset`] for vectors of at least 32 bytes: skips long windows by adders. It is
+/// in no header: from x86-64-v3 on `bindings/build` gives it the name of the other function.
 #[unsafe(no_mangle)]
 pub extern "C" fn vb_select_unset_wide(bytes: &[u8], offset: usize, len: usize, n: usize) -> Place
     requires window { InBytes bytes.now offset len }
@@ -53,8 +53,8 @@ pub extern "C" fn vb_select_unset_wide(bytes: &[u8], offset: usize, len: usize, 
     vb_select::bit_select_unset_wide(bytes, offset, len, n).into()
 }
 
-/// The place, relative to the window of `len` bits from bit `offset` on, of its last true bit; none
-/// where all are false. It reads from the end, eight bytes at a time.
+/// Returns the index of the last set bit of the window of `len` bits from bit `offset` on; finds
+/// none if no bit is set. Reads from the end, eight bytes at a time.
 #[unsafe(no_mangle)]
 pub extern "C" fn vb_last_set(bytes: &[u8], offset: usize, len: usize) -> Place
     requires window { InBytes bytes.now offset len }
@@ -63,7 +63,8 @@ pub extern "C" fn vb_last_set(bytes: &[u8], offset: usize, len: usize) -> Place
     vb_select::last_set_index(bytes, offset, len).into()
 }
 
-/// Whether the window lies in the bytes; `place` is then [`vb_select`], and else as it was.
+/// Returns whether the window is in the bytes. If so, writes the result of [`vb_select`] to
+/// `place`; else leaves it unchanged.
 #[unsafe(no_mangle)]
 pub extern "C" fn vb_try_select(
     bytes: &[u8],
@@ -83,7 +84,7 @@ pub extern "C" fn vb_try_select(
     true
 }
 
-/// [`vb_try_select`] by [`vb_select_wide`], and named as that one.
+/// Does [`vb_try_select`] by [`vb_select_wide`], and is renamed like it.
 #[unsafe(no_mangle)]
 pub extern "C" fn vb_try_select_wide(
     bytes: &[u8],
@@ -103,7 +104,8 @@ pub extern "C" fn vb_try_select_wide(
     true
 }
 
-/// Whether the window lies in the bytes; `place` is then [`vb_select_unset`], and else as it was.
+/// Returns whether the window is in the bytes. If so, writes the result of [`vb_select_unset`] to
+/// `place`; else leaves it unchanged.
 #[unsafe(no_mangle)]
 pub extern "C" fn vb_try_select_unset(
     bytes: &[u8],
@@ -123,7 +125,7 @@ pub extern "C" fn vb_try_select_unset(
     true
 }
 
-/// [`vb_try_select_unset`] by [`vb_select_unset_wide`], and named as that one.
+/// Does [`vb_try_select_unset`] by [`vb_select_unset_wide`], and is renamed like it.
 #[unsafe(no_mangle)]
 pub extern "C" fn vb_try_select_unset_wide(
     bytes: &[u8],
@@ -143,7 +145,8 @@ pub extern "C" fn vb_try_select_unset_wide(
     true
 }
 
-/// Whether the window lies in the bytes; `place` is then [`vb_last_set`], and else as it was.
+/// Returns whether the window is in the bytes. If so, writes the result of [`vb_last_set`] to
+/// `place`; else leaves it unchanged.
 #[unsafe(no_mangle)]
 pub extern "C" fn vb_try_last_set(
     bytes: &[u8],

@@ -1,4 +1,4 @@
-//! Places and runs of true bits, written into the caller's memory.
+//! Indices and runs of set bits, written to the caller's memory.
 ghost use Rattle.std.specs.Prelude.{◌≡◌, map};
 ghost use Rattle.vb_bits.specs.Bits.{bits, places};
 ghost use Rattle.vb_bits.specs.InBytes.{InBytes};
@@ -9,19 +9,19 @@ ghost use Rattle.vb_bits.specs.Fills.{Fills};
 
 use vb_walk::{BitIndexIterator, BitSliceIterator};
 
-/// A run of true bits: where it begins, and the place behind it.
+/// A run of set bits.
 #[repr(C)]
 #[derive(Clone, Copy)]
 pub struct Run {
-    /// The place of its first bit.
+    /// The index of its first bit.
     pub start: usize,
-    /// The place behind its last bit.
+    /// The index after its last bit.
     pub end: usize,
 }
 
-/// Writes the places of the true bits among the `len` bits from bit `offset` on, in ascending
-/// order, to the front of `out`, as many as have room there, and answers how many these are. Once
-/// `out` is full, no further place is sought.
+/// Writes the indices of the set bits among the `len` bits from bit `offset` on, in ascending
+/// order, to the front of `out`, up to its length. Returns the number of indices written. Stops
+/// reading once `out` is full.
 #[unsafe(no_mangle)]
 pub extern "C" fn vb_set_indices(
     out: &mut [usize],
@@ -46,9 +46,9 @@ pub extern "C" fn vb_set_indices(
     written
 }
 
-/// Writes the runs of true bits among the `len` bits from bit `offset` on, from front to end, to
-/// the front of `out`, as many as have room there, and answers how many these are. Once `out` is
-/// full, no further run is sought.
+/// Writes the runs of set bits among the `len` bits from bit `offset` on, from front to end, each
+/// as long as possible, to the front of `out`, up to its length. Returns the number of runs
+/// written. Stops reading once `out` is full.
 #[unsafe(no_mangle)]
 pub extern "C" fn vb_set_slices(out: &mut [Run], bytes: &[u8], offset: usize, len: usize) -> usize
     requires window { InBytes bytes.now offset len }
@@ -71,8 +71,8 @@ pub extern "C" fn vb_set_slices(out: &mut [Run], bytes: &[u8], offset: usize, le
     written
 }
 
-/// Whether the window lies in the bytes; `written` and `out` are then those of [`vb_set_indices`],
-/// and else as they were.
+/// Returns whether the window is in the bytes. If so, does [`vb_set_indices`] and writes its result
+/// to `written`; else leaves `out` and `written` unchanged.
 #[unsafe(no_mangle)]
 pub extern "C" fn vb_try_set_indices(
     out: &mut [usize],
@@ -92,8 +92,8 @@ pub extern "C" fn vb_try_set_indices(
     true
 }
 
-/// Whether the window lies in the bytes; `written` and `out` are then those of [`vb_set_slices`],
-/// and else as they were.
+/// Returns whether the window is in the bytes. If so, does [`vb_set_slices`] and writes its result
+/// to `written`; else leaves `out` and `written` unchanged.
 #[unsafe(no_mangle)]
 pub extern "C" fn vb_try_set_slices(
     out: &mut [Run],

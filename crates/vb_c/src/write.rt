@@ -8,7 +8,7 @@ ghost use Rattle.vb_c.specs.Windows.{BothInBytes};
 
 use vb_c_core::copy_to_window;
 
-/// Makes each of the `len` bits from bit `offset` on `v`, and leaves every other bit.
+/// Sets each of the `len` bits from bit `offset` on to `v`. Every other bit is unchanged.
 #[unsafe(no_mangle)]
 pub extern "C" fn vb_fill_bits(bytes: &mut [u8], offset: usize, len: usize, v: bool)
     requires window { InBytes bytes.old offset len }
@@ -20,8 +20,8 @@ pub extern "C" fn vb_fill_bits(bytes: &mut [u8], offset: usize, len: usize, v: b
     }
 }
 
-/// Whether the window lies in the bytes; then [`vb_fill_bits`] is done, and else the bytes are as
-/// they were.
+/// Returns whether the window is in the bytes. If so, does [`vb_fill_bits`]; else leaves the bytes
+/// unchanged.
 #[unsafe(no_mangle)]
 pub extern "C" fn vb_try_fill_bits(bytes: &mut [u8], offset: usize, len: usize, v: bool) -> bool
     ensures { DoneIf (InBytes bytes.old offset len)
@@ -35,7 +35,7 @@ pub extern "C" fn vb_try_fill_bits(bytes: &mut [u8], offset: usize, len: usize, 
     true
 }
 
-/// Negates each of the `len` bits from bit `offset` on, and leaves every other bit.
+/// Negates each of the `len` bits from bit `offset` on. Every other bit is unchanged.
 #[unsafe(no_mangle)]
 pub extern "C" fn vb_negate_bits(bytes: &mut [u8], offset: usize, len: usize)
     requires window { InBytes bytes.old offset len }
@@ -45,8 +45,8 @@ pub extern "C" fn vb_negate_bits(bytes: &mut [u8], offset: usize, len: usize)
     vb_bits::map_words(&mut bytes[offset / 8..end], offset % 8, len);
 }
 
-/// Whether the window lies in the bytes; then [`vb_negate_bits`] is done, and else the bytes are as
-/// they were.
+/// Returns whether the window is in the bytes. If so, does [`vb_negate_bits`]; else leaves the
+/// bytes unchanged.
 #[unsafe(no_mangle)]
 pub extern "C" fn vb_try_negate_bits(bytes: &mut [u8], offset: usize, len: usize) -> bool
     ensures { DoneIf (InBytes bytes.old offset len)
@@ -60,8 +60,8 @@ pub extern "C" fn vb_try_negate_bits(bytes: &mut [u8], offset: usize, len: usize
     true
 }
 
-/// Copies the `len` bits of `src` from bit `s` on to the bits of `dst` from bit `d` on, and leaves
-/// every other bit of `dst`. The two may not overlap.
+/// Copies the `len` bits of `src` from bit `s` on to the bits of `dst` from bit `d` on. Every other
+/// bit of `dst` is unchanged. The two must not overlap.
 #[unsafe(no_mangle)]
 pub extern "C" fn vb_copy_bits(dst: &mut [u8], d: usize, src: &[u8], s: usize, len: usize)
     requires { BothInBytes dst.old d src.now s len }
@@ -70,8 +70,8 @@ pub extern "C" fn vb_copy_bits(dst: &mut [u8], d: usize, src: &[u8], s: usize, l
     copy_to_window(dst, d, src, s, len);
 }
 
-/// Whether both windows lie in their bytes; then [`vb_copy_bits`] is done, and else `dst` is as it
-/// was.
+/// Returns whether both windows are in their bytes. If so, does [`vb_copy_bits`]; else leaves `dst`
+/// unchanged.
 #[unsafe(no_mangle)]
 pub extern "C" fn vb_try_copy_bits(
     dst: &mut [u8],
