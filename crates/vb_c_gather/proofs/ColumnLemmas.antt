@@ -1,4 +1,4 @@
--- Columns as they cross from C.
+-- Columns that C passes.
 use Rattle.std.proofs.Common.{◌≡◌, ℕ, ◌+◌, Bool, true, List, map, Option, is_some, ap, subst, ◌∙◌}
 use Rattle.std.proofs.Common.{length, ◌-◌, ◌/◌, ◌%◌, false, sym, arith}
 use Rattle.std.specs.Int.{div_ceil}
@@ -15,7 +15,7 @@ use Rattle.vb_c_core.specs.Validity.{validity_of}
 use Rattle.vb_kleene.specs.Kleene.{truths, truth, is_truth}
 use Rattle.vb_c_gather.specs.Columns.{WritesColumn, column_at}
 
--- one of a view and its validity that were made of what crossed
+-- a column is that of the view and the validity built from it
 pub column_of : (b : List ℕ) (o : ℕ) (all : Bool) (w : List ℕ) (v n : ℕ) (l : List Bool)
     (m : Option (List Bool)) → l ≡ bits b o n → m ≡ validity_of all w (v + 0) n
     → truths l m ≡ column_at b o all w v n
@@ -24,7 +24,7 @@ column_of b o all w v n l m values valid =
     ap (λ k. truths k m) values ∙ ap (truths (bits b o n)) (valid
     ∙ ap (λ k. validity_of all w k n) here)
 
--- what two of them are combined to, by views of both
+-- the combination of two columns, by views of both
 pub columns_combined : {l r x y : List (Option Bool)} {b c d e : List ℕ} {t v : ℕ}
     → (op : Option Bool → Option Bool → Option Bool) → l ≡ x → r ≡ y
     → Writes b c t (map (is_truth true) (zip2 op l r)) → Writes d e v (map is_some (zip2 op l r))
@@ -36,7 +36,7 @@ columns_combined {l} {r} {x} {y} {b} {c} {d} {e} {t} {v} op left right trues val
       valid = subst (Writes d e v) (ap (map is_some) same) valid;
     }
 
--- as many truth values as a column has
+-- the length of a column
 length-column : (b : List ℕ) (o : ℕ) (all : Bool) (w : List ℕ) (v n : ℕ)
     → length (column_at b o all w v n) ≡ n
 length-column b o true w v n =
@@ -46,7 +46,7 @@ length-column b o false w v n =
     length-zip2 truth (bits b o n) (bits w v n) (length-bits b o n ∙ sym (length-bits w v n))
     ∙ length-bits b o n
 
--- and as two of them that are combined
+-- and of a combination of two
 pub length-combined : (op : Option Bool → Option Bool → Option Bool) (b : List ℕ) (o : ℕ)
     → (all : Bool) (w : List ℕ) (v : ℕ) (c : List ℕ) (p : ℕ) (each : Bool) (x : List ℕ) (u n : ℕ)
     → length (zip2 op (column_at b o all w v n) (column_at c p each x u n)) ≡ n
@@ -54,7 +54,7 @@ length-combined op b o all w v c p each x u n =
     let left = length-column b o all w v n in
     length-zip2 op _ _ (left ∙ sym (length-column c p each x u n)) ∙ left
 
--- a column that is written in the bytes of two windows
+-- a column written to the bytes of two windows
 pub column_in_parts : {l : List (Option Bool)} {b c d e : List ℕ} (t v n f g : ℕ) → length l ≡ n
     → InBytes b t n → InBytes d v n → f ≡ div_ceil (t + n) 8 → g ≡ div_ceil (v + n) 8
     → WritesColumn l (part b t f) c (t % 8) (part d v g) e (v % 8)

@@ -1,4 +1,4 @@
--- What is written in the bytes of a window alone, in front or from any bit on.
+-- Writes to only the bytes of a window, in front or from any bit on.
 use Rattle.std.proofs.Common.{◌≡◌, ℕ, ℤ, ◌+◌, ◌-◌, ◌*◌, ◌/◌, ◌%◌, ◌≤◌, Bool, false, List, ◌++◌}
 use Rattle.std.proofs.Common.{length, take, drop, replicate, Option, sym, ap, subst, ◌∙◌, arith}
 use Rattle.std.specs.Int.{div_ceil}
@@ -17,7 +17,7 @@ use Rattle.vb_take.specs.Takes.{IsTaken}
 use Rattle.vb_c_gather.specs.Packed.{Packs}
 use Rattle.vb_c_gather.specs.Taken.{TakesAt}
 
--- values that are packed into the first bytes
+-- values packed into the first bytes
 pub Packs_in_front : (bools : List Bool) (b c : List ℕ) (n e : ℕ) → length bools ≡ n
     → e ≡ div_ceil n 8 → n ≤ 8 * length b → bits c 0 n ≡ bools
     → Writes (take e b) c 0 (filled_to 8 bools) → Packs bools b (c ++ drop e b)
@@ -39,7 +39,7 @@ Packs_in_front bools b c n e size end room packed written =
           written;
     }
 
--- bits that are taken into the bytes of a window
+-- bits taken into the bytes of a window
 pub Takes_in_part : (l : List Bool) (indices : List ℤ) (validity : Option (List Bool))
     → (b c : List ℕ) (answer : Taken) (o e : ℕ) → InBytes b o (length indices)
     → e ≡ div_ceil (o + length indices) 8

@@ -1,4 +1,4 @@
--- What positions take, a block after the other.
+-- Bits that positions take, block after block.
 use Rattle.std.proofs.Common.{◌≡◌, inl, inr, ℕ, ℤ, negsuc, ◌+◌, ◌-◌, ◌<◌, ◌≤◌, Bool, true, false}
 use Rattle.std.proofs.Common.{cond, List, ◌++◌, length, map, take, drop, get_or, Option, Some, refl}
 use Rattle.std.proofs.Common.{sym, ap, subst, ◌∙◌, arith}
@@ -13,7 +13,7 @@ use Rattle.vb_c_core.specs.Validity.{validity_of}
 use Rattle.vb_take.specs.Takes.{is_valid, value_at, taken_at, TakenTo, IsTaken, IsFirstPast}
 
 -- ---- a position of a block
--- it counts where it counts in all
+-- it counts if it counts among all
 counts : (all : Bool) (bytes : List ℕ) (v a n k len : ℕ) → k < n → a + n ≤ len
     → is_valid (validity_of all bytes (v + a) n) k ≡ is_valid (validity_of all bytes v len) (a + k)
 counts true bytes v a n k len h inside = refl
@@ -22,7 +22,7 @@ counts false bytes v a n k len h inside =
     at-bits bytes (v + a) n k false h ∙ ap (bit_of bytes) place
     ∙ sym (at-bits bytes v len (a + k) false (omega arith))
 
--- and takes what it takes of all
+-- and takes the same bit
 pub taken_in_block : {X : Type 0} (f : X → ℤ) (l : List Bool) (is : List X) (all : Bool)
     (bytes : List ℕ) (v a n k : ℕ) → k < n → a + n ≤ length is
     → taken_at l (map f (take (a + n - a) (drop a is))) (validity_of all bytes (v + a) n) k
@@ -39,11 +39,11 @@ taken_in_block f l is all bytes v a n k h inside =
 
 -- ---- all of them
 module _ (l : List Bool) (xs part : List ℤ) (V W : Option (List Bool)) (a n : ℕ) where
-  -- each position of a block takes what it takes of all
+  -- each position of a block takes the bit that it takes among all
   abbrev IsPart : Type 0
   IsPart = (k : ℕ) → k < n → taken_at l part W k ≡ taken_at l xs V (a + k)
 
-  -- a block was made in bytes of its own, and copied behind those before it
+  -- a block computed in bytes of its own is copied after those before it
   pub TakenTo-block : (out new made : List ℕ) (o : ℕ) → IsPart → length part ≡ n
       → TakenTo a (taken_at l xs V) (λ i. bit_of out (o + i))
       → IsTaken l part W (bits made 0 (length part)) → Writes out new (o + a) (bits made 0 n)
@@ -61,7 +61,7 @@ module _ (l : List Bool) (xs part : List ℤ) (V W : Option (List Bool)) (a n : 
         ∙ ap Some (sym bit ∙ ap (bit_of new) place)
   ]
 
-  -- the first position of a block that takes nothing is the first of all
+  -- the first position of a block that takes no bit is the first of all
   pub IsFirstPast-block : (out : List ℕ) (o p : ℕ) → IsPart → length part ≡ n → a + n ≤ length xs
       → TakenTo a (taken_at l xs V) (λ i. bit_of out (o + i)) → IsFirstPast l part W p
       → IsFirstPast l xs V (a + p)
@@ -79,7 +79,7 @@ module _ (l : List Bool) (xs part : List ℤ) (V W : Option (List Bool)) (a n : 
         ];
       }
 
--- each position has what it takes
+-- each position has the bit that it takes
 pub IsTaken-bits : (l : List Bool) (xs : List ℤ) (V : Option (List Bool)) (out : List ℕ) (o n : ℕ)
     → length xs ≡ n → TakenTo n (taken_at l xs V) (λ i. bit_of out (o + i))
     → IsTaken l xs V (bits out o n)
@@ -89,8 +89,8 @@ IsTaken-bits l xs V out o n size taken = record {
       ∙ ap Some (sym (at-bits out o n i false (omega (arith, size))));
 }
 
--- ---- what is written
--- the bits of a block, behind those before it
+-- ---- writes
+-- the bits of a block, after those before it
 pub Writes-block : (b c d made : List ℕ) (o a n : ℕ) → Writes b c o (bits c o a)
     → Writes c d (o + a) (bits made 0 n) → Writes b d o (bits d o (a + n))
 Writes-block b c d made o a n before copied =
@@ -101,7 +101,7 @@ Writes-block b c d made o a n before copied =
     Writes-add b c d o (o + a) k m (omega (arith, length-bits c o a)) before copied in
     subst (Writes b d o) (sym (ap (bits d o) (sym size) ∙ joined.window)) joined
 
--- those of a wider window, the rest of which is as before
+-- the bits of a wider window, with the rest unchanged
 pub Writes-wider : (b c : List ℕ) (o a n : ℕ) → a ≤ n → Writes b c o (bits c o a)
     → Writes b c o (bits c o n)
 Writes-wider b c o a n inside w = record {

@@ -1,17 +1,18 @@
--- How a call answers that keeps the bits that a mask does.
+-- Contracts of a filter of bits.
 use Rattle.std.specs.Prelude.{◌≡◌, ℕ, Bool, List}
 use Rattle.vb_bits.specs.Bits.{bits, count}
 use Rattle.vb_bits.specs.InBytes.{InBytes}
 use Rattle.vb_bits.specs.Kept.{kept_by}
 use Rattle.vb_bits.specs.Writes.{Writes}
 
--- the mask keeps the bits from bit o on, as many as is answered; others are as before
+-- the bits from bit o on are those that the mask selects, and the result is their number; every
+-- other bit is unchanged
 pub record FiltersBitsAt (mask values : List Bool) (old new : List ℕ) (o answer : ℕ) : Type 0 where
   pub number : answer ≡ count mask
   pub window : Writes old new o (kept_by mask values)
 
--- a mask of n bits lies in its bytes, from bit m on, and so does a window from bit o on that has
--- one for each of its true ones
+-- a mask of n bits from bit m on is in its bytes, and a window from bit o on with a bit for each
+-- one of the mask is in `out`
 pub record KeptFitsAt (out : List ℕ) (o : ℕ) (mask : List ℕ) (m n : ℕ) : Type 0 where
   pub by : InBytes mask m n
   pub into : InBytes out o (count (bits mask m n))

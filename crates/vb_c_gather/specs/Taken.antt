@@ -1,18 +1,18 @@
--- How a call that takes bits answers.
+-- The contract of a take of bits.
 use Rattle.std.specs.Prelude.{◌≡◌, ℕ, ℤ, true, false, Bool, List, Option, length}
 use Rattle.vb_bits.specs.Bits.{bits}
 use Rattle.vb_bits.specs.Writes.{Writes}
 use Rattle.vb_take.specs.Takes.{IsTaken, IsFirstPast}
 use Rattle.vb_c_core.specs.declared.taken.Taken.{Taken}
 
--- no position where each takes a bit of the list, and these stand from bit o on, one for each
--- index; else the first that takes none; every other bit is as before
+-- either no position is out of range, and the bits from bit o on are those taken, one for each
+-- index; or the result is the first position that takes none; every other bit is unchanged
 pub record TakesAt (l : List Bool) (indices : List ℤ) (validity : Option (List Bool))
     (old new : List ℕ) (o : ℕ) (answer : Taken) : Type 0 where
   pub taken : answer.out_of_range ≡ false → IsTaken l indices validity (bits new o (length indices))
   pub past : answer.out_of_range ≡ true → IsFirstPast l indices validity answer.position
   pub others : Writes old new o (bits new o (length indices))
 
--- they stand in front
+-- the same from bit 0 on
 abbrev pub Takes : List Bool → List ℤ → Option (List Bool) → List ℕ → List ℕ → Taken → Type 0
 Takes l indices validity old new answer = TakesAt l indices validity old new 0 answer

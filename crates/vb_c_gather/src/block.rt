@@ -1,6 +1,6 @@
-//! How bits are written to a window that begins at any bit, by kernels that write the first ones of
-//! some bytes: a block of them is made in bytes of its own, and copied.
+//! Writes to a window that begins at any bit, by kernels that write to the first bits of some
+//! bytes: these compute a block of bits in bytes of its own, which is then copied.
 
-/// How many bits a block has: so many that what a call and a copy take by themselves is little
-/// beside them, and few enough that clearing the bytes is nothing beside a short call.
+/// The number of bits of a block: enough that a call and a copy cost little compared with it, and
+/// few enough that clearing its bytes costs little in a short call.
 pub(crate) const COPIED_BITS: usize = 4096;

@@ -1,4 +1,4 @@
-//! Bits put back to the places that a mask keeps.
+//! Bits deposited at the set bits of a mask.
 ghost use Rattle.std.specs.Prelude.{◌≡◌};
 ghost use Rattle.vb_bits.specs.Bits.{bits, count};
 ghost use Rattle.vb_bits.specs.InBytes.{InBytes};
@@ -10,9 +10,9 @@ use vb_count::count_ones_wide;
 use vb_filter::deposit_into;
 use vb_view::BitBufferView;
 
-/// Writes `len` bits to `out` from bit `o` on: where that of `mask` from bit `m` on is true, the
-/// bits of `bytes` from bit `offset` on, in order, of which there have to be as many; false
-/// elsewhere. Every other bit of `out` stays. It undoes `vb_filter_bits`.
+/// Writes `len` bits to `out` from bit `o` on: where the bit of `mask` from bit `m` on is true,
+/// those of `bytes` from bit `offset` on, in order; elsewhere false. `bytes` must have a bit for
+/// each set bit of the mask. Every other bit of `out` is unchanged. It undoes `vb_filter_bits`.
 #[unsafe(no_mangle)]
 pub extern "C" fn vb_deposit_bits(
     out: &mut [u8],
@@ -26,7 +26,7 @@ pub extern "C" fn vb_deposit_bits(
     requires { DepositFits out.old o bytes.now offset mask.now m len }
     ensures { Deposits bytes.now offset (bits mask.now m len) out.old out.new o }
 {
-    // Of no bits too, the kernel stores those before `o` again that are in its byte.
+    // For no bits too, the kernel would store the byte of bit `o` again.
     if len == 0 {
         return;
     }
@@ -36,8 +36,8 @@ pub extern "C" fn vb_deposit_bits(
     deposit_into(&mut out[o / 8..end], o % 8, values, mask);
 }
 
-/// Whether all windows lie in their bytes, that of `bytes` with a bit for each true one of `mask`;
-/// [`vb_deposit_bits`] is then done, else nothing.
+/// Returns whether all windows are in their bytes, and that of `bytes` has a bit for each set bit
+/// of `mask`. If so, does [`vb_deposit_bits`]; else leaves `out` unchanged.
 #[unsafe(no_mangle)]
 pub extern "C" fn vb_try_deposit_bits(
     out: &mut [u8],

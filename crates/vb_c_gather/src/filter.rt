@@ -1,4 +1,4 @@
-//! Bits that a mask keeps.
+//! Bits that a mask selects.
 ghost use Rattle.std.specs.Prelude.{◌≡◌};
 ghost use Rattle.vb_bits.specs.Bits.{bits, count};
 ghost use Rattle.vb_bits.specs.InBytes.{InBytes};
@@ -10,9 +10,9 @@ use vb_count::count_ones_wide;
 use vb_filter::filter_into_at;
 use vb_view::BitBufferView;
 
-/// Writes those of the `len` bits of `bytes` from bit `offset` on that `mask` keeps, whose bit of
-/// it from bit `m` on is true, in order, to the bits of `out` from bit `o` on, which has to have
-/// room for them. Answers how many they are. Every other bit of `out` stays.
+/// Writes those of the `len` bits of `bytes` from bit `offset` on whose bit of `mask` from bit `m`
+/// on is true, in order, to the bits of `out` from bit `o` on, which must be in it. Returns their
+/// number. Every other bit of `out` is unchanged.
 #[unsafe(no_mangle)]
 pub extern "C" fn vb_filter_bits(
     out: &mut [u8],
@@ -32,8 +32,9 @@ pub extern "C" fn vb_filter_bits(
     filter_at(out, o, kept, bytes, offset, mask, m, len)
 }
 
-/// Whether both windows lie in their bytes, and so do the bits of `out` from bit `o` on for those
-/// that are kept; `written` is then what [`vb_filter_bits`] answers, and else all is as it was.
+/// Returns whether both windows are in their bytes, and the bits to write are in `out`. If so, does
+/// [`vb_filter_bits`] and writes its result to `written`; else leaves `out` and `written`
+/// unchanged.
 #[unsafe(no_mangle)]
 pub extern "C" fn vb_try_filter_bits(
     out: &mut [u8],
@@ -61,7 +62,7 @@ pub extern "C" fn vb_try_filter_bits(
     true
 }
 
-/// Does what [`vb_filter_bits`] does, where the mask keeps `kept` bits. The kernel gets only the
+/// Does what [`vb_filter_bits`] does, if the mask selects `kept` bits. The kernel gets only the
 /// bytes of these bits.
 fn filter_at(
     out: &mut [u8],

@@ -11,15 +11,15 @@ use vb_bits::window_fits;
 use vb_kleene::{and_kleene_into, or_kleene_into};
 use vb_view::BitBufferView;
 
-/// Writes `left and right` of `len` truth values that may be null, by three-valued logic: false
-/// where one of the two is false, else null where one is null. Which are true goes to the bits of
-/// `trues` from bit `t` on, with false at nulls, and which aren't null to those of `valid` from bit
-/// `v` on; every other bit stays.
+/// Writes `left and right` of `len` truth values that may be null, by three-valued logic: false if
+/// one of the two is false, even if the other one is null; else null if one is null; else true.
+/// Writes whether each result is true to the bits of `trues` from bit `t` on, with false at nulls,
+/// and whether it isn't null to the bits of `valid` from bit `v` on. Every other bit is unchanged.
 ///
-/// The values are the bits of `left` from bit `l` on and those of `right` from bit `r` on. Where
-/// `left_all_valid` is false, one of `left` is null where the bit of `left_validity` from bit
-/// `left_validity_offset` on is false, and so on the right; else none is, and the validity isn't
-/// looked at.
+/// The values are the bits of `left` from bit `l` on and those of `right` from bit `r` on. If
+/// `left_all_valid` is false, a value of `left` is null if its bit of `left_validity`, from bit
+/// `left_validity_offset` on, is false; else none is, and the validity is ignored. The same holds
+/// for `right`.
 #[unsafe(no_mangle)]
 pub extern "C" fn vb_and_kleene(
     trues: &mut [u8],
@@ -67,8 +67,8 @@ pub extern "C" fn vb_and_kleene(
     and_kleene_into(trues, t, valid, v, left, left_valid, right, right_valid);
 }
 
-/// Whether all windows lie in their bytes, those of validities that count too; [`vb_and_kleene`] is
-/// then done, else nothing.
+/// Returns whether all windows are in their bytes; a validity that is ignored need not be. If so,
+/// does [`vb_and_kleene`]; else leaves `trues` and `valid` unchanged.
 #[unsafe(no_mangle)]
 pub extern "C" fn vb_try_and_kleene(
     trues: &mut [u8],
@@ -125,8 +125,9 @@ pub extern "C" fn vb_try_and_kleene(
     true
 }
 
-/// Writes `left or right` of truth values that may be null: true where one of the two is true, else
-/// null where one is null. The rest is as of [`vb_and_kleene`].
+/// Writes `left or right` of truth values that may be null, by three-valued logic: true if one of
+/// the two is true, even if the other one is null; else null if one is null; else false. All else
+/// is as in [`vb_and_kleene`].
 #[unsafe(no_mangle)]
 pub extern "C" fn vb_or_kleene(
     trues: &mut [u8],
@@ -174,8 +175,8 @@ pub extern "C" fn vb_or_kleene(
     or_kleene_into(trues, t, valid, v, left, left_valid, right, right_valid);
 }
 
-/// Whether all windows lie in their bytes, those of validities that count too; [`vb_or_kleene`] is
-/// then done, else nothing.
+/// Returns whether all windows are in their bytes; a validity that is ignored need not be. If so,
+/// does [`vb_or_kleene`]; else leaves `trues` and `valid` unchanged.
 #[unsafe(no_mangle)]
 pub extern "C" fn vb_try_or_kleene(
     trues: &mut [u8],

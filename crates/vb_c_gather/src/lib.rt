@@ -1,12 +1,11 @@
-//! Bits that are put together of others, as C functions: those that a mask keeps, those at indices,
-//! those that go back to where a mask kept them, truth values that are packed, and such that may be
-//! null, combined.
+//! Bits built from other bits, as C functions: filters of bits, their deposits, takes, packs of
+//! truth values, and `and` and `or` of truth values that may be null.
 //!
-//! What a C caller owes is as in `vb_c`: a slice crosses as a pointer and the number of its items,
-//! and each function has the clauses of the kernel that it calls. They write from any bit on, so
-//! that what batches give is joined without a copy; those that end in `_padded` write whole bytes.
-//! Beside each function stands a checked form, `vb_try_..`, that requires nothing: it answers
-//! whether the numbers are good, and where they aren't, it leaves everything as it was.
+//! A C caller must ensure the same as for `vb_c`: a slice is a pointer and the number of its items.
+//! A function has the contract of the kernel that it calls. It writes from any bit on, so that the
+//! results of batches need no copy to be joined; those that end in `_padded` write whole bytes. The
+//! checked form next to it, `vb_try_..`, requires nothing: it returns whether the arguments are
+//! good, and leaves everything unchanged if they aren't. No function allocates.
 #![tactic(auto)]
 
 mod block;

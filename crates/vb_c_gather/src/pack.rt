@@ -8,10 +8,10 @@ ghost use Rattle.vb_c_gather.specs.Packed.{Packs};
 use vb_bits::window_fits;
 use vb_compare::{Comparison, compare_into};
 
-/// Packs bytes, each of which is true where it isn't 0, into the bits of `out` from bit `o` on, one
-/// each, and leaves every other bit of `out`.
+/// Packs bytes into the bits of `out` from bit `o` on, one each, which must be in `out`: true if
+/// the byte isn't 0. Every other bit of `out` is unchanged.
 ///
-/// They are compared with 0, 64 at a time by vectors.
+/// Compares them with 0, 64 at a time by vectors.
 #[unsafe(no_mangle)]
 pub extern "C" fn vb_pack_truthy(out: &mut [u8], o: usize, truthy: &[u8])
     requires { InBytes out.old o (length truthy.now) }
@@ -21,8 +21,8 @@ pub extern "C" fn vb_pack_truthy(out: &mut [u8], o: usize, truthy: &[u8])
     pack_within(&mut out[o / 8..end], o % 8, truthy);
 }
 
-/// Whether the bits of `out` lie in it, one for each byte; [`vb_pack_truthy`] is then done, and
-/// else `out` is as it was.
+/// Returns whether `out` has the bits, one for each byte. If so, does [`vb_pack_truthy`]; else
+/// leaves `out` unchanged.
 #[unsafe(no_mangle)]
 pub extern "C" fn vb_try_pack_truthy(out: &mut [u8], o: usize, truthy: &[u8]) -> bool
     ensures { DoneIf (InBytes out.old o (length truthy.now))
@@ -35,7 +35,7 @@ pub extern "C" fn vb_try_pack_truthy(out: &mut [u8], o: usize, truthy: &[u8]) ->
     true
 }
 
-/// [`vb_pack_truthy`], which may store any byte of `out`.
+/// Does [`vb_pack_truthy`], and may store any byte of `out`.
 fn pack_within(out: &mut [u8], o: usize, truthy: &[u8])
     requires { InBytes out.old o (length truthy.now) }
     ensures { Writes out.old out.new o (map (λ x. not (x == 0)) truthy.now) }
@@ -43,8 +43,8 @@ fn pack_within(out: &mut [u8], o: usize, truthy: &[u8])
     compare_into(out, o, truthy, Comparison::NotEqual, 0);
 }
 
-/// Packs truth values into the first bytes of `out`, eight into each; the bits of the last one
-/// behind them are false, and later bytes stay.
+/// Packs truth values into the first bytes of `out`, eight into each. The remaining bits of the
+/// last byte written are false, and later bytes are unchanged.
 #[unsafe(no_mangle)]
 pub extern "C" fn vb_pack_bools_padded(out: &mut [u8], bools: &[bool])
     requires { length bools.now ≤ 8 * length out.old }
@@ -53,8 +53,8 @@ pub extern "C" fn vb_pack_bools_padded(out: &mut [u8], bools: &[bool])
     vb_pack::pack_bools(&mut out[..bools.len().div_ceil(8)], bools);
 }
 
-/// Whether `out` has room for the values; [`vb_pack_bools_padded`] is then done, and else it is as
-/// it was.
+/// Returns whether `out` has a bit for each value. If so, does [`vb_pack_bools_padded`]; else
+/// leaves `out` unchanged.
 #[unsafe(no_mangle)]
 pub extern "C" fn vb_try_pack_bools_padded(out: &mut [u8], bools: &[bool]) -> bool
     ensures { DoneIf (length bools.now ≤ 8 * length out.old)
@@ -67,8 +67,8 @@ pub extern "C" fn vb_try_pack_bools_padded(out: &mut [u8], bools: &[bool]) -> bo
     true
 }
 
-/// Packs bytes, each of which is true where it isn't 0, into the first bytes of `out`, eight into
-/// each; the bits of the last one behind them are false, and later bytes stay.
+/// Packs bytes into the first bytes of `out`, eight into each: true if the byte isn't 0. The
+/// remaining bits of the last byte written are false, and later bytes are unchanged.
 #[unsafe(no_mangle)]
 pub extern "C" fn vb_pack_truthy_padded(out: &mut [u8], truthy: &[u8])
     requires { length truthy.now ≤ 8 * length out.old }
@@ -77,8 +77,8 @@ pub extern "C" fn vb_pack_truthy_padded(out: &mut [u8], truthy: &[u8])
     vb_pack::pack_truthy(&mut out[..truthy.len().div_ceil(8)], truthy);
 }
 
-/// Whether `out` has room for the values; [`vb_pack_truthy_padded`] is then done, and else it is as
-/// it was.
+/// Returns whether `out` has a bit for each value. If so, does [`vb_pack_truthy_padded`]; else
+/// leaves `out` unchanged.
 #[unsafe(no_mangle)]
 pub extern "C" fn vb_try_pack_truthy_padded(out: &mut [u8], truthy: &[u8]) -> bool
     ensures { DoneIf (length truthy.now ≤ 8 * length out.old)

@@ -17,12 +17,14 @@ use vb_core::BitIndex;
 use vb_take::take_into;
 use vb_view::BitBufferView;
 
-/// Writes the bits that the indices name among the `len` bits from bit `offset` on to the bits of
-/// `out` from bit `o` on, one for each index of 8 bits; or answers the first position that counts
-/// and whose index is out of range, not below `len`. Where `all_valid` is false, a position counts
-/// if the bit of `validity` from bit `v` on is true: at the others false is written, and their
-/// indices aren't looked at. Every other bit of `out` stays; where a position is answered, those
-/// from bit `o` on, one for each index, hold any.
+/// Takes (gathers) bits at indices of 8 bits: writes the bits at the indices of the window of `len`
+/// bits from bit `offset` on to the bits of `out` from bit `o` on, one for each index. Returns the
+/// first position that counts and whose index is out of range (not below `len`), if there is one.
+///
+/// If `all_valid` is true, each position counts, and the validity is ignored. Else a position
+/// counts if its bit of `validity`, from bit `v` on, is true; the others get false, and their
+/// indices are ignored. Every other bit of `out` is unchanged. If a position is returned, the bits
+/// of the indices are unspecified.
 #[unsafe(no_mangle)]
 pub extern "C" fn vb_take_bits_u8(
     out: &mut [u8],
@@ -45,9 +47,9 @@ pub extern "C" fn vb_take_bits_u8(
     take(out, o, window, indices, all_valid, validity, v)
 }
 
-/// Whether all windows lie in their bytes, that of `validity` only where it counts, those of `out`
-/// and `validity` with a bit an index; `taken` is then what [`vb_take_bits_u8`] answers, and
-/// else all is as it was.
+/// Returns whether all windows are in their bytes, those of `out` and `validity` with a bit for
+/// each index; a validity that is ignored need not be. If so, does [`vb_take_bits_u8`] and writes
+/// its result to `taken`; else leaves `out` and `taken` unchanged.
 #[unsafe(no_mangle)]
 pub extern "C" fn vb_try_take_bits_u8(
     out: &mut [u8],
@@ -77,7 +79,7 @@ pub extern "C" fn vb_try_take_bits_u8(
     true
 }
 
-/// [`vb_take_bits_u8`] of indices of 16 bits.
+/// Does [`vb_take_bits_u8`] for indices of 16 bits.
 #[unsafe(no_mangle)]
 pub extern "C" fn vb_take_bits_u16(
     out: &mut [u8],
@@ -100,9 +102,9 @@ pub extern "C" fn vb_take_bits_u16(
     take(out, o, window, indices, all_valid, validity, v)
 }
 
-/// Whether all windows lie in their bytes, that of `validity` only where it counts, those of `out`
-/// and `validity` with a bit an index; `taken` is then what [`vb_take_bits_u16`] answers, and
-/// else all is as it was.
+/// Returns whether all windows are in their bytes, those of `out` and `validity` with a bit for
+/// each index; a validity that is ignored need not be. If so, does [`vb_take_bits_u16`] and writes
+/// its result to `taken`; else leaves `out` and `taken` unchanged.
 #[unsafe(no_mangle)]
 pub extern "C" fn vb_try_take_bits_u16(
     out: &mut [u8],
@@ -132,7 +134,7 @@ pub extern "C" fn vb_try_take_bits_u16(
     true
 }
 
-/// [`vb_take_bits_u8`] of indices of 32 bits.
+/// Does [`vb_take_bits_u8`] for indices of 32 bits.
 #[unsafe(no_mangle)]
 pub extern "C" fn vb_take_bits_u32(
     out: &mut [u8],
@@ -155,9 +157,9 @@ pub extern "C" fn vb_take_bits_u32(
     take(out, o, window, indices, all_valid, validity, v)
 }
 
-/// Whether all windows lie in their bytes, that of `validity` only where it counts, those of `out`
-/// and `validity` with a bit an index; `taken` is then what [`vb_take_bits_u32`] answers, and
-/// else all is as it was.
+/// Returns whether all windows are in their bytes, those of `out` and `validity` with a bit for
+/// each index; a validity that is ignored need not be. If so, does [`vb_take_bits_u32`] and writes
+/// its result to `taken`; else leaves `out` and `taken` unchanged.
 #[unsafe(no_mangle)]
 pub extern "C" fn vb_try_take_bits_u32(
     out: &mut [u8],
@@ -187,7 +189,7 @@ pub extern "C" fn vb_try_take_bits_u32(
     true
 }
 
-/// [`vb_take_bits_u8`] of indices of 64 bits.
+/// Does [`vb_take_bits_u8`] for indices of 64 bits.
 #[unsafe(no_mangle)]
 pub extern "C" fn vb_take_bits_u64(
     out: &mut [u8],
@@ -210,9 +212,9 @@ pub extern "C" fn vb_take_bits_u64(
     take(out, o, window, indices, all_valid, validity, v)
 }
 
-/// Whether all windows lie in their bytes, that of `validity` only where it counts, those of `out`
-/// and `validity` with a bit an index; `taken` is then what [`vb_take_bits_u64`] answers, and
-/// else all is as it was.
+/// Returns whether all windows are in their bytes, those of `out` and `validity` with a bit for
+/// each index; a validity that is ignored need not be. If so, does [`vb_take_bits_u64`] and writes
+/// its result to `taken`; else leaves `out` and `taken` unchanged.
 #[unsafe(no_mangle)]
 pub extern "C" fn vb_try_take_bits_u64(
     out: &mut [u8],
@@ -242,8 +244,8 @@ pub extern "C" fn vb_try_take_bits_u64(
     true
 }
 
-/// The bits at the indices, as [`vb_take_bits_u8`] writes them, by a slice of the bytes that have
-/// one of them.
+/// Does [`vb_take_bits_u8`] for indices of any type. Passes the kernel only the bytes that have one
+/// of the bits to write, so it can store no others.
 fn take<I: BitIndex>(
     out: &mut [u8],
     o: usize,
@@ -263,7 +265,7 @@ fn take<I: BitIndex>(
     take_within(part, o % 8, window, indices, all_valid, validity, v)
 }
 
-/// [`take`], which may store any byte of `out`.
+/// Does [`take`], and may store any byte of `out`.
 fn take_within<I: BitIndex>(
     out: &mut [u8],
     o: usize,
@@ -287,7 +289,7 @@ fn take_within<I: BitIndex>(
         .into()
 }
 
-/// [`take`] at bit 0, which may store any byte of `out`.
+/// Does [`take`] at bit 0, and may store any byte of `out`.
 fn take_to_front<I: BitIndex>(
     out: &mut [u8],
     window: BitBufferView<'_>,
@@ -302,7 +304,7 @@ fn take_to_front<I: BitIndex>(
     take_into(out, window, indices, validity).err().into()
 }
 
-/// The validity of `n` positions from `start` on, where it counts.
+/// Returns the validity of `n` positions from `start` on; `None` if each position counts.
 pub(crate) fn valid_part(
     all_valid: bool,
     validity: &[u8],
@@ -322,7 +324,8 @@ pub(crate) fn valid_part(
     }
 }
 
-/// [`take`], a block of the indices at a time; or the first position that takes no bit.
+/// Does [`take`], a block of the indices at a time. Returns `Err(k)` for the first position `k`
+/// that takes no bit.
 fn take_by_blocks<I: BitIndex>(
     out: &mut [u8],
     o: usize,

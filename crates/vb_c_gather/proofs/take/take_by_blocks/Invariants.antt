@@ -6,7 +6,7 @@ use Rattle.vb_view.specs.View.{bits_of}
 use Rattle.vb_take.specs.Takes.{taken_at, TakenTo}
 use Rattle.vb_c_gather.proofs.take.take_by_blocks.Given as goal
 
--- the positions so far have what they take
+-- the positions so far have the bits that they take
 abbrev pub invariant-loop-done : goal.invariant-loop-done
 invariant-loop-done g l = record {
   inside : l.done ≤ length l.indices;
