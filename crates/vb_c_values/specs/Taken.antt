@@ -1,10 +1,10 @@
--- How a call that takes values answers.
+-- The contract of a take of values.
 use Rattle.std.specs.Prelude.{◌≡◌, ℤ, true, false, Bool, List, Option, length, take, drop}
 use Rattle.vb_c_core.specs.declared.taken.Taken.{Taken}
 use Rattle.vb_take.specs.ItemsTaken.{AreTaken, IsFirstUntaken}
 
--- no position where each takes a value, and these stand in front, one for each index; else the
--- first that takes none; the items behind those in front are as they were
+-- either no position is out of range, and the items in front are those taken, one for each index;
+-- or the result is the first position that takes none; the items after those in front are unchanged
 pub record TakesValues {T : Type 0} (zero : T) (values : List T) (indices : List ℤ)
     (validity : Option (List Bool)) (old new : List T) (answer : Taken) : Type 0 where
   pub taken : answer.out_of_range ≡ false

@@ -1,5 +1,4 @@
--- Values of 16 bytes as elements. The laws of `Element` cite these lemmas, and so they stand in
--- specs.
+-- Values of 16 bytes as elements. These lemmas are specs since the laws of `Element` cite them.
 use Rattle.std.proofs.Common.{◌≡◌, ℕ, ◌<◌, ◌^◌, ◌++◌, List, length, take, drop, refl, sym}
 use Rattle.std.proofs.Common.{ap, ◌∙◌, arith, lit<}
 use Rattle.std.specs.Int.{w64, to_le_bytes, from_le_bytes}
@@ -10,12 +9,12 @@ use Rattle.vb_core.specs.Elements.{AreBytes, IsElement}
 use Rattle.vb_core.specs.ElementLaws.{unsigned_laws}
 use Rattle.vb_c_values.specs.declared.wide.Wide.{Wide}
 
--- the value whose first and last eight bytes these are
+-- the value with these first and last eight bytes
 abbrev pub wide_of : List ℕ → Wide
 wide_of bytes =
     record { low = from_le_bytes w64 (take 8 bytes); high = from_le_bytes w64 (drop 8 bytes) }
 
--- its bytes
+-- the bytes of a value
 abbrev pub wide_bytes : Wide → List ℕ
 wide_bytes x = to_le_bytes w64 x.low ++ to_le_bytes w64 x.high
 
@@ -27,11 +26,11 @@ IsWide x = (x.low < 2 ^ 64) × (x.high < 2 ^ 64)
 abbrev pub wide_zero : Wide
 wide_zero = record { low = 0; high = 0 }
 
--- eight bytes a half
+-- a half has eight bytes
 half_has_size : (x : ℕ) → x < 2 ^ 64 → length (to_le_bytes w64 x) ≡ 8
 half_has_size = (unsigned_laws w64).form_has_size
 
--- the bytes of a value stand for it
+-- the value of the bytes of a value is that value
 wide_of-wide_bytes : (x : Wide) → IsWide x → wide_of (wide_bytes x) ≡ x
 wide_of-wide_bytes x fits =
     let low = to_le_bytes w64 x.low in
@@ -47,7 +46,7 @@ wide_of-wide_bytes x fits =
     ap (from_le_bytes w64) last ∙ (unsigned_laws w64).get_after_put x.high (fits.1) in
     rw (one, other) refl
 
--- 16 bytes are those of what they stand for
+-- the bytes of the value of 16 bytes are those bytes
 wide_bytes-wide_of : (bytes : List ℕ) → length bytes ≡ 16 → AreBytes bytes
     → wide_bytes (wide_of bytes) ≡ bytes
 wide_bytes-wide_of bytes len all =
@@ -60,7 +59,7 @@ wide_bytes-wide_of bytes len all =
     ap (λ l. l ++ to_le_bytes w64 (from_le_bytes w64 (drop 8 bytes))) one
     ∙ ap (λ l. take 8 bytes ++ l) other ∙ take-append-drop 8 bytes
 
--- those of two numbers of eight bytes, side by side
+-- such a value is an element of 16 bytes
 pub wide_laws : IsElement 16 8 3 IsWide wide_bytes wide_of
 wide_laws = record {
   size_is_positive = lit< tt;

@@ -1,4 +1,4 @@
-//! Values that a mask keeps.
+//! Values that a mask selects.
 ghost use Rattle.std.specs.Prelude.{◌≡◌, length};
 ghost use Rattle.vb_bits.specs.Bits.{bits, count};
 ghost use Rattle.vb_c_core.specs.Fits.{DoneIf, KeptFits};
@@ -11,9 +11,9 @@ use vb_count::count_ones_wide;
 use vb_filter::filter_elements_into;
 use vb_view::BitBufferView;
 
-/// Writes those of the values whose bit of `mask` from bit `m` on is true, in order, to the front
-/// of `out`, which has to have room for them, and answers how many they are. The items of `out`
-/// behind them stay.
+/// Writes the values whose bit of `mask`, from bit `m` on, is true, in order, to the front of
+/// `out`, which must have an item for each. Returns their number. The items of `out` after them are
+/// unchanged.
 #[unsafe(no_mangle)]
 pub extern "C" fn vb_filter_values_u8(out: &mut [u8], values: &[u8], mask: &[u8], m: usize) -> usize
     requires { KeptFits mask.now m (length values.now) (length out.old) }
@@ -22,8 +22,9 @@ pub extern "C" fn vb_filter_values_u8(out: &mut [u8], values: &[u8], mask: &[u8]
     filter_values(out, values, mask, m)
 }
 
-/// Whether the mask has a bit for each value in its bytes, and `out` room for those that it keeps;
-/// `written` is then what [`vb_filter_values_u8`] answers, and else all is as it was.
+/// Returns whether the mask has a bit for each value in its bytes, and `out` an item for each
+/// selected value. If so, does [`vb_filter_values_u8`] and writes its result to `written`; else
+/// leaves `out` and `written` unchanged.
 #[unsafe(no_mangle)]
 pub extern "C" fn vb_try_filter_values_u8(
     out: &mut [u8],
@@ -39,9 +40,9 @@ pub extern "C" fn vb_try_filter_values_u8(
     try_filter_values(out, values, mask, m, written)
 }
 
-/// Writes those of the values, of two bytes each, whose bit of `mask` from bit `m` on is true, in
-/// order, to the front of `out`, which has to have room for them, and answers how many they are.
-/// The items of `out` behind them stay.
+/// Writes the values, of two bytes each, whose bit of `mask`, from bit `m` on, is true, in order,
+/// to the front of `out`, which must have an item for each. Returns their number. The items of
+/// `out` after them are unchanged.
 #[unsafe(no_mangle)]
 pub extern "C" fn vb_filter_values_u16(
     out: &mut [u16],
@@ -55,8 +56,9 @@ pub extern "C" fn vb_filter_values_u16(
     filter_values(out, values, mask, m)
 }
 
-/// Whether the mask has a bit for each value in its bytes, and `out` room for those that it keeps;
-/// `written` is then what [`vb_filter_values_u16`] answers, and else all is as it was.
+/// Returns whether the mask has a bit for each value in its bytes, and `out` an item for each
+/// selected value. If so, does [`vb_filter_values_u16`] and writes its result to `written`; else
+/// leaves `out` and `written` unchanged.
 #[unsafe(no_mangle)]
 pub extern "C" fn vb_try_filter_values_u16(
     out: &mut [u16],
@@ -72,9 +74,9 @@ pub extern "C" fn vb_try_filter_values_u16(
     try_filter_values(out, values, mask, m, written)
 }
 
-/// Writes those of the values, of four bytes each, whose bit of `mask` from bit `m` on is true, in
-/// order, to the front of `out`, which has to have room for them, and answers how many they are.
-/// The items of `out` behind them stay.
+/// Writes the values, of four bytes each, whose bit of `mask`, from bit `m` on, is true, in order,
+/// to the front of `out`, which must have an item for each. Returns their number. The items of
+/// `out` after them are unchanged.
 #[unsafe(no_mangle)]
 pub extern "C" fn vb_filter_values_u32(
     out: &mut [u32],
@@ -88,8 +90,9 @@ pub extern "C" fn vb_filter_values_u32(
     filter_values(out, values, mask, m)
 }
 
-/// Whether the mask has a bit for each value in its bytes, and `out` room for those that it keeps;
-/// `written` is then what [`vb_filter_values_u32`] answers, and else all is as it was.
+/// Returns whether the mask has a bit for each value in its bytes, and `out` an item for each
+/// selected value. If so, does [`vb_filter_values_u32`] and writes its result to `written`; else
+/// leaves `out` and `written` unchanged.
 #[unsafe(no_mangle)]
 pub extern "C" fn vb_try_filter_values_u32(
     out: &mut [u32],
@@ -105,9 +108,9 @@ pub extern "C" fn vb_try_filter_values_u32(
     try_filter_values(out, values, mask, m, written)
 }
 
-/// Writes those of the values, of eight bytes each, whose bit of `mask` from bit `m` on is true, in
-/// order, to the front of `out`, which has to have room for them, and answers how many they are.
-/// The items of `out` behind them stay.
+/// Writes the values, of eight bytes each, whose bit of `mask`, from bit `m` on, is true, in order,
+/// to the front of `out`, which must have an item for each. Returns their number. The items of
+/// `out` after them are unchanged.
 #[unsafe(no_mangle)]
 pub extern "C" fn vb_filter_values_u64(
     out: &mut [u64],
@@ -121,8 +124,9 @@ pub extern "C" fn vb_filter_values_u64(
     filter_values(out, values, mask, m)
 }
 
-/// Whether the mask has a bit for each value in its bytes, and `out` room for those that it keeps;
-/// `written` is then what [`vb_filter_values_u64`] answers, and else all is as it was.
+/// Returns whether the mask has a bit for each value in its bytes, and `out` an item for each
+/// selected value. If so, does [`vb_filter_values_u64`] and writes its result to `written`; else
+/// leaves `out` and `written` unchanged.
 #[unsafe(no_mangle)]
 pub extern "C" fn vb_try_filter_values_u64(
     out: &mut [u64],
@@ -138,9 +142,9 @@ pub extern "C" fn vb_try_filter_values_u64(
     try_filter_values(out, values, mask, m, written)
 }
 
-/// Writes those of the values, of 16 bytes each, whose bit of `mask` from bit `m` on is true, in
-/// order, to the front of `out`, which has to have room for them, and answers how many they are.
-/// The items of `out` behind them stay.
+/// Writes the values, of 16 bytes each, whose bit of `mask`, from bit `m` on, is true, in order, to
+/// the front of `out`, which must have an item for each. Returns their number. The items of `out`
+/// after them are unchanged.
 #[unsafe(no_mangle)]
 pub extern "C" fn vb_filter_values_u128(
     out: &mut [Wide],
@@ -154,8 +158,9 @@ pub extern "C" fn vb_filter_values_u128(
     filter_values(out, values, mask, m)
 }
 
-/// Whether the mask has a bit for each value in its bytes, and `out` room for those that it keeps;
-/// `written` is then what [`vb_filter_values_u128`] answers, and else all is as it was.
+/// Returns whether the mask has a bit for each value in its bytes, and `out` an item for each
+/// selected value. If so, does [`vb_filter_values_u128`] and writes its result to `written`; else
+/// leaves `out` and `written` unchanged.
 #[unsafe(no_mangle)]
 pub extern "C" fn vb_try_filter_values_u128(
     out: &mut [Wide],
@@ -171,8 +176,8 @@ pub extern "C" fn vb_try_filter_values_u128(
     try_filter_values(out, values, mask, m, written)
 }
 
-/// Writes those of the values whose bit of `mask` from bit `m` on is true to the front of `out`,
-/// and answers how many they are.
+/// Writes the values whose bit of `mask`, from bit `m` on, is true, in order, to the front of
+/// `out`, and returns their number.
 fn filter_values<T: Element>(out: &mut [T], values: &[T], mask: &[u8], m: usize) -> usize
     requires { KeptFits mask.now m (length values.now) (length out.old) }
     ensures { Filters (bits mask.now m (length values.now)) values.now out.old out.new result }
@@ -181,8 +186,9 @@ fn filter_values<T: Element>(out: &mut [T], values: &[T], mask: &[u8], m: usize)
     filter_to_front(out, kept, values, mask, m)
 }
 
-/// Whether the mask has a bit for each value in its bytes, and `out` room for those that it keeps;
-/// `written` is then what [`filter_values`] answers, and else all is as it was.
+/// Returns whether the mask has a bit for each value in its bytes, and `out` an item for each
+/// selected value. If so, does [`filter_values`] and writes its result to `written`; else leaves
+/// `out` and `written` unchanged.
 fn try_filter_values<T: Element>(
     out: &mut [T],
     values: &[T],
@@ -205,9 +211,8 @@ fn try_filter_values<T: Element>(
     true
 }
 
-/// [`filter_values`] by a slice of the `kept` items in front, as many as the mask keeps: where its
-/// slice has room for more, the kernel writes over those behind some of four bytes, and puts them
-/// back.
+/// Does [`filter_values`]. `kept` must be the number of selected values: passes the kernel only the
+/// first `kept` items, since it may overwrite later ones of four bytes and restore them.
 fn filter_to_front<T: Element>(
     out: &mut [T],
     kept: usize,

@@ -1,11 +1,11 @@
-//! The kernels over slices of values as C functions: values that a mask keeps, and values at
+//! The functions over slices of values as C functions: values that a mask selects, and values at
 //! indices.
 //!
-//! What a C caller owes is as in `vb_c`: a slice crosses as a pointer and the number of its items,
-//! and each function has the clauses of the kernel that it calls. A value has 1, 2, 4, 8 or 16
-//! bytes, and crosses as a whole number of that size, whatever it means: no bit of it is looked at.
-//! Beside each function stands a checked form, `vb_try_..`, that requires nothing: it answers
-//! whether the numbers are good, and where they aren't, it leaves everything as it was.
+//! A C caller must ensure the same as for `vb_c`: a slice is a pointer and the number of its items.
+//! A function has the contract of the kernel that it calls. A value has 1, 2, 4, 8 or 16 bytes. It
+//! is passed as a whole number of that size, whatever it means: no function reads its bits. The
+//! checked form next to a function, `vb_try_..`, requires nothing: it returns whether the arguments
+//! are good, and leaves everything unchanged if they aren't. No function allocates.
 #![tactic(auto)]
 
 pub mod filter;

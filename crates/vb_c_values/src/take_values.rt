@@ -1,4 +1,4 @@
-//! Values at indices. A file has those of one width of indices.
+//! Values at indices. Each file has the functions for indices of one width.
 ghost use Rattle.std.specs.Prelude.{◌≡◌, ◌≤◌, length, map};
 ghost use Rattle.vb_c_core.specs.Fits.{DoneIf};
 ghost use Rattle.vb_c_core.specs.Validity.{HasValidity, validity_of};
@@ -15,8 +15,8 @@ use vb_core::{BitIndex, Element};
 use vb_take::take_values_into;
 use vb_view::BitBufferView;
 
-/// Writes the values at the indices to the front of `out`, or answers the first position that
-/// counts and whose index names no value.
+/// Writes the values at the indices to the front of `out`. Returns the first position that counts
+/// and whose index is out of range, if there is one.
 fn take_values<T: Element, I: BitIndex>(
     out: &mut [T],
     values: &[T],
@@ -39,8 +39,9 @@ fn take_values<T: Element, I: BitIndex>(
     take_values_into(out, values, indices, valid).err().into()
 }
 
-/// Whether the numbers are good; `taken` is then what [`take_values`] answers, and else all is as
-/// it was.
+/// Returns whether `out` has an item for each index, and the validity, unless it is ignored, a bit
+/// for each. If so, does [`take_values`] and writes its result to `taken`; else leaves `out` and
+/// `taken` unchanged.
 fn try_take_values<T: Element, I: BitIndex>(
     out: &mut [T],
     values: &[T],

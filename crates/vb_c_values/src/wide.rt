@@ -3,13 +3,13 @@ ghost use Rattle.vb_c_values.specs.WideLaws.{IsWide, wide_bytes, wide_of, wide_l
 
 use vb_core::Element;
 
-/// A value of 16 bytes, as it crosses to C.
+/// A value of 16 bytes, as C passes it.
 #[repr(C)]
 #[derive(Clone, Copy)]
 pub struct Wide {
-    /// Its first eight bytes, as a number whose lowest digits are those of the first.
+    /// The first eight bytes, as a little-endian number.
     pub low: u64,
-    /// Its last eight bytes.
+    /// The last eight bytes, as a little-endian number.
     pub high: u64,
 }
 

@@ -9,12 +9,14 @@ use crate::take_values::{take_values, try_take_values};
 use crate::wide::Wide;
 use vb_c_core::Taken;
 
-/// Writes the values at the indices, of one byte each, to the front of `out`, which has to have
-/// room for one an index; or answers the first position that counts and whose index is out of
-/// range, not below the number of values. Where `all_valid` is false, a position counts if the bit
-/// of `validity` from bit `v` on is true: at the others 0 is written, and their indices aren't
-/// looked at. The items of `out` behind those of the indices stay; where a position is answered,
-/// the ones in front hold any values.
+/// Takes (gathers) values of one byte each: writes the values at the indices to the front of `out`,
+/// which must have one item for each index. Returns the first position that counts and whose index
+/// is out of range (not below the number of values), if there is one.
+///
+/// If `all_valid` is true, each position counts, and the validity is ignored. Else a position
+/// counts if its bit of `validity`, from bit `v` on, is true; the others get 0, and their indices
+/// are ignored. The items of `out` after those of the indices are unchanged. If a position is
+/// returned, the items of the indices are unspecified.
 #[unsafe(no_mangle)]
 pub extern "C" fn vb_take_values_u8_u64(
     out: &mut [u8],
@@ -32,9 +34,9 @@ pub extern "C" fn vb_take_values_u8_u64(
     take_values(out, values, indices, all_valid, validity, v)
 }
 
-/// Whether `out` has room for a value an index, and the validity, where it counts, a bit in its
-/// bytes for each; `taken` is then what [`vb_take_values_u8_u64`] answers, and else all is as it
-/// was.
+/// Returns whether `out` has an item for each index, and the validity, unless it is ignored, a bit
+/// for each. If so, does [`vb_take_values_u8_u64`] and writes its result to `taken`; else leaves
+/// `out` and `taken` unchanged.
 #[unsafe(no_mangle)]
 pub extern "C" fn vb_try_take_values_u8_u64(
     out: &mut [u8],
@@ -54,12 +56,14 @@ pub extern "C" fn vb_try_take_values_u8_u64(
     try_take_values(out, values, indices, all_valid, validity, v, taken)
 }
 
-/// Writes the values at the indices, of two bytes each, to the front of `out`, which has to have
-/// room for one an index; or answers the first position that counts and whose index is out of
-/// range, not below the number of values. Where `all_valid` is false, a position counts if the bit
-/// of `validity` from bit `v` on is true: at the others 0 is written, and their indices aren't
-/// looked at. The items of `out` behind those of the indices stay; where a position is answered,
-/// the ones in front hold any values.
+/// Takes (gathers) values of two bytes each: writes the values at the indices to the front of
+/// `out`, which must have one item for each index. Returns the first position that counts and whose
+/// index is out of range (not below the number of values), if there is one.
+///
+/// If `all_valid` is true, each position counts, and the validity is ignored. Else a position
+/// counts if its bit of `validity`, from bit `v` on, is true; the others get 0, and their indices
+/// are ignored. The items of `out` after those of the indices are unchanged. If a position is
+/// returned, the items of the indices are unspecified.
 #[unsafe(no_mangle)]
 pub extern "C" fn vb_take_values_u16_u64(
     out: &mut [u16],
@@ -77,9 +81,9 @@ pub extern "C" fn vb_take_values_u16_u64(
     take_values(out, values, indices, all_valid, validity, v)
 }
 
-/// Whether `out` has room for a value an index, and the validity, where it counts, a bit in its
-/// bytes for each; `taken` is then what [`vb_take_values_u16_u64`] answers, and else all is as it
-/// was.
+/// Returns whether `out` has an item for each index, and the validity, unless it is ignored, a bit
+/// for each. If so, does [`vb_take_values_u16_u64`] and writes its result to `taken`; else leaves
+/// `out` and `taken` unchanged.
 #[unsafe(no_mangle)]
 pub extern "C" fn vb_try_take_values_u16_u64(
     out: &mut [u16],
@@ -99,12 +103,14 @@ pub extern "C" fn vb_try_take_values_u16_u64(
     try_take_values(out, values, indices, all_valid, validity, v, taken)
 }
 
-/// Writes the values at the indices, of four bytes each, to the front of `out`, which has to have
-/// room for one an index; or answers the first position that counts and whose index is out of
-/// range, not below the number of values. Where `all_valid` is false, a position counts if the bit
-/// of `validity` from bit `v` on is true: at the others 0 is written, and their indices aren't
-/// looked at. The items of `out` behind those of the indices stay; where a position is answered,
-/// the ones in front hold any values.
+/// Takes (gathers) values of four bytes each: writes the values at the indices to the front of
+/// `out`, which must have one item for each index. Returns the first position that counts and whose
+/// index is out of range (not below the number of values), if there is one.
+///
+/// If `all_valid` is true, each position counts, and the validity is ignored. Else a position
+/// counts if its bit of `validity`, from bit `v` on, is true; the others get 0, and their indices
+/// are ignored. The items of `out` after those of the indices are unchanged. If a position is
+/// returned, the items of the indices are unspecified.
 #[unsafe(no_mangle)]
 pub extern "C" fn vb_take_values_u32_u64(
     out: &mut [u32],
@@ -122,9 +128,9 @@ pub extern "C" fn vb_take_values_u32_u64(
     take_values(out, values, indices, all_valid, validity, v)
 }
 
-/// Whether `out` has room for a value an index, and the validity, where it counts, a bit in its
-/// bytes for each; `taken` is then what [`vb_take_values_u32_u64`] answers, and else all is as it
-/// was.
+/// Returns whether `out` has an item for each index, and the validity, unless it is ignored, a bit
+/// for each. If so, does [`vb_take_values_u32_u64`] and writes its result to `taken`; else leaves
+/// `out` and `taken` unchanged.
 #[unsafe(no_mangle)]
 pub extern "C" fn vb_try_take_values_u32_u64(
     out: &mut [u32],
@@ -144,12 +150,14 @@ pub extern "C" fn vb_try_take_values_u32_u64(
     try_take_values(out, values, indices, all_valid, validity, v, taken)
 }
 
-/// Writes the values at the indices, of eight bytes each, to the front of `out`, which has to have
-/// room for one an index; or answers the first position that counts and whose index is out of
-/// range, not below the number of values. Where `all_valid` is false, a position counts if the bit
-/// of `validity` from bit `v` on is true: at the others 0 is written, and their indices aren't
-/// looked at. The items of `out` behind those of the indices stay; where a position is answered,
-/// the ones in front hold any values.
+/// Takes (gathers) values of eight bytes each: writes the values at the indices to the front of
+/// `out`, which must have one item for each index. Returns the first position that counts and whose
+/// index is out of range (not below the number of values), if there is one.
+///
+/// If `all_valid` is true, each position counts, and the validity is ignored. Else a position
+/// counts if its bit of `validity`, from bit `v` on, is true; the others get 0, and their indices
+/// are ignored. The items of `out` after those of the indices are unchanged. If a position is
+/// returned, the items of the indices are unspecified.
 #[unsafe(no_mangle)]
 pub extern "C" fn vb_take_values_u64_u64(
     out: &mut [u64],
@@ -167,9 +175,9 @@ pub extern "C" fn vb_take_values_u64_u64(
     take_values(out, values, indices, all_valid, validity, v)
 }
 
-/// Whether `out` has room for a value an index, and the validity, where it counts, a bit in its
-/// bytes for each; `taken` is then what [`vb_take_values_u64_u64`] answers, and else all is as it
-/// was.
+/// Returns whether `out` has an item for each index, and the validity, unless it is ignored, a bit
+/// for each. If so, does [`vb_take_values_u64_u64`] and writes its result to `taken`; else leaves
+/// `out` and `taken` unchanged.
 #[unsafe(no_mangle)]
 pub extern "C" fn vb_try_take_values_u64_u64(
     out: &mut [u64],
@@ -189,12 +197,14 @@ pub extern "C" fn vb_try_take_values_u64_u64(
     try_take_values(out, values, indices, all_valid, validity, v, taken)
 }
 
-/// Writes the values at the indices, of 16 bytes each, to the front of `out`, which has to have
-/// room for one an index; or answers the first position that counts and whose index is out of
-/// range, not below the number of values. Where `all_valid` is false, a position counts if the bit
-/// of `validity` from bit `v` on is true: at the others 0 is written, and their indices aren't
-/// looked at. The items of `out` behind those of the indices stay; where a position is answered,
-/// the ones in front hold any values.
+/// Takes (gathers) values of 16 bytes each: writes the values at the indices to the front of `out`,
+/// which must have one item for each index. Returns the first position that counts and whose index
+/// is out of range (not below the number of values), if there is one.
+///
+/// If `all_valid` is true, each position counts, and the validity is ignored. Else a position
+/// counts if its bit of `validity`, from bit `v` on, is true; the others get 0, and their indices
+/// are ignored. The items of `out` after those of the indices are unchanged. If a position is
+/// returned, the items of the indices are unspecified.
 #[unsafe(no_mangle)]
 pub extern "C" fn vb_take_values_u128_u64(
     out: &mut [Wide],
@@ -212,9 +222,9 @@ pub extern "C" fn vb_take_values_u128_u64(
     take_values(out, values, indices, all_valid, validity, v)
 }
 
-/// Whether `out` has room for a value an index, and the validity, where it counts, a bit in its
-/// bytes for each; `taken` is then what [`vb_take_values_u128_u64`] answers, and else all is as it
-/// was.
+/// Returns whether `out` has an item for each index, and the validity, unless it is ignored, a bit
+/// for each. If so, does [`vb_take_values_u128_u64`] and writes its result to `taken`; else leaves
+/// `out` and `taken` unchanged.
 #[unsafe(no_mangle)]
 pub extern "C" fn vb_try_take_values_u128_u64(
     out: &mut [Wide],
