@@ -1,4 +1,4 @@
--- Comparisons by a number, written in the bytes of their window.
+-- Comparisons by a number, written to the bytes of their window.
 use Rattle.std.proofs.Common.{◌≡◌, ℕ, ◌+◌, ◌-◌, ◌/◌, ◌%◌, Bool, List, length, subst}
 use Rattle.std.specs.Int.{div_ceil}
 use borrow.Rule.Slice.PartMut.{put_mid}
@@ -7,7 +7,7 @@ use Rattle.vb_bits.specs.Writes.{Writes}
 use Rattle.vb_c_core.proofs.PartLemmas.{part, Writes_in_part}
 use Rattle.vb_compare.specs.declared.comparison.Comparison.{Comparison}
 
--- the n answers of a comparison that a number stands for
+-- the n results of the comparison of a number
 pub answers_in_part : (answers : Comparison → List Bool) (op known : Comparison)
     → (b c : List ℕ) (o n e : ℕ) → op ≡ known → length (answers known) ≡ n → InBytes b o n
     → e ≡ div_ceil (o + n) 8 → Writes (part b o e) c (o % 8) (answers op)

@@ -1,4 +1,4 @@
--- Comparisons as numbers that cross from C.
+-- Comparisons as numbers, as C passes them.
 use Rattle.std.specs.Prelude.{ℕ, zero, suc, ◌<◌, List}
 use Rattle.vb_bits.specs.InBytes.{InBytes}
 use Rattle.vb_compare.specs.declared.comparison.Comparison.{Comparison}
@@ -15,7 +15,7 @@ comparison_of (suc (suc (suc zero))) = LessOrEqual
 comparison_of (suc (suc (suc (suc zero)))) = Greater
 comparison_of (suc (suc (suc (suc (suc more))))) = GreaterOrEqual
 
--- a bit for each of n values lies in the bytes, from bit o on, and the number is a comparison's
+-- the n bits from bit o on are in the bytes, and the number is that of a comparison
 pub record CompareFits (out : List ℕ) (o n code : ℕ) : Type 0 where
   pub window : InBytes out o n
   pub known : code < 6

@@ -1,4 +1,4 @@
-//! Comparisons as numbers that cross from C.
+//! Comparisons as numbers, as C passes them.
 ghost use Rattle.std.specs.Prelude.{◌≡◌, ◌↔◌, ◌<◌, IsTrue, length, map};
 ghost use Rattle.std.specs.Simd.Lanes.{zip2};
 ghost use Rattle.vb_bits.specs.Writes.{Writes};
@@ -8,7 +8,7 @@ ghost use Rattle.vb_compare.specs.Compares.{compares};
 use vb_bits::window_fits;
 use vb_compare::{CompareLanes, Comparison, compare_into, compare_with_into};
 
-/// The comparison that a number below 6 stands for.
+/// Returns the comparison of a number, which must be below 6.
 pub(crate) fn comparison_of(code: u8) -> Comparison
     requires { code < 6 }
     ensures { result ≡ comparison_of code }
@@ -23,7 +23,7 @@ pub(crate) fn comparison_of(code: u8) -> Comparison
     }
 }
 
-/// Whether the `n` bits from bit `o` on lie in the bytes, and a comparison has this number.
+/// Returns whether the `n` bits from bit `o` on are in the bytes, and `code` is below 6.
 pub(crate) fn fits(out: &[u8], o: usize, n: usize, code: u8) -> bool
     ensures { IsTrue result ↔ CompareFits out.now o n code }
 {
@@ -31,7 +31,7 @@ pub(crate) fn fits(out: &[u8], o: usize, n: usize, code: u8) -> bool
 }
 
 /// Writes to bit `o + k` of `out`, for each `k` below the number of values, whether `values[k]`
-/// compares with `number` as `op` says.
+/// compares with `number` by `op`. Stores only the bytes that have one of these bits.
 pub(crate) fn compare<T: CompareLanes>(out: &mut [u8], o: usize, values: &[T], op: u8, number: T)
     requires { CompareFits out.old o (length values.now) op }
     ensures { Writes out.old out.new o
@@ -42,7 +42,7 @@ pub(crate) fn compare<T: CompareLanes>(out: &mut [u8], o: usize, values: &[T], o
 }
 
 /// Writes to bit `o + k` of `out`, for each `k` below the number of values, whether `values[k]`
-/// compares with `others[k]` as `op` says.
+/// compares with `others[k]` by `op`. Stores only the bytes that have one of these bits.
 pub(crate) fn compare_with<T: CompareLanes>(
     out: &mut [u8],
     o: usize,

@@ -10,9 +10,9 @@ use crate::code::{comparison_of, fits};
 use vb_float::{compare_floats_into, compare_floats_with_into};
 
 /// Writes to bit `o + k` of `out`, for each `k` below the number of values, whether `values[k]`
-/// compares with `number` as `op` says, in the order of IEEE 754: what isn't a number is equal to
-/// nothing, and neither below nor above anything. These bits have to lie in `out`, and every other
-/// one stays.
+/// compares with `number` by `op`, as IEEE 754 defines it: with a NaN on either side only "not
+/// equal" is true. `op` must be below 6, and these bits must be in `out`; every other one is
+/// unchanged.
 #[unsafe(no_mangle)]
 pub extern "C" fn vb_compare_f32(out: &mut [u8], o: usize, values: &[f32], op: u8, number: f32)
     requires { CompareFits out.old o (length values.now) op }
@@ -23,8 +23,8 @@ pub extern "C" fn vb_compare_f32(out: &mut [u8], o: usize, values: &[f32], op: u
     compare_floats_into(window, o % 8, values, comparison_of(op), number);
 }
 
-/// Whether the window lies in the bytes, and `op` is below 6; [`vb_compare_f32`] is then done, else
-/// nothing.
+/// Returns whether the window is in the bytes, and `op` is below 6. If so, does [`vb_compare_f32`];
+/// else leaves `out` unchanged.
 #[unsafe(no_mangle)]
 pub extern "C" fn vb_try_compare_f32(
     out: &mut [u8],
@@ -46,8 +46,9 @@ pub extern "C" fn vb_try_compare_f32(
 }
 
 /// Writes to bit `o + k` of `out`, for each `k` below the number of values, whether `values[k]`
-/// compares with `others[k]` as `op` says, as [`vb_compare_f32`] does. There have to be as many
-/// others, these bits have to lie in `out`, and every other one stays.
+/// compares with `others[k]` by `op`, as in [`vb_compare_f32`]. `others` must have the same length
+/// as `values`, `op` must be below 6, and these bits must be in `out`; every other one is
+/// unchanged.
 #[unsafe(no_mangle)]
 pub extern "C" fn vb_compare_with_f32(
     out: &mut [u8],
@@ -65,8 +66,8 @@ pub extern "C" fn vb_compare_with_f32(
     compare_floats_with_into(window, o % 8, values, comparison_of(op), others);
 }
 
-/// Whether there are as many others, the window lies in the bytes, and `op` is below 6;
-/// [`vb_compare_with_f32`] is then done, else nothing.
+/// Returns whether `others` has the same length as `values`, the window is in the bytes, and `op`
+/// is below 6. If so, does [`vb_compare_with_f32`]; else leaves `out` unchanged.
 #[unsafe(no_mangle)]
 pub extern "C" fn vb_try_compare_with_f32(
     out: &mut [u8],
@@ -89,9 +90,9 @@ pub extern "C" fn vb_try_compare_with_f32(
 }
 
 /// Writes to bit `o + k` of `out`, for each `k` below the number of values, whether `values[k]`
-/// compares with `number` as `op` says, in the order of IEEE 754: what isn't a number is equal to
-/// nothing, and neither below nor above anything. These bits have to lie in `out`, and every other
-/// one stays.
+/// compares with `number` by `op`, as IEEE 754 defines it: with a NaN on either side only "not
+/// equal" is true. `op` must be below 6, and these bits must be in `out`; every other one is
+/// unchanged.
 #[unsafe(no_mangle)]
 pub extern "C" fn vb_compare_f64(out: &mut [u8], o: usize, values: &[f64], op: u8, number: f64)
     requires { CompareFits out.old o (length values.now) op }
@@ -102,8 +103,8 @@ pub extern "C" fn vb_compare_f64(out: &mut [u8], o: usize, values: &[f64], op: u
     compare_floats_into(window, o % 8, values, comparison_of(op), number);
 }
 
-/// Whether the window lies in the bytes, and `op` is below 6; [`vb_compare_f64`] is then done, else
-/// nothing.
+/// Returns whether the window is in the bytes, and `op` is below 6. If so, does [`vb_compare_f64`];
+/// else leaves `out` unchanged.
 #[unsafe(no_mangle)]
 pub extern "C" fn vb_try_compare_f64(
     out: &mut [u8],
@@ -125,8 +126,9 @@ pub extern "C" fn vb_try_compare_f64(
 }
 
 /// Writes to bit `o + k` of `out`, for each `k` below the number of values, whether `values[k]`
-/// compares with `others[k]` as `op` says, as [`vb_compare_f64`] does. There have to be as many
-/// others, these bits have to lie in `out`, and every other one stays.
+/// compares with `others[k]` by `op`, as in [`vb_compare_f64`]. `others` must have the same length
+/// as `values`, `op` must be below 6, and these bits must be in `out`; every other one is
+/// unchanged.
 #[unsafe(no_mangle)]
 pub extern "C" fn vb_compare_with_f64(
     out: &mut [u8],
@@ -144,8 +146,8 @@ pub extern "C" fn vb_compare_with_f64(
     compare_floats_with_into(window, o % 8, values, comparison_of(op), others);
 }
 
-/// Whether there are as many others, the window lies in the bytes, and `op` is below 6;
-/// [`vb_compare_with_f64`] is then done, else nothing.
+/// Returns whether `others` has the same length as `values`, the window is in the bytes, and `op`
+/// is below 6. If so, does [`vb_compare_with_f64`]; else leaves `out` unchanged.
 #[unsafe(no_mangle)]
 pub extern "C" fn vb_try_compare_with_f64(
     out: &mut [u8],

@@ -1,8 +1,10 @@
-//! Comparisons of values as C functions, into bits.
+//! Comparisons of values as C functions, with the results as bits.
 //!
-//! What a C caller owes is as in `vb_c`. How two values compare is a number from 0 to 5: equal, not
-//! equal, less, less or equal, greater, greater or equal. Beside each function stands a checked
-//! form, `vb_try_..`, that requires nothing. Floats compare as IEEE 754 says.
+//! A C caller must ensure the same as for `vb_c`. A comparison, the `op` of a call, is a number
+//! from 0 to 5: equal, not equal, less, less or equal, greater, greater or equal. The checked form
+//! next to a function, `vb_try_..`, requires nothing: it returns whether the arguments are good,
+//! and leaves everything unchanged if they aren't. Floats compare by IEEE 754. No function
+//! allocates.
 #![tactic(auto)]
 
 mod code;

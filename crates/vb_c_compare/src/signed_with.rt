@@ -9,8 +9,8 @@ ghost use Rattle.vb_compare.specs.Compares.{compares};
 use crate::code::{compare_with, fits};
 
 /// Writes to bit `o + k` of `out`, for each `k` below the number of values, whether `values[k]`
-/// compares with `others[k]` as `op` says. There have to be as many others. These bits have to lie
-/// in `out`, and every other one stays.
+/// compares with `others[k]` by `op`. `others` must have the same length as `values`, `op` must be
+/// below 6, and these bits must be in `out`; every other one is unchanged.
 #[unsafe(no_mangle)]
 pub extern "C" fn vb_compare_with_i8(out: &mut [u8], o: usize, values: &[i8], op: u8, others: &[i8])
     requires others { length others.now ≡ length values.now }
@@ -21,8 +21,8 @@ pub extern "C" fn vb_compare_with_i8(out: &mut [u8], o: usize, values: &[i8], op
     compare_with(out, o, values, op, others);
 }
 
-/// Whether there are as many others, the window lies in the bytes, and `op` is below 6;
-/// [`vb_compare_with_i8`] is then done, else nothing.
+/// Returns whether `others` has the same length as `values`, the window is in the bytes, and `op`
+/// is below 6. If so, does [`vb_compare_with_i8`]; else leaves `out` unchanged.
 #[unsafe(no_mangle)]
 pub extern "C" fn vb_try_compare_with_i8(
     out: &mut [u8],
@@ -45,8 +45,8 @@ pub extern "C" fn vb_try_compare_with_i8(
 }
 
 /// Writes to bit `o + k` of `out`, for each `k` below the number of values, whether `values[k]`
-/// compares with `others[k]` as `op` says. There have to be as many others. These bits have to lie
-/// in `out`, and every other one stays.
+/// compares with `others[k]` by `op`. `others` must have the same length as `values`, `op` must be
+/// below 6, and these bits must be in `out`; every other one is unchanged.
 #[unsafe(no_mangle)]
 pub extern "C" fn vb_compare_with_i16(
     out: &mut [u8],
@@ -63,8 +63,8 @@ pub extern "C" fn vb_compare_with_i16(
     compare_with(out, o, values, op, others);
 }
 
-/// Whether there are as many others, the window lies in the bytes, and `op` is below 6;
-/// [`vb_compare_with_i16`] is then done, else nothing.
+/// Returns whether `others` has the same length as `values`, the window is in the bytes, and `op`
+/// is below 6. If so, does [`vb_compare_with_i16`]; else leaves `out` unchanged.
 #[unsafe(no_mangle)]
 pub extern "C" fn vb_try_compare_with_i16(
     out: &mut [u8],
@@ -87,8 +87,8 @@ pub extern "C" fn vb_try_compare_with_i16(
 }
 
 /// Writes to bit `o + k` of `out`, for each `k` below the number of values, whether `values[k]`
-/// compares with `others[k]` as `op` says. There have to be as many others. These bits have to lie
-/// in `out`, and every other one stays.
+/// compares with `others[k]` by `op`. `others` must have the same length as `values`, `op` must be
+/// below 6, and these bits must be in `out`; every other one is unchanged.
 #[unsafe(no_mangle)]
 pub extern "C" fn vb_compare_with_i32(
     out: &mut [u8],
@@ -105,8 +105,8 @@ pub extern "C" fn vb_compare_with_i32(
     compare_with(out, o, values, op, others);
 }
 
-/// Whether there are as many others, the window lies in the bytes, and `op` is below 6;
-/// [`vb_compare_with_i32`] is then done, else nothing.
+/// Returns whether `others` has the same length as `values`, the window is in the bytes, and `op`
+/// is below 6. If so, does [`vb_compare_with_i32`]; else leaves `out` unchanged.
 #[unsafe(no_mangle)]
 pub extern "C" fn vb_try_compare_with_i32(
     out: &mut [u8],
@@ -129,8 +129,8 @@ pub extern "C" fn vb_try_compare_with_i32(
 }
 
 /// Writes to bit `o + k` of `out`, for each `k` below the number of values, whether `values[k]`
-/// compares with `others[k]` as `op` says. There have to be as many others. These bits have to lie
-/// in `out`, and every other one stays.
+/// compares with `others[k]` by `op`. `others` must have the same length as `values`, `op` must be
+/// below 6, and these bits must be in `out`; every other one is unchanged.
 #[unsafe(no_mangle)]
 pub extern "C" fn vb_compare_with_i64(
     out: &mut [u8],
@@ -147,8 +147,8 @@ pub extern "C" fn vb_compare_with_i64(
     compare_with(out, o, values, op, others);
 }
 
-/// Whether there are as many others, the window lies in the bytes, and `op` is below 6;
-/// [`vb_compare_with_i64`] is then done, else nothing.
+/// Returns whether `others` has the same length as `values`, the window is in the bytes, and `op`
+/// is below 6. If so, does [`vb_compare_with_i64`]; else leaves `out` unchanged.
 #[unsafe(no_mangle)]
 pub extern "C" fn vb_try_compare_with_i64(
     out: &mut [u8],

@@ -8,7 +8,8 @@ ghost use Rattle.vb_compare.specs.Compares.{compares};
 use crate::code::{compare, fits};
 
 /// Writes to bit `o + k` of `out`, for each `k` below the number of values, whether `values[k]`
-/// compares with `number` as `op` says. These bits have to lie in `out`, and every other one stays.
+/// compares with `number` by `op`. `op` must be below 6, and these bits must be in `out`; every
+/// other one is unchanged.
 #[unsafe(no_mangle)]
 pub extern "C" fn vb_compare_u8(out: &mut [u8], o: usize, values: &[u8], op: u8, number: u8)
     requires { CompareFits out.old o (length values.now) op }
@@ -18,8 +19,8 @@ pub extern "C" fn vb_compare_u8(out: &mut [u8], o: usize, values: &[u8], op: u8,
     compare(out, o, values, op, number);
 }
 
-/// Whether the window lies in the bytes, and `op` is below 6; [`vb_compare_u8`] is then done, else
-/// nothing.
+/// Returns whether the window is in the bytes, and `op` is below 6. If so, does [`vb_compare_u8`];
+/// else leaves `out` unchanged.
 #[unsafe(no_mangle)]
 pub extern "C" fn vb_try_compare_u8(
     out: &mut [u8],
@@ -41,7 +42,8 @@ pub extern "C" fn vb_try_compare_u8(
 }
 
 /// Writes to bit `o + k` of `out`, for each `k` below the number of values, whether `values[k]`
-/// compares with `number` as `op` says. These bits have to lie in `out`, and every other one stays.
+/// compares with `number` by `op`. `op` must be below 6, and these bits must be in `out`; every
+/// other one is unchanged.
 #[unsafe(no_mangle)]
 pub extern "C" fn vb_compare_u16(out: &mut [u8], o: usize, values: &[u16], op: u8, number: u16)
     requires { CompareFits out.old o (length values.now) op }
@@ -51,8 +53,8 @@ pub extern "C" fn vb_compare_u16(out: &mut [u8], o: usize, values: &[u16], op: u
     compare(out, o, values, op, number);
 }
 
-/// Whether the window lies in the bytes, and `op` is below 6; [`vb_compare_u16`] is then done, else
-/// nothing.
+/// Returns whether the window is in the bytes, and `op` is below 6. If so, does [`vb_compare_u16`];
+/// else leaves `out` unchanged.
 #[unsafe(no_mangle)]
 pub extern "C" fn vb_try_compare_u16(
     out: &mut [u8],
@@ -74,7 +76,8 @@ pub extern "C" fn vb_try_compare_u16(
 }
 
 /// Writes to bit `o + k` of `out`, for each `k` below the number of values, whether `values[k]`
-/// compares with `number` as `op` says. These bits have to lie in `out`, and every other one stays.
+/// compares with `number` by `op`. `op` must be below 6, and these bits must be in `out`; every
+/// other one is unchanged.
 #[unsafe(no_mangle)]
 pub extern "C" fn vb_compare_u32(out: &mut [u8], o: usize, values: &[u32], op: u8, number: u32)
     requires { CompareFits out.old o (length values.now) op }
@@ -84,8 +87,8 @@ pub extern "C" fn vb_compare_u32(out: &mut [u8], o: usize, values: &[u32], op: u
     compare(out, o, values, op, number);
 }
 
-/// Whether the window lies in the bytes, and `op` is below 6; [`vb_compare_u32`] is then done, else
-/// nothing.
+/// Returns whether the window is in the bytes, and `op` is below 6. If so, does [`vb_compare_u32`];
+/// else leaves `out` unchanged.
 #[unsafe(no_mangle)]
 pub extern "C" fn vb_try_compare_u32(
     out: &mut [u8],
@@ -107,7 +110,8 @@ pub extern "C" fn vb_try_compare_u32(
 }
 
 /// Writes to bit `o + k` of `out`, for each `k` below the number of values, whether `values[k]`
-/// compares with `number` as `op` says. These bits have to lie in `out`, and every other one stays.
+/// compares with `number` by `op`. `op` must be below 6, and these bits must be in `out`; every
+/// other one is unchanged.
 #[unsafe(no_mangle)]
 pub extern "C" fn vb_compare_u64(out: &mut [u8], o: usize, values: &[u64], op: u8, number: u64)
     requires { CompareFits out.old o (length values.now) op }
@@ -117,8 +121,8 @@ pub extern "C" fn vb_compare_u64(out: &mut [u8], o: usize, values: &[u64], op: u
     compare(out, o, values, op, number);
 }
 
-/// Whether the window lies in the bytes, and `op` is below 6; [`vb_compare_u64`] is then done, else
-/// nothing.
+/// Returns whether the window is in the bytes, and `op` is below 6. If so, does [`vb_compare_u64`];
+/// else leaves `out` unchanged.
 #[unsafe(no_mangle)]
 pub extern "C" fn vb_try_compare_u64(
     out: &mut [u8],

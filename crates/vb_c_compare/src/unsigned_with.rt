@@ -9,8 +9,8 @@ ghost use Rattle.vb_compare.specs.Compares.{compares};
 use crate::code::{compare_with, fits};
 
 /// Writes to bit `o + k` of `out`, for each `k` below the number of values, whether `values[k]`
-/// compares with `others[k]` as `op` says. There have to be as many others. These bits have to lie
-/// in `out`, and every other one stays.
+/// compares with `others[k]` by `op`. `others` must have the same length as `values`, `op` must be
+/// below 6, and these bits must be in `out`; every other one is unchanged.
 #[unsafe(no_mangle)]
 pub extern "C" fn vb_compare_with_u8(out: &mut [u8], o: usize, values: &[u8], op: u8, others: &[u8])
     requires others { length others.now ≡ length values.now }
@@ -22,8 +22,8 @@ pub extern "C" fn vb_compare_with_u8(out: &mut [u8], o: usize, values: &[u8], op
     compare_with(out, o, values, op, others);
 }
 
-/// Whether there are as many others, the window lies in the bytes, and `op` is below 6;
-/// [`vb_compare_with_u8`] is then done, else nothing.
+/// Returns whether `others` has the same length as `values`, the window is in the bytes, and `op`
+/// is below 6. If so, does [`vb_compare_with_u8`]; else leaves `out` unchanged.
 #[unsafe(no_mangle)]
 pub extern "C" fn vb_try_compare_with_u8(
     out: &mut [u8],
@@ -47,8 +47,8 @@ pub extern "C" fn vb_try_compare_with_u8(
 }
 
 /// Writes to bit `o + k` of `out`, for each `k` below the number of values, whether `values[k]`
-/// compares with `others[k]` as `op` says. There have to be as many others. These bits have to lie
-/// in `out`, and every other one stays.
+/// compares with `others[k]` by `op`. `others` must have the same length as `values`, `op` must be
+/// below 6, and these bits must be in `out`; every other one is unchanged.
 #[unsafe(no_mangle)]
 pub extern "C" fn vb_compare_with_u16(
     out: &mut [u8],
@@ -66,8 +66,8 @@ pub extern "C" fn vb_compare_with_u16(
     compare_with(out, o, values, op, others);
 }
 
-/// Whether there are as many others, the window lies in the bytes, and `op` is below 6;
-/// [`vb_compare_with_u16`] is then done, else nothing.
+/// Returns whether `others` has the same length as `values`, the window is in the bytes, and `op`
+/// is below 6. If so, does [`vb_compare_with_u16`]; else leaves `out` unchanged.
 #[unsafe(no_mangle)]
 pub extern "C" fn vb_try_compare_with_u16(
     out: &mut [u8],
@@ -91,8 +91,8 @@ pub extern "C" fn vb_try_compare_with_u16(
 }
 
 /// Writes to bit `o + k` of `out`, for each `k` below the number of values, whether `values[k]`
-/// compares with `others[k]` as `op` says. There have to be as many others. These bits have to lie
-/// in `out`, and every other one stays.
+/// compares with `others[k]` by `op`. `others` must have the same length as `values`, `op` must be
+/// below 6, and these bits must be in `out`; every other one is unchanged.
 #[unsafe(no_mangle)]
 pub extern "C" fn vb_compare_with_u32(
     out: &mut [u8],
@@ -110,8 +110,8 @@ pub extern "C" fn vb_compare_with_u32(
     compare_with(out, o, values, op, others);
 }
 
-/// Whether there are as many others, the window lies in the bytes, and `op` is below 6;
-/// [`vb_compare_with_u32`] is then done, else nothing.
+/// Returns whether `others` has the same length as `values`, the window is in the bytes, and `op`
+/// is below 6. If so, does [`vb_compare_with_u32`]; else leaves `out` unchanged.
 #[unsafe(no_mangle)]
 pub extern "C" fn vb_try_compare_with_u32(
     out: &mut [u8],
@@ -135,8 +135,8 @@ pub extern "C" fn vb_try_compare_with_u32(
 }
 
 /// Writes to bit `o + k` of `out`, for each `k` below the number of values, whether `values[k]`
-/// compares with `others[k]` as `op` says. There have to be as many others. These bits have to lie
-/// in `out`, and every other one stays.
+/// compares with `others[k]` by `op`. `others` must have the same length as `values`, `op` must be
+/// below 6, and these bits must be in `out`; every other one is unchanged.
 #[unsafe(no_mangle)]
 pub extern "C" fn vb_compare_with_u64(
     out: &mut [u8],
@@ -154,8 +154,8 @@ pub extern "C" fn vb_compare_with_u64(
     compare_with(out, o, values, op, others);
 }
 
-/// Whether there are as many others, the window lies in the bytes, and `op` is below 6;
-/// [`vb_compare_with_u64`] is then done, else nothing.
+/// Returns whether `others` has the same length as `values`, the window is in the bytes, and `op`
+/// is below 6. If so, does [`vb_compare_with_u64`]; else leaves `out` unchanged.
 #[unsafe(no_mangle)]
 pub extern "C" fn vb_try_compare_with_u64(
     out: &mut [u8],
