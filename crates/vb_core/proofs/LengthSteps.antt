@@ -24,13 +24,13 @@ module _ {S A : Type 0} (steps : S → Option A → S → Type 0) where
     gave = ((t, yields, λ _. (u, none)), λ k. refl);
   }
 
-  -- a known length is that of what comes
+  -- if the length is known to be n, the items that come are n
   IsLength-Drains : (s : S) (n : ℕ)
       → IsLength steps s n → (xs : List A) → Drains steps s xs → length xs ≡ n
   unfolding Trigger run_of
   IsLength-Drains s n known xs drains = known (run_of s xs drains) tt refl refl
 
-  -- an item leaves one less
+  -- after an item, one less remains
   pub IsLength-some : (s : S) (item : A) (t : S) (n : ℕ)
       → IsLength steps s n → steps s (Some item) t → IsLength steps t (n - 1)
   unfolding YieldsRun
@@ -46,6 +46,6 @@ module _ {S A : Type 0} (steps : S → Option A → S → Type 0) where
       let long = run.long in
       omega arith
 
-  -- `None` comes where none was left
+  -- `None` comes only if no item was left
   pub IsLength-none : (s t : S) (n : ℕ) → IsLength steps s n → steps s None t → 0 ≡ n
   IsLength-none s t n known step = IsLength-Drains s n known [] (t, (s, refl, step))

@@ -1,5 +1,5 @@
--- The whole numbers of each width, as elements. The laws of `Element` cite these lemmas, and so
--- they stand in specs.
+-- The whole numbers of each width, as elements. The laws of `Element` cite these lemmas, so they
+-- are in specs.
 use Rattle.std.proofs.Common.{◌≡◌, ℕ, ◌^◌, ◌<◌, FitsSigned, refl, ap, ◌∙◌, lit<}
 use Rattle.std.specs.Int.{Width, w8, w16, w32, w64, w128, byte_len, to_le_bytes, from_le_bytes}
 use Rattle.std.specs.Int.{cast_signed, cast_unsigned}
@@ -12,7 +12,7 @@ use Rattle.vb_core.specs.LittleEndian.{length-to_le_bytes, to_le_bytes_are_bytes
 use Rattle.vb_core.specs.LittleEndian.{from_le_bytes-to_le_bytes, to_le_bytes-from_le_bytes}
 use Rattle.vb_core.specs.LittleEndian.{from_le_bytes_fits}
 
--- a width's number of bytes is 2 to this power
+-- the number of bytes of a width is 2 to this power
 abbrev pub byte_exponent : Width → ℕ
 byte_exponent w8 = 0
 byte_exponent w16 = 1
@@ -26,7 +26,7 @@ record IsSize (size exponent : ℕ) : Type 0 where
   power : size ≡ 2 ^ exponent
   in_range : exponent < 64
 
--- a width's number of bytes is one
+-- the number of bytes of a width is such a size
 byte_len_is_size : (w : Width) → IsSize (byte_len w) (byte_exponent w)
 byte_len_is_size w8 = record { positive = lit< tt; power = refl; in_range = lit< tt }
 byte_len_is_size w16 = record { positive = lit< tt; power = refl; in_range = lit< tt }
@@ -34,7 +34,7 @@ byte_len_is_size w32 = record { positive = lit< tt; power = refl; in_range = lit
 byte_len_is_size w64 = record { positive = lit< tt; power = refl; in_range = lit< tt }
 byte_len_is_size w128 = record { positive = lit< tt; power = refl; in_range = lit< tt }
 
--- the unsigned numbers of a width
+-- the laws of the unsigned numbers of a width
 pub unsigned_laws : (w : Width)
     → IsElement (byte_len w) (byte_len w) (byte_exponent w) (λ x. x < 2 ^ bits w) (to_le_bytes w)
     (from_le_bytes w)
@@ -49,7 +49,7 @@ unsigned_laws w = record {
   put_after_get = to_le_bytes-from_le_bytes w;
 }
 
--- the signed numbers of a width, in two's complement
+-- the laws of the signed numbers of a width, in two's complement
 pub signed_laws : (w : Width)
     → IsElement (byte_len w) (byte_len w) (byte_exponent w) (FitsSigned w)
     (λ x. to_le_bytes w (cast_unsigned w x)) (λ bytes. cast_signed w (from_le_bytes w bytes))

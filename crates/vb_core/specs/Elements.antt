@@ -1,13 +1,12 @@
--- What holds of each type of elements.
+-- The laws of element types.
 use Rattle.std.specs.Prelude.{◌≡◌, ℕ, ◌<◌, ◌^◌, ◌%◌, List, length}
 use Rattle.std.specs.List.{All}
 
--- each number is one of 0 to 255
+-- each number is from 0 to 255
 abbrev pub AreBytes : List ℕ → Type 0
 AreBytes = All (λ byte. byte < 256)
 
--- the laws of `Element`: values of the type and lists of as many bytes as its size determine each
--- other
+-- the laws of `Element`: the values of a type and the lists of `size` bytes determine each other
 pub record IsElement {T : Type 0} (size align align_exponent : ℕ) (is_in_type : T → Type 0)
     (form : T → List ℕ) (value_of : List ℕ → T) : Type 0 where
   pub size_is_positive : 0 < size

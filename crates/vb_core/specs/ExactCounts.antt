@@ -1,5 +1,5 @@
--- Iterators whose items are counted. The laws of `TrustedLen` cite these lemmas, and so they stand
--- in specs.
+-- Iterators whose items are counted. The laws of `TrustedLen` cite these lemmas, so they are in
+-- specs.
 use Rattle.std.specs.Prelude.{ℕ, ◌≡◌, ◌+◌, ◌-◌, ◌<◌, ℤ, pos, negsuc, ◌+ℤ◌, List, [], ◌∷◌, length}
 use Rattle.std.specs.Prelude.{Option, Some, None}
 use Rattle.std.proofs.Common.{suc, zero, true, arith, ap, ◌∙◌}
@@ -12,7 +12,7 @@ use Rattle.std.specs.Slice.Iter.{iter_rest, iter_steps}
 use Rattle.vb_core.specs.Lengths.{IsExactCount, CountsDown, Counted}
 
 module _ {S A : Type 0} (steps : S → Option A → S → Type 0) where
-  -- what a run that ends in `None` gave
+  -- the items of a run that ends in `None`
   drained : (run : Run steps) → run.whole ≡ true → Drains steps run.from run.items
   unfolding YieldsRun
   drained run whole =
@@ -21,7 +21,7 @@ module _ {S A : Type 0} (steps : S → Option A → S → Type 0) where
   module _ (remaining : S → Count) (left : S → ℕ)
       (one_less : (s : S) (item : A) (t : S) → steps s (Some item) t → left t + 1 ≡ left s)
       (none_left : (s t : S) → steps s None t → left s ≡ 0) where
-    -- a number that each call keeps to is the number of items
+    -- if each item lowers `left` by 1 and `None` comes only at 0, `left` is the number of items
     length-Drains : (s : S) (xs : List A) → Drains steps s xs → length xs ≡ left s
     length-Drains s [] (u, (t, same, none)) =
         let start : left s ≡ left t = ap left same in
@@ -32,7 +32,7 @@ module _ {S A : Type 0} (steps : S → Option A → S → Type 0) where
         let less : left j + 1 ≡ left s = one_less s x j first in
         omega arith
 
-    -- and an exact count, where the items end
+    -- and if the items end, `left` is an exact count
     pub exact_count : ((s : S) → IsFinite (remaining s)) → IsExactCount steps remaining left
     exact_count finite = record {
       is_length =
@@ -43,7 +43,7 @@ module _ {S A : Type 0} (steps : S → Option A → S → Type 0) where
       finite = finite;
     }
 
--- a range has as many items as its start lies below its end
+-- the number of items in a range is the gap from its start to its end
 range_counts : {A : Type 0} (gap : A → A → ℕ) (is_successor : A → A → Type 0)
     → ((x y end : A) → is_successor x y → 0 < gap x end → gap y end + 1 ≡ gap x end)
     → IsExactCount (range_steps gap is_successor) (λ s. at_most (gap s.start s.end))
@@ -62,7 +62,7 @@ pub unsigned_range_counts : IsExactCount (range_steps (λ (x y : ℕ). y - x) (�
 unsigned_range_counts =
     range_counts (λ (x y : ℕ). y - x) (λ x y. y ≡ x + 1) (λ x y end next below. omega arith)
 
--- the next integer is nearer by one to what lies above
+-- the gap to a greater number shrinks by 1 at the next integer
 int_gap-suc_ℤ : (x end : ℤ) → 0 < int_gap x end → int_gap (suc_ℤ x) end + 1 ≡ int_gap x end
 int_gap-suc_ℤ (pos a) (pos b) below = omega arith
 int_gap-suc_ℤ (pos a) (negsuc b) below = absurd (omega arith)
@@ -79,7 +79,7 @@ signed_range_counts =
     (λ x y end next below.
     ap (λ z. int_gap z end + 1) (next ∙ +ℤ_one x) ∙ int_gap-suc_ℤ x end below)
 
--- what is left of a slice is a list
+-- a slice iterator has the number of items of its rest
 pub slice_iter_counts : {T : Type 0} → IsExactCount (iter_steps {A = T})
     (λ s. at_most (length (iter_rest s))) (λ s. length (iter_rest s))
 slice_iter_counts =
@@ -88,7 +88,7 @@ slice_iter_counts =
     (λ s t step. step.0)
     (λ s. tt)
 
--- an iterator that is kept with its number of items counts them down
+-- an iterator with its number of items counts down
 pub adapter_counts : {I A : Type 0} (steps : I → Option A → I → Type 0)
     → IsExactCount
     (λ (s : Counted I) r (t : Counted I). CountsDown (steps s.iter r t.iter) s.left r t.left)
@@ -101,7 +101,7 @@ adapter_counts steps =
     (λ s t step. step.0)
     (λ s. tt)
 
--- an iterator whose state shows the list of what is left has the list's number of items
+-- if an iterator's state shows the list of its remaining items, their number is the list's length
 pub list_counts : {S A B : Type 0} (view : A → B) (rest : S → List B)
     → IsExactCount (YieldsFirstBy view rest) (item_count rest) (λ s. length (rest s))
 list_counts view rest =

@@ -13,24 +13,24 @@ abbrev byte_digits : ℕ → ℕ → List ℕ
 byte_digits zero x = []
 byte_digits (suc n) x = (x % 256) ∷ byte_digits n (x / 256)
 
--- the number that bytes stand for, the lowest first
+-- the number that bytes represent, the lowest byte first
 abbrev bytes_number : List ℕ → ℕ
 bytes_number [] = 0
 bytes_number (b ∷ bs) = b + 256 * bytes_number bs
 
--- as many bytes as asked for
+-- `byte_digits n x` has n bytes
 length-byte_digits : (n x : ℕ) → length (byte_digits n x) ≡ n
 length-byte_digits zero x = refl
 length-byte_digits (suc n) x = let rest = length-byte_digits n (x / 256) in omega arith
 
--- each from 0 to 255
+-- each of them is from 0 to 255
 digits_are_bytes : (n x : ℕ) → AreBytes (byte_digits n x)
 digits_are_bytes zero x = All-nil (λ b. b < 256)
 digits_are_bytes (suc n) x =
     All-cons (λ b. b < 256) (x % 256) (byte_digits n (x / 256)) (omega arith)
     (digits_are_bytes n (x / 256))
 
--- the bytes of a number that fits stand for it
+-- the n bytes of a number below `256 ^ n` represent it
 bytes_number-byte_digits : (n x : ℕ) → x < 256 ^ n → bytes_number (byte_digits n x) ≡ x
 bytes_number-byte_digits zero x fits = omega arith
 bytes_number-byte_digits (suc n) x fits =
@@ -38,7 +38,7 @@ bytes_number-byte_digits (suc n) x fits =
     let rest_fits : x / 256 < 256 ^ n = omega arith in
     let rest = bytes_number-byte_digits n (x / 256) rest_fits in omega arith
 
--- the number that bytes stand for has these bytes
+-- the number that bytes represent has these bytes
 byte_digits-bytes_number : (bs : List ℕ) → AreBytes bs
     → byte_digits (length bs) (bytes_number bs) ≡ bs
 byte_digits-bytes_number [] all = refl
@@ -48,7 +48,7 @@ byte_digits-bytes_number (b ∷ bs) all =
     let high : (b + 256 * bytes_number bs) / 256 ≡ bytes_number bs = omega arith in
     rw (low, high, byte_digits-bytes_number bs (All-tail (λ y. y < 256) b bs all)) refl
 
--- n bytes stand for a number below `256 ^ n`
+-- n bytes represent a number below `256 ^ n`
 bytes_number_fits : (bs : List ℕ) → AreBytes bs → bytes_number bs < 256 ^ length bs
 bytes_number_fits [] all = omega arith
 bytes_number_fits (b ∷ bs) all =
@@ -56,7 +56,7 @@ bytes_number_fits (b ∷ bs) all =
     let fits : b < 256 = All-head (λ y. y < 256) b bs all in
     let rest = bytes_number_fits bs (All-tail (λ y. y < 256) b bs all) in omega arith
 
--- std's byte k of a number, by a power
+-- std's byte k of a number, as a quotient by a power
 byte_at-pow : (k x : ℕ) → byte_at k x ≡ x / 256 ^ k % 256
 byte_at-pow zero x = ap (λ (y : ℕ). y % 256) (sym (div-one x))
 byte_at-pow (suc k) x = refl
@@ -69,20 +69,20 @@ bytes_low_first-byte_digits i (suc k) x =
     ap (λ (p : ℕ). x / p) (pow-suc 256 i) ∙ sym (div-div-eq-div-mul x (256 ^ i) 256) in
     rw (byte_at-pow i x, bytes_low_first-byte_digits (suc i) k x, shift) refl
 
--- a sum with its first term in front
+-- a sum as its first term plus the rest
 sum_through-first : (f : ℕ → ℕ) (k : ℕ)
     → sum_through f (suc k) ≡ f 0 + sum_through (λ i. f (suc i)) k
 sum_through-first f zero = refl
 sum_through-first f (suc k) = let rest = sum_through-first f k in omega arith
 
--- a byte one place up is worth 256 times as much
+-- a byte one index up is worth 256 times as much
 byte_worth-suc : (i b : ℕ) → byte_worth (suc i) b ≡ 256 * byte_worth i b
 byte_worth-suc zero b = omega arith
 byte_worth-suc (suc i) b =
     let power : 256 ^ suc (suc i) ≡ 256 ^ suc i * 256 = pow-suc 256 (suc i) in
     rw power (grind arith)
 
--- and so are all bytes of a sum
+-- and so is a sum of such bytes
 sum_through-up : (g : ℕ → ℕ) (k : ℕ)
     → sum_through (λ i. byte_worth (suc i) (g i)) k ≡ 256 * sum_through (λ i. byte_worth i (g i)) k
 sum_through-up g zero = byte_worth-suc 0 (g 0)
@@ -90,7 +90,7 @@ sum_through-up g (suc k) =
     let rest = sum_through-up g k in
     let top = byte_worth-suc (suc k) (g (suc k)) in omega arith
 
--- std's sum over bytes is the number that they stand for
+-- std's sum over bytes is the number that they represent
 sum_through-bytes_number : (bs : List ℕ) (k : ℕ) → length bs ≡ suc k
     → sum_through (λ i. byte_worth i (slice_index bs i)) k ≡ bytes_number bs
 sum_through-bytes_number [] k len = absurd (omega arith)
@@ -103,7 +103,7 @@ sum_through-bytes_number (b ∷ c ∷ bs) (suc k) len =
     let up = sum_through-up (λ i. slice_index (c ∷ bs) i) k in
     omega arith
 
--- what is read of as many bytes as a width has is their number
+-- reading the bytes of a width returns the number that they represent
 from_le_bytes-bytes_number : (w : Width) (bs : List ℕ) → length bs ≡ byte_len w
     → from_le_bytes w bs ≡ bytes_number bs
 from_le_bytes-bytes_number w8 bs len = sum_through-bytes_number bs 0 len
@@ -112,7 +112,7 @@ from_le_bytes-bytes_number w32 bs len = sum_through-bytes_number bs 3 len
 from_le_bytes-bytes_number w64 bs len = sum_through-bytes_number bs 7 len
 from_le_bytes-bytes_number w128 bs len = sum_through-bytes_number bs 15 len
 
--- a width holds as many numbers in bits as in bytes
+-- the numbers of a width are those of its bytes
 pow-bits : (w : Width) → 2 ^ bits w ≡ 256 ^ byte_len w
 pow-bits w8 = refl
 pow-bits w16 = refl
@@ -120,20 +120,20 @@ pow-bits w32 = refl
 pow-bits w64 = refl
 pow-bits w128 = refl
 
--- what is written of a number are its bytes
+-- writing a number writes its bytes
 to_le_bytes-byte_digits : (w : Width) (x : ℕ) → to_le_bytes w x ≡ byte_digits (byte_len w) x
 to_le_bytes-byte_digits w x =
     bytes_low_first-byte_digits 0 (byte_len w) x ∙ ap (byte_digits (byte_len w)) (div-one x)
 
--- as many bytes as the width has
+-- the number of bytes written is that of the width
 pub length-to_le_bytes : (w : Width) (x : ℕ) → length (to_le_bytes w x) ≡ byte_len w
 length-to_le_bytes w x = rw (to_le_bytes-byte_digits w x) (length-byte_digits (byte_len w) x)
 
--- each from 0 to 255
+-- each written byte is from 0 to 255
 pub to_le_bytes_are_bytes : (w : Width) (x : ℕ) → AreBytes (to_le_bytes w x)
 to_le_bytes_are_bytes w x = rw (to_le_bytes-byte_digits w x) (digits_are_bytes (byte_len w) x)
 
--- reading after writing gives the number
+-- reading after writing returns the number
 pub from_le_bytes-to_le_bytes : (w : Width) (x : ℕ) → x < 2 ^ bits w
     → from_le_bytes w (to_le_bytes w x) ≡ x
 from_le_bytes-to_le_bytes w x fits =
@@ -141,7 +141,7 @@ from_le_bytes-to_le_bytes w x fits =
     ∙ ap bytes_number (to_le_bytes-byte_digits w x)
     ∙ bytes_number-byte_digits (byte_len w) x (rw (← pow-bits w) fits)
 
--- writing after reading gives the bytes
+-- writing after reading returns the bytes
 pub to_le_bytes-from_le_bytes : (w : Width) (bs : List ℕ) → length bs ≡ byte_len w → AreBytes bs
     → to_le_bytes w (from_le_bytes w bs) ≡ bs
 to_le_bytes-from_le_bytes w bs len all =
@@ -149,7 +149,7 @@ to_le_bytes-from_le_bytes w bs len all =
     ∙ ap (byte_digits (byte_len w)) (from_le_bytes-bytes_number w bs len)
     ∙ ap (λ k. byte_digits k (bytes_number bs)) (sym len) ∙ byte_digits-bytes_number bs all
 
--- what is read is a number of the width
+-- the number read fits in the width
 pub from_le_bytes_fits : (w : Width) (bs : List ℕ) → length bs ≡ byte_len w → AreBytes bs
     → from_le_bytes w bs < 2 ^ bits w
 from_le_bytes_fits w bs len all =

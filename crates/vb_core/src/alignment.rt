@@ -12,11 +12,11 @@ use std::marker::Model;
 
 /// A number of bytes that is a power of two, from 1 to `2^63`.
 ///
-/// The alignment of a buffer divides the byte offset of its first item from the start of the
-/// storage. It says nothing of the item's address.
+/// A buffer's alignment divides the byte offset of its first item from the start of the storage. It
+/// says nothing about the address of that item.
 ///
-/// Contracts see an alignment as its exponent. Equality, order and hash are those of the exponent.
-/// No call takes memory.
+/// Contracts represent an alignment by its exponent. Equality, order and hash use the exponent. No
+/// method allocates.
 #[derive(Clone, Copy, Debug, PartialEq, Eq, PartialOrd, Ord, Hash)]
 pub struct Alignment {
     exponent: u8,
@@ -35,22 +35,22 @@ impl Model for Alignment {
 }
 
 impl Alignment {
-    /// 256 bytes: the alignment that constructors declare new storage with, unless a greater one is
-    /// asked for or an argument `preferred` says otherwise. It says nothing of addresses.
+    /// 256 bytes. Constructors declare new storage with this alignment, unless the caller requests
+    /// a greater one or passes `preferred`. It says nothing about addresses.
     pub const DEFAULT_ALIGNMENT: Alignment = Alignment { exponent: 8 };
 
-    /// The alignment of copies from a device to the host: 256 bytes.
+    /// 256 bytes, the alignment of copies from a device to the host.
     pub const HOST_COPY: Alignment = Alignment { exponent: 8 };
 
-    /// The greatest alignment that untrusted input may ask for: 65536 bytes, the size of the
-    /// largest common page.
+    /// The greatest alignment that untrusted input may request: 65536 bytes, the largest common
+    /// page size.
     pub const MAX_UNTRUSTED: Alignment = Alignment { exponent: 16 };
 
     /// The greatest alignment: `2^63` bytes.
     pub const MAX: Alignment = Alignment { exponent: 63 };
 
-    /// The alignment of `align` bytes, which has to be a power of two. A literal needs no proof of
-    /// it; [`Alignment::try_from_u32`] tests a number that isn't known.
+    /// Returns the alignment of `align` bytes. The caller must prove that `align` is a power of
+    /// two; a literal needs no proof. [`Alignment::try_from_u32`] tests a number at run time.
     pub fn new(align: usize) -> Alignment
         requires { IsPower align }
         ensures { 2 ^ result ≡ align }
@@ -60,14 +60,14 @@ impl Alignment {
         }
     }
 
-    /// The alignment of one byte, which every place has.
+    /// Returns the alignment of 1 byte. Every offset has it.
     pub fn none() -> Alignment
         ensures { result ≡ 0 }
     {
         Alignment { exponent: 0 }
     }
 
-    /// The alignment of an element, `T::ALIGN` bytes.
+    /// Returns the alignment of elements of type `T`, which is `T::ALIGN` bytes.
     pub fn of<T: Element>() -> Alignment
         ensures exponent { result ≡ T.align_exponent }
         ensures bytes { 2 ^ result ≡ T.ALIGN }
@@ -75,7 +75,8 @@ impl Alignment {
         Alignment::new(T::ALIGN)
     }
 
-    /// The alignment of `2^exponent` bytes; the exponent is below 64.
+    /// Returns the alignment of `2^exponent` bytes. The caller must prove that `exponent` is below
+    /// 64.
     pub fn from_exponent(exponent: u8) -> Alignment
         requires { exponent < 64 }
         ensures { result ≡ exponent }
@@ -83,8 +84,8 @@ impl Alignment {
         Alignment { exponent }
     }
 
-    /// The alignment of `2^exponent` bytes. Refused by `ExponentTooLarge` exactly where the
-    /// exponent is 64 or more.
+    /// Returns the alignment of `2^exponent` bytes, or the error `ExponentTooLarge` exactly if
+    /// `exponent` is 64 or more.
     pub fn try_from_exponent(exponent: u8) -> Result<Self>
         ensures fits { exponent < 64 → result ≡ Ok exponent }
         ensures too_large { 64 ≤ exponent → IsErrOf result (BufferError.ExponentTooLarge exponent) }
@@ -98,9 +99,11 @@ impl Alignment {
         Ok(Alignment::from_exponent(exponent))
     }
 
-    /// The alignment of `2^exponent` bytes, where the exponent comes from input that isn't trusted
-    /// and so isn't to ask for more than `MAX_UNTRUSTED`. Refused by `ExponentTooLarge` exactly
-    /// where the exponent is 64 or more, and by `Untrusted` exactly where it is 17 to 63.
+    /// Returns the alignment of `2^exponent` bytes for an exponent from untrusted input, which may
+    /// request at most `MAX_UNTRUSTED`.
+    ///
+    /// Returns `ExponentTooLarge` exactly if `exponent` is 64 or more, and `Untrusted` exactly if
+    /// it is 17 to 63.
     pub fn try_from_untrusted_exponent(exponent: u8) -> Result<Self>
         ensures fits { exponent ≤ 16 → result ≡ Ok exponent }
         ensures untrusted { 16 < exponent → exponent < 64 →
@@ -118,8 +121,8 @@ impl Alignment {
         Ok(alignment)
     }
 
-    /// The alignment of `align` bytes. Refused by `AlignmentZero` exactly where `align` is 0, and
-    /// by `NotPowerOfTwo` exactly where it is another number that is no power of two.
+    /// Returns the alignment of `align` bytes. Returns `AlignmentZero` exactly if `align` is 0, and
+    /// `NotPowerOfTwo` exactly if it is any other number that isn't a power of two.
     pub fn try_from_u32(align: u32) -> Result<Self>
         ensures power { IsPower align → IsOkAnd result (λ alignment. 2 ^ alignment ≡ align) }
         ensures zero { align ≡ 0 → IsErrOf result BufferError.AlignmentZero }
@@ -138,7 +141,8 @@ impl Alignment {
         Ok(Alignment::new(value))
     }
 
-    /// The alignment in bytes. Refused by `PastU32` exactly where the exponent is 32 or more.
+    /// Returns the alignment in bytes, or the error `PastU32` exactly if the exponent is 32 or
+    /// more.
     pub fn to_u32(self) -> Result<u32>
         ensures fits { self < 32 → result ≡ Ok (2 ^ self) }
         ensures past { 32 ≤ self → IsErrOf result (BufferError.PastU32 self) }
@@ -153,7 +157,7 @@ impl Alignment {
         Ok(1 << self.exponent)
     }
 
-    /// The exponent, from 0 to 63: the alignment is 2 to this power, in bytes.
+    /// Returns the exponent, from 0 to 63. The alignment in bytes is 2 to this power.
     pub fn exponent(self) -> u8
         ensures value { result ≡ self }
         ensures in_range { result < 64 }
@@ -161,7 +165,7 @@ impl Alignment {
         self.exponent
     }
 
-    /// The alignment in bytes.
+    /// Returns the alignment in bytes.
     pub fn as_usize(self) -> usize
         ensures value { result ≡ 2 ^ self }
         ensures in_range { self < 64 }
@@ -169,7 +173,8 @@ impl Alignment {
         1 << self.exponent
     }
 
-    /// Whether `other` divides it, so that what has this alignment has that one too.
+    /// Returns whether `other` divides this alignment, so that every offset with this alignment
+    /// also has `other`.
     pub fn is_aligned_to(self, other: Alignment) -> bool
         ensures exponents { IsTrue result ↔ (other ≤ self) }
         ensures divides { IsTrue result ↔ (2 ^ self % 2 ^ other ≡ 0) }
@@ -177,7 +182,7 @@ impl Alignment {
         other.exponent <= self.exponent
     }
 
-    /// Whether it divides `offset`, a number of bytes.
+    /// Returns whether the alignment divides `offset`, a number of bytes.
     pub fn is_offset_aligned(self, offset: usize) -> bool
         ensures divides { IsTrue result ↔ (offset % 2 ^ self ≡ 0) }
         ensures in_range { self < 64 }
@@ -194,7 +199,7 @@ impl From<Alignment> for usize {
     }
 }
 
-/// The alignment in bytes, in decimal.
+/// Writes the alignment in bytes, in decimal.
 impl fmt::Display for Alignment {
     ghost output = { λ alignment. Some (decimal (2 ^ alignment)) };
 

@@ -1,55 +1,56 @@
-//! Why a call on a buffer or a set of bits is refused.
+//! Errors of calls on buffers and sets of bits.
 ghost use Rattle.std.specs.Prelude.{◌≡◌};
 
 use std::alloc::{AllocError, AllocFailed};
 use thiserror::Error;
 
-/// Why a call is refused. The contract of each call says which of these it gives, and exactly when.
+/// The reason why a call failed. Each call's contract states which of these errors it returns, and
+/// exactly when.
 #[derive(Clone, Copy, Debug, PartialEq, Eq, Hash, Error)]
 pub enum BufferError {
-    /// A request for memory was refused, or the room wanted is more than `isize::MAX` bytes, or a
-    /// length passes `usize`.
+    /// An allocation failed, the requested capacity is more than `isize::MAX` bytes, or a length
+    /// exceeds `usize::MAX`.
     #[error("out of memory")]
     OutOfMemory,
-    /// An alignment was to be made of 0.
+    /// The number of bytes passed as an alignment is 0.
     #[error("alignment is zero")]
     AlignmentZero,
-    /// An alignment was to be made of a number that is no power of two.
+    /// The number of bytes passed as an alignment isn't a power of two.
     #[error("alignment {value} is no power of two")]
     NotPowerOfTwo {
         /// The number.
         value: usize,
     },
-    /// The exponent of an alignment is 64 or more, so that the alignment passes `usize`.
+    /// The exponent of an alignment is 64 or more, so the alignment doesn't fit in a `usize`.
     #[error("alignment exponent {exponent} is too large")]
     ExponentTooLarge {
         /// The exponent.
         exponent: u8,
     },
-    /// The exponent of an alignment is 17 to 63 and its source isn't trusted.
+    /// The exponent of an alignment is 17 to 63 and comes from untrusted input.
     #[error("untrusted alignment exponent {exponent} is above 16")]
     Untrusted {
         /// The exponent.
         exponent: u8,
     },
-    /// The alignment, whose exponent is 32 or more, passes `u32`.
+    /// The exponent of the alignment is 32 or more, so the alignment doesn't fit in a `u32`.
     #[error("alignment exponent {exponent} does not fit 32 bits")]
     PastU32 {
         /// The exponent.
         exponent: u8,
     },
-    /// A buffer hasn't the alignment that was asked for.
+    /// The buffer doesn't have the requested alignment.
     #[error("buffer has not the requested alignment")]
     NotAligned,
-    /// Bytes were to be read as items of a size that doesn't divide their number.
+    /// The number of bytes to read as items isn't a multiple of the item size.
     #[error("byte length {len} is no multiple of {size}")]
     ByteLength {
         /// The number of bytes.
         len: usize,
-        /// The number of bytes of an item.
+        /// The number of bytes per item.
         size: usize,
     },
-    /// An index isn't below the length; of several the first one is named.
+    /// An index isn't below the length. If several aren't, the error reports the first one.
     #[error("index {index} is not below {len}")]
     IndexOutOfRange {
         /// The index.
@@ -57,7 +58,8 @@ pub enum BufferError {
         /// The length.
         len: usize,
     },
-    /// An index to take from a set of bits names no place of it; of several the first one is named.
+    /// An index into a set of bits is out of range. If several are, the error reports the first
+    /// one.
     #[error("index at position {position} is out of range")]
     TakeOutOfRange {
         /// The position of the index among the indices.
@@ -71,16 +73,16 @@ pub enum BufferError {
         /// The length of the right operand.
         right: usize,
     },
-    /// Bytes aren't UTF-8.
+    /// The bytes aren't UTF-8.
     #[error("invalid UTF-8 after {valid_up_to} bytes")]
     NotUtf8 {
-        /// The number of bytes of the longest front that is UTF-8.
+        /// The length in bytes of the longest UTF-8 prefix.
         valid_up_to: usize,
     },
-    /// The bit offset plus the length in bits passes `usize`.
+    /// The bit offset plus the length in bits exceeds `usize::MAX`.
     #[error("too many bits")]
     TooManyBits,
-    /// The number of items times the size of one passes `usize`.
+    /// The number of items times the item size in bytes exceeds `usize::MAX`.
     #[error("too many bytes")]
     TooManyBytes,
 }
@@ -106,11 +108,11 @@ impl<T: Drop> From<AllocFailed<T>> for BufferError {
     }
 }
 
-/// Why a call that takes items, each of which may be an error of its own, stopped.
+/// The reason why a call stopped that takes items from an iterator of `Result`s.
 #[derive(Debug, PartialEq, Eq, Drop)]
 pub enum ExtendError<E> {
-    /// Memory for the items was refused.
+    /// The allocation for the items failed.
     Memory,
-    /// The first item that was an error, with that error.
+    /// The iterator returned this error as an item.
     Item(E),
 }

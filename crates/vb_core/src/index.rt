@@ -2,12 +2,12 @@
 ghost use Rattle.std.specs.Prelude.{◌≡◌, ℤ, pos};
 ghost use Rattle.vb_core.specs.Indices.{place_of};
 
-/// A whole number that may name a place of a list. The twelve whole-number types are indices.
+/// A whole number that can serve as an index. The twelve whole-number types implement it.
 pub trait BitIndex: Copy {
-    // The number that it is.
+    // The value as an integer.
     ghost number: { Self → ℤ };
 
-    /// The place that the number names: `None` exactly where the number is below 0 or past
+    /// Returns the index as a `usize`, or `None` exactly if the number is below 0 or above
     /// `usize::MAX`.
     fn place(self) -> Option<usize>
         ensures { result ≡ place_of (number self) };

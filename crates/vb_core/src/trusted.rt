@@ -1,4 +1,4 @@
-//! Iterators that know how many items they have still to give.
+//! Iterators that know how many items remain.
 ghost use Rattle.std.specs.Prelude.{◌≡◌, ℕ, IfSome};
 ghost use Rattle.std.specs.Iterator.{UpTo, at_most};
 ghost use Rattle.std.specs.Iterator.SizeHint.{IsWithinCount};
@@ -9,21 +9,20 @@ mod std_iterators;
 
 use std::marker::Model;
 
-/// An iterator that knows how many items it has still to give, so that room for all can be made at
-/// once.
+/// An iterator that knows how many items remain, so a caller can allocate space for all at once.
 pub trait TrustedLen: Iterator {
-    // How many items are still to come.
+    // The number of remaining items.
     ghost left: { Self → ℕ };
 
-    /// Exactly how many items are still to come.
+    /// Returns the exact number of remaining items.
     fn exact_len(&self) -> usize
         ensures { result ≡ left self.now };
 
-    // An item leaves one less, and `None` comes where none is left.
+    // Each item lowers `left` by 1, `next` returns `None` only if `left` is 0, and the items end.
     ghost counts: { IsExactCount Self.next_gives Self.remaining left };
 }
 
-/// An iterator with the number of items that it has still to give, which its maker vouches for.
+/// An iterator and its number of remaining items, which the creator of the adapter has proved.
 #[derive(Debug, Drop)]
 pub struct TrustedLenAdapter<I> {
     iter: I,
@@ -38,9 +37,9 @@ impl<I> Model for TrustedLenAdapter<I> {
     ghost view = { λ adapter. record { iter = adapter.iter; left = adapter.left } };
 }
 
-/// The iterator `iter` with the number of its items. The caller has to prove that `iter`, if it
-/// ends, has given exactly `n` items by then; of one that never ends that holds for every `n`. The
-/// adapter ends after `n` items, and asks `iter` for no more.
+/// Returns `iter` with its number of items, `n`. The caller must prove that `iter` has returned
+/// exactly `n` items when it returns `None`; an iterator that never ends satisfies this for every
+/// `n`. The adapter returns `None` after `n` items.
 pub fn trusted_len<I: Iterator>(iter: I, n: usize) -> TrustedLenAdapter<I>
     requires { IsLength I.next_gives iter n }
     ensures iter { result.iter ≡ iter }
@@ -68,7 +67,7 @@ impl<I: Iterator> Iterator for TrustedLenAdapter<I> {
         Some(item)
     }
 
-    /// The number of items that are left, as both bounds.
+    /// Returns the number of remaining items as both bounds.
     fn size_hint(&self) -> (usize, Option<usize>)
         ensures exact { result ≡ (self.now.left, Some self.now.left) }
         ensures lower { IsWithinCount result.0 (at_most self.now.left) }

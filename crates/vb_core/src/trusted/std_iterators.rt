@@ -1,4 +1,4 @@
-//! The iterators over slices and the ranges of whole numbers, which know their number of items.
+//! Slice iterators and ranges of whole numbers know their number of items.
 ghost use Rattle.std.specs.Prelude.{◌≡◌, ◌-◌, length};
 ghost use Rattle.std.specs.Int.{int_gap};
 ghost use Rattle.std.specs.Slice.Iter.{iter_rest};
@@ -19,14 +19,14 @@ impl<'a, T> TrustedLen for Iter<'a, T> {
     }
 }
 
-/// How many numbers are at least `start` and below `end`.
+/// Returns the number of values in `start..end`.
 fn unsigned_len(start: u64, end: u64) -> usize
     ensures { result ≡ end - start }
 {
     end.saturating_sub(start) as usize
 }
 
-/// The same for integers, of which `usize` counts even the longest range.
+/// Returns the number of values in `start..end`. Even the longest range fits in a `usize`.
 fn signed_len(start: i64, end: i64) -> usize
     ensures { result ≡ int_gap start end }
 {
