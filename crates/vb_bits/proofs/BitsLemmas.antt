@@ -1,4 +1,4 @@
--- Windows of bits, counts of them, and the place that a rank selects.
+-- Windows of bits, counts of them, and the index that a rank selects.
 use Rattle.std.proofs.Common.{◌≡◌, ℕ, ◌+◌, ◌<◌, ◌≤◌, Bool, true, false, not, cond, List, [], ◌∷◌}
 use Rattle.std.proofs.Common.{◌++◌, length, get_or, take, drop, Option, Some, None, refl, sym, ap}
 use Rattle.std.proofs.Common.{◌∙◌, arith, ⊎_elim}
@@ -12,7 +12,7 @@ use Rattle.vb_bits.specs.Bits.{bit_of, bits, at, count, complement, Selects, Inv
 use Rattle.vb_bits.proofs.RangeLemmas.{map-range_with_len-add, same_map-range_with_len}
 
 -- ---- windows
--- a window has as many bits as it was asked for
+-- a window of n bits has n bits
 pub length-bits : (b : List ℕ) (o n : ℕ) → length (bits b o n) ≡ n
 unfolding bits
 length-bits b o n = length-map-range_with_len (bit_of b) o n
@@ -48,7 +48,7 @@ pub drop-bits : (b : List ℕ) (o m n : ℕ) → drop m (bits b o (m + n)) ≡ b
 drop-bits b o m n =
     ap (drop m) (bits-add b o m n) ∙ drop_at (bits b o m) (bits b (o + m) n) m (length-bits b o m)
 
--- two windows with the same bits are the same list, wherever they lie
+-- two windows with the same bits are the same list, at any offsets
 pub same_bits : (b c : List ℕ) (o p n : ℕ)
     → ((i : ℕ) → i < n → bit_of b (o + i) ≡ bit_of c (p + i)) → bits b o n ≡ bits c p n
 unfolding bits
@@ -75,12 +75,12 @@ count-take-le i l = sum_by-take-le (λ b. cond b 1 0) l i
 pub count-take-mono : (l : List Bool) (i j : ℕ) → i ≤ j → count (take i l) ≤ count (take j l)
 count-take-mono l i j h = rw (← take-take i j l h) (count-take-le i (take j l))
 
--- a front that is lengthened by a true value
+-- a front and the true value after it
 pub count-take_more : (l : List Bool) (i : ℕ)
     → i < length l → at l i ≡ true → count (take (i + 1) l) ≡ count (take i l) + 1
 count-take_more l i h t = count_by_more_yes (λ b. b) l i false h t
 
--- the rank of a true place is below the count
+-- the rank of a true value is below the count
 pub count-take-lt : (l : List Bool) (i : ℕ)
     → i < length l → at l i ≡ true → count (take i l) < count l
 count-take-lt l i h t = omega (arith, count-take_more l i h t, count-take-le (i + 1) l)
@@ -94,7 +94,7 @@ at-complement l i h = get_or-map not l i false false h
 pub take-complement : (l : List Bool) (i : ℕ) → take i (complement l) ≡ complement (take i l)
 take-complement l i = take-map not i l
 
--- the true and the false values are all values
+-- the true values and the false ones are all values
 pub count-complement : (l : List Bool) → count (complement l) + count l ≡ length l
 count-complement [] = refl
 count-complement (true ∷ l) =
@@ -141,8 +141,8 @@ count-complement_more b o n =
     (λ t. let none : cond (bit_of b (o + n)) 1 0 ≡ 0 =
     cond-false {A = ℕ} (bit_of b (o + n)) 1 0 t in omega arith)
 
--- ---- the place that a rank selects
--- two true places of one rank are one place
+-- ---- the index that a rank selects
+-- two true values of the same rank have the same index
 pub same_place : (l : List Bool) (i j : ℕ) → i < length l
     → at l i ≡ true → j < length l → at l j ≡ true → count (take i l) ≡ count (take j l) → i ≡ j
 same_place l i j hi ti hj tj e =
@@ -151,7 +151,7 @@ same_place l i j hi ti hj tj e =
     (λ more. omega (arith, count-take_more l j hj tj, count-take-mono l (j + 1) i (omega arith)))
     other)) (cases_order i j)
 
--- what selects a rank is the answer at each place of that rank
+-- if r selects rank n, it is the index of each true value of that rank
 pub Selects-InvertsCount : (l : List Bool) (n : ℕ) (r : Option ℕ)
     → Selects l n r → InvertsCount l n r
 Selects-InvertsCount l n None s i h t e = absurd (omega (arith, count-take-lt l i h t))

@@ -41,7 +41,7 @@ bits_of_read_byte b x o n read within =
     ∙ sym (ap (λ j. has_bit (get_or b j 0) ((o + i) % 8)) byte
     ∙ ap (has_bit (get_or b (o / 8) 0)) place))
 
--- a run of bytes as a list of its own
+-- a run of bytes as a separate list
 pub bits-slice_range : (b : List ℕ) (a m : ℕ)
     → bits (slice_range b a (a + m)) 0 (8 * m) ≡ bits b (8 * a) (8 * m)
 bits-slice_range b a m =
@@ -56,7 +56,7 @@ bits-slice_range b a m =
     ∙ sym (ap (λ j. has_bit (get_or b j 0) ((8 * a + i) % 8)) byte
     ∙ ap (has_bit (get_or b (a + i / 8) 0)) place))
 
--- bits of bytes that were read, from a source that stayed as it was
+-- bits of bytes that were read, if the source is unchanged
 pub bits_of_read : (b c xs : List ℕ) (a m o : ℕ)
     → c ≡ b → xs ≡ slice_range c a (a + m) → o ≡ 8 * a → bits xs 0 (8 * m) ≡ bits b o (8 * m)
 bits_of_read b c xs a m o same read at =
@@ -64,7 +64,7 @@ bits_of_read b c xs a m o same read at =
     ∙ ap (λ l. bits l (8 * a) (8 * m)) same ∙ ap (λ x. bits b x (8 * m)) (sym at)
 
 -- ---- the bytes of a word
--- byte j of those that begin at byte a of a number
+-- byte j of the k bytes of a number from byte a on
 get_or-bytes_low_first : (a k n j : ℕ)
     → j < k → get_or (bytes_low_first a k n) j 0 ≡ byte_at (a + j) n
 get_or-bytes_low_first a zero n j h = absurd (omega arith)
@@ -74,13 +74,13 @@ get_or-bytes_low_first a (suc k) n (suc j) h =
     let z : suc a + j ≡ a + suc j = omega arith in
     get_or-bytes_low_first (suc a) k n j (omega arith) ∙ ap (λ x. byte_at x n) z
 
--- a power of 256 is one of 2
+-- a power of 256 is a power of 2
 pow_256 : (k : ℕ) → 256 ^ k ≡ 2 ^ (8 * k)
 pow_256 zero = refl
 pow_256 (suc k) = let e : 8 * k + 8 ≡ 8 * suc k = omega arith in
     pow-suc 256 k ∙ ap (λ x. x * 256) (pow_256 k) ∙ sym (pow-add 2 (8 * k) 8) ∙ ap (λ x. 2 ^ x) e
 
--- a byte of a number is a part of it
+-- a byte of a number is a quotient cut to 8 digits
 byte_at_part : (j n : ℕ) → byte_at j n ≡ n / 2 ^ (8 * j) % 2 ^ 8
 byte_at_part zero n = ap (λ x. x % 256) (sym (div-one n))
 byte_at_part (suc j) n = ap (λ x. n / x % 256) (pow_256 (suc j))

@@ -1,4 +1,4 @@
--- The digits of a number, and how many of them are set.
+-- The digits of a number, and the number of set ones.
 use Rattle.std.proofs.Common.{◌≡◌, ℕ, zero, suc, ◌+◌, ◌-◌, ◌*◌, ◌/◌, ◌%◌, ◌^◌, ◌<◌, ◌≤◌, Bool, not}
 use Rattle.std.proofs.Common.{◌&&◌, ◌||◌, cond, eqb, max, min, [], ◌∷◌, ◌++◌, length, get_or, refl}
 use Rattle.std.proofs.Common.{sym, ap, ◌∙◌, arith, zero-add}
@@ -19,7 +19,7 @@ use Rattle.vb_bits.specs.Digits.{has_bit, digits}
 use Rattle.vb_bits.proofs.BitsLemmas.{count-cons, count-append}
 use Rattle.vb_bits.proofs.RangeLemmas.{map-range_with_len-add, same_map-range_with_len}
 
--- as many digits as asked for
+-- k digits have length k
 pub length-digits : (w a k : ℕ) → length (digits w a k) ≡ k
 unfolding digits
 length-digits w a k = length-map-range_with_len (has_bit w) a k
@@ -39,13 +39,13 @@ pub digits-add : (w a m n : ℕ) → digits w a (m + n) ≡ digits w a m ++ digi
 unfolding digits
 digits-add w a m n = map-range_with_len-add (has_bit w) a m n
 
--- two numbers with the same digits
+-- digits that agree one by one are the same list
 pub same_digits : (v w a b k : ℕ)
     → ((i : ℕ) → i < k → has_bit v (a + i) ≡ has_bit w (b + i)) → digits v a k ≡ digits w b k
 unfolding digits
 same_digits v w a b k h = same_map-range_with_len (has_bit v) (has_bit w) a b k h
 
--- ---- how many are set
+-- ---- the number of set digits
 -- the lowest digit and the others
 pub digits-suc : (w k : ℕ) → digits w 0 (suc k) ≡ has_bit w 0 ∷ digits (w / 2) 0 k
 unfolding digits
@@ -83,24 +83,24 @@ has_bit_part w a k i h =
 pub masked : (w a k : ℕ) → k < 64 → bit_and (w / 2 ^ a) (1 * 2 ^ k % 2 ^ 64 - 1) ≡ w / 2 ^ a % 2 ^ k
 masked w a k h = ap (λ m. bit_and (w / 2 ^ a) (m - 1)) (one_shl k 64 h) ∙ and_mask (w / 2 ^ a) k
 
--- some digits of a number are those of its part
+-- the digits of a number from a on are the digits of its part
 pub digits_part : (w a k : ℕ) → digits (w / 2 ^ a % 2 ^ k) 0 k ≡ digits w a k
 digits_part w a k =
     same_digits (w / 2 ^ a % 2 ^ k) w 0 a k
     (λ i h. ap (has_bit (w / 2 ^ a % 2 ^ k)) (zero-add i) ∙ has_bit_part w a k i h)
 
--- some digits of a number
+-- the count of some digits of a number
 pub count-digits : (w a k : ℕ) → count (digits w a k) ≡ count_ones (w / 2 ^ a % 2 ^ k)
 count-digits w a k = ap count (sym (digits_part w a k))
     ∙ count-digits_below (w / 2 ^ a % 2 ^ k) k (mod_below (w / 2 ^ a) (2 ^ k) (pow_pos k))
 
--- how many are set in digits cut in two
+-- the count of digits cut in two
 pub count-digits-add : (w a m n : ℕ)
     → count (digits w a (m + n)) ≡ count (digits w a m) + count (digits w (a + m) n)
 count-digits-add w a m n =
     ap count (digits-add w a m n) ∙ count-append (digits w a m) (digits w (a + m) n)
 
--- how many are set of no digits
+-- the count of no digits
 pub count-digits_none : (w a : ℕ) → count (digits w a 0) ≡ 0
 count-digits_none w a = ap count (digits_none w a)
 
@@ -109,7 +109,7 @@ pub digits_masked : (w a k : ℕ)
     → k < 64 → digits (bit_and (w / 2 ^ a) (1 * 2 ^ k % 2 ^ 64 - 1)) 0 k ≡ digits w a k
 digits_masked w a k h = ap (λ x. digits x 0 k) (masked w a k h) ∙ digits_part w a k
 
--- how many they are
+-- the count of these digits
 pub ones_masked : (w a k : ℕ)
     → k < 64 → count_ones (bit_and (w / 2 ^ a) (1 * 2 ^ k % 2 ^ 64 - 1)) ≡ count (digits w a k)
 ones_masked w a k h = ap count_ones (masked w a k h) ∙ sym (count-digits w a k)

@@ -10,7 +10,7 @@ use Rattle.vb_bits.specs.Digits.{has_bit, digits}
 use Rattle.vb_bits.proofs.BitsLemmas.{take-bits, drop-bits, bits-add}
 use Rattle.vb_bits.proofs.DigitsLemmas.{at-digits}
 
--- two windows are equal exactly where both parts are
+-- two windows are equal exactly if both parts are
 pub same-bits-add : (b c : List ℕ) (o p m n : ℕ) → (bits b o (m + n) ≡ bits c p (m + n))
     ↔ ((bits b o m ≡ bits c p m) × (bits b (o + m) n ≡ bits c (p + m) n))
 same-bits-add b c o p m n = (
@@ -23,14 +23,13 @@ same-bits-add b c o p m n = (
       ∙ ap (λ l. bits c p m ++ l) e.1 ∙ sym (bits-add c p m n),
 )
 
--- equal windows, said of other places and of another length that are the same
+-- equal windows are equal at equal offsets and lengths
 pub same-at : (b c : List ℕ) (o p n q r m : ℕ)
     → o ≡ q → p ≡ r → n ≡ m → bits b o n ≡ bits c p n → bits b q m ≡ bits c r m
 same-at b c o p n q r m at_b at_c len e = ap (λ i. bits b i m) (sym at_b) ∙ ap (bits b o) (sym len)
     ∙ e ∙ ap (bits c p) len ∙ ap (λ i. bits c i m) at_c
 
--- two windows are equal exactly where three parts are that make them up; the last one may begin
--- within the second
+-- two windows are equal exactly if their three parts are; the last part may overlap the second
 pub same-three : (b c : List ℕ) (o p h m n k q r s t : ℕ)
     → h + m ≤ k → n ≤ k → k ≤ h + m + n → q ≡ o + h → r ≡ p + h → s + n ≡ o + k → t + n ≡ p + k
     → (bits b o k ≡ bits c p k)
@@ -76,7 +75,7 @@ same_flag (suc zero) (suc zero) h k e = refl
 same_flag (suc (suc x)) y h k e = absurd (omega arith)
 same_flag x (suc (suc y)) h k e = absurd (omega arith)
 
--- two numbers of n digits are equal where their digits are
+-- two numbers of n digits are equal if their digits are
 pub same_from_digits : (v w n : ℕ) → v < 2 ^ n → w < 2 ^ n → digits v 0 n ≡ digits w 0 n → v ≡ w
 same_from_digits v w n h k e = same_from_bits_below n v w h k (λ i l.
     let digit : has_bit v (0 + i) ≡ has_bit w (0 + i) = sym (at-digits v 0 n i false l)
@@ -84,7 +83,7 @@ same_from_digits v w n h k e = same_from_bits_below n v w h k (λ i l.
     same_flag (bit_at v i) (bit_at w i) (bit_at-lt v i)
     (bit_at-lt w i) (ap (has_bit v) (sym (zero-add i)) ∙ digit ∙ ap (has_bit w) (zero-add i)))
 
--- no digit of either
+-- a bitwise or is 0 exactly if both numbers are
 pub or-zero : (v w : ℕ) → (bit_or v w ≡ 0) ↔ ((v ≡ 0) × (w ≡ 0))
 or-zero v w =
     let none : (e : bit_or v w ≡ 0) (i : ℕ) → max (bit_at v i) (bit_at w i) ≡ 0 =
@@ -96,7 +95,7 @@ or-zero v w =
       λ e. ap (λ x. bit_or x w) e.0 ∙ ap (bit_or 0) e.1,
     )
 
--- no digit in which they differ
+-- an exclusive or is 0 exactly if the numbers are equal
 pub xor-zero : (v w : ℕ) → (bit_xor v w ≡ 0) ↔ (v ≡ w)
 xor-zero v w = (
   λ e. same_from_bits v w (λ i.
@@ -106,7 +105,7 @@ xor-zero v w = (
   λ e. ap (λ x. bit_xor x w) e ∙ xor_self w,
 )
 
--- one word more is compared
+-- one more word is compared
 pub differing-add : (b c : List ℕ) (o p n d x y m q r : ℕ) → x < 2 ^ 64 → y < 2 ^ 64
     → ((d ≡ 0) ↔ (bits b o n ≡ bits c p n))
     → digits x 0 64 ≡ bits b q 64 → digits y 0 64 ≡ bits c r 64 → q ≡ o + n → r ≡ p + n → m ≡ n + 64

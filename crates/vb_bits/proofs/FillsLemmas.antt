@@ -1,8 +1,8 @@
--- Lists that are written into memory item by item.
+-- Lists written into memory item by item.
 use Rattle.std.proofs.Common.{◌≡◌, ℕ, suc, ◌+◌, ◌<◌, List, [], ◌∷◌, ◌++◌, length, drop, set, refl}
 use Rattle.std.proofs.Common.{ap, ◌∙◌, arith}
 
--- the item behind those that were written is written
+-- writing the item after those already written
 set_suc : {T : Type 0} (xs old : List T) (v : T) → length xs < length old
     → set (xs ++ drop (length xs) old) (length xs) v ≡ (xs ++ v ∷ []) ++ drop (suc (length xs)) old
 set_suc [] [] v h = absurd (omega arith)

@@ -12,7 +12,7 @@ KeepsBehind-write n old out new o m keeps w h = record {
   others = λ i high. w.others i (inr (omega arith)) ∙ keeps.others i high;
 }
 
--- the first n bits are what was written
+-- new is old with its first n bits written
 pub Writes-first : (n : ℕ) (old new : List ℕ) → KeepsBehind n old new
     → Writes old new 0 (bits new 0 n)
 Writes-first n old new keeps =

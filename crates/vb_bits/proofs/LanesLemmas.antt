@@ -34,7 +34,7 @@ pub at-lane_bits : (v : List ℕ) (i : ℕ) (d : Bool) → i < 256
 unfolding lane_bits
 at-lane_bits v i d h = get_or-map-range_with_len (lane_bit v) 0 256 i i d h (zero-add i)
 
--- they are a window where each is
+-- the digits are a window if each digit is its bit
 pub lane_bits-bits : (v b : List ℕ) (o : ℕ) → ((i : ℕ) → i < 256 → lane_bit v i ≡ bit_of b (o + i))
     → lane_bits v ≡ bits b o 256
 lane_bits-bits v b o h =
@@ -42,7 +42,7 @@ lane_bits-bits v b o h =
     let inside : i < 256 = omega (arith, length-lane_bits v) in
     at-lane_bits v i d inside ∙ h i inside ∙ sym (at-bits b o 256 i d inside))
 
--- and each is, where they are a window
+-- if the digits are a window, each digit is its bit
 pub lane_bit-bits : (v b : List ℕ) (o i : ℕ) → lane_bits v ≡ bits b o 256 → i < 256
     → lane_bit v i ≡ bit_of b (o + i)
 lane_bit-bits v b o i e h = sym (at-lane_bits v i (lane_bit v i) h)
@@ -60,7 +60,7 @@ part_bit k (suc n) x (suc j) i g h =
     let e : k + (k * j + i) ≡ k * suc j + i = omega (arith, mul-add k j 1, mul-one k) in
     part_bit k n (x / 2 ^ k) j i (omega arith) h ∙ has_bit_shr x k (k * j + i) ∙ ap (has_bit x) e
 
--- digit i of number j of those that make one number
+-- digit i of number j in the number that they make up
 whole_bit : (k : ℕ) (xs : List ℕ) (j i : ℕ) → Each1 (λ x. x < 2 ^ k) xs → i < k
     → has_bit (number_l (2 ^ k) xs) (k * j + i) ≡ has_bit (get_or xs j 0) i
 whole_bit k [] j i f h = ap (λ z. eqb z 1) (bit_at-zero (k * j + i) ∙ sym (bit_at-zero i))
@@ -119,7 +119,7 @@ lane_bits-merged_by f g xs ys lx ly h =
     ∙ ap (λ x. f x (get_or (lane_bits ys) i d)) (at-lane_bits xs i d inside)
     ∙ ap (f (lane_bit xs i)) (at-lane_bits ys i d inside)))
 
--- of two values the left one without the right one, as an exclusive or
+-- `left & !right` as an exclusive or
 pub merged_and_not : (l r : List Bool) → length l ≡ length r
     → merged_by (λ a b. cond a (not b) b) l (merged_by (λ a b. a && b) l r) ≡ merged_by
     (λ a b. a && not b) l r
@@ -170,7 +170,7 @@ digits_of_lane v b a j e h = digits-bits b (get_or v j 0) (8 * (a + 8 * j)) 64 (
     ap (λ k. has_bit (get_or v k 0) i) word ∙ ap (has_bit (get_or v ((64 * j + i) / 64) 0)) digit
     ∙ lane_bit-bits v b (8 * a) (64 * j + i) e (omega arith) ∙ ap (bit_of b) place)
 
--- words that begin within a byte, of those that begin with it and those that begin with the next
+-- words that start within a byte, from those that start at it and those that start at the next byte
 pub lane_bits-overlapped : (xs ys b : List ℕ) (a s : ℕ) → length xs ≡ 4 → length ys ≡ 4
     → Each1 (λ x. x < 2 ^ 64) xs
     → lane_bits xs ≡ bits b (8 * a) 256 → lane_bits ys ≡ bits b (8 * (a + 1)) 256 → s < 8
@@ -201,7 +201,7 @@ lane_bits-overlapped xs ys b a s lx ly small ex ey few =
     ∙ has_bit-bits b _ (8 * (a + 8 * j) + s) 64 r word (omega arith) ∙ ap (bit_of b) place)
 
 -- ---- writes
--- a window combined with another, and negated, four words at once
+-- a window combined with another, or negated, four words at once
 pub Writes_merged_lanes : (f : Bool → Bool → Bool) (b c t w x y : List ℕ) (o p q : ℕ)
     → lane_bits x ≡ bits b p 256 → lane_bits y ≡ bits t q 256
     → lane_bits w ≡ merged_by f (lane_bits x) (lane_bits y)
@@ -216,7 +216,7 @@ pub parts_below : (k n x : ℕ) → Each1 (λ y. y < 2 ^ k) (digits_l (2 ^ k) n 
 parts_below k zero x = tt
 parts_below k (suc n) x = (mod_below x (2 ^ k) (pow_pos k), parts_below k n (x / 2 ^ k))
 
--- 32 bytes of b written over by the bytes of four words
+-- 32 bytes of b overwritten by the bytes of four words
 pub Writes_lanes : (b ws ys xs : List ℕ) (a k : ℕ) → length ws ≡ 4 → Each1 (λ x. x < 2 ^ 64) ws
     → ys ≡ digits_l 256 32 (number_l (2 ^ 64) ws) → length ys ≡ 32 → length xs ≡ 32 → k ≡ 32
     → a + 32 ≤ length b

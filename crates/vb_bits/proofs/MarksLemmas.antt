@@ -1,4 +1,4 @@
--- Bits made true at places, one after the other.
+-- Bits set at indices, one after another.
 use Rattle.std.proofs.Common.{◌≡◌, ◌⊎◌, inl, inr, ℕ, ◌+◌, ◌<◌, ◌≤◌, Bool, true, false, ◌||◌, eqb}
 use Rattle.std.proofs.Common.{List, [], ◌∷◌, ◌++◌, length, refl, sym, ap, ◌∙◌, arith}
 use Rattle.std.proofs.Common.{zero-add}
@@ -13,12 +13,12 @@ use Rattle.vb_bits.proofs.BitsLemmas.{length-bits, at-bits}
 use Rattle.vb_bits.proofs.WritesLemmas.{Writes-at}
 use Rattle.vb_bits.specs.Marks.{with_true}
 
--- of the first n bits those at the places are true, and the others are as before
+-- of the first n bits those at these indices are true, and the others are unchanged
 abbrev pub MarkedAt : ℕ → List ℕ → List ℕ → List ℕ → Type 0
 MarkedAt n places old new = (i : ℕ) → i < n
     → bit_of new i ≡ (bit_of old i || list_any (λ p. eqb p i) places)
 
--- what is or-ed to a truth value
+-- or with a truth value
 or_true : (b : Bool) → (b || true) ≡ true
 or_true true = refl
 or_true false = refl
@@ -27,7 +27,7 @@ or_false : (b : Bool) → (b || false) ≡ b
 or_false true = refl
 or_false false = refl
 
--- one more place
+-- one more index
 pub MarkedAt-bit : (n p : ℕ) (ps : List ℕ) (old out new : List ℕ)
     → MarkedAt n ps old out → Writes out new p (true ∷ []) → MarkedAt n (ps ++ p ∷ []) old new
 MarkedAt-bit n p ps old out new before w = λ i h.
@@ -54,7 +54,7 @@ MarkedAt-bit n p ps old out new before w = λ i h.
     apart : (i p : ℕ) → (i ≡ p → ⊥) → (i < p) ⊎ (p + 1 ≤ i)
     apart i p ne = elim (cases_lt i p) [ inl low ↦ inl low | inr high ↦ inr (omega (arith, ne)) ]
 
--- all places
+-- all indices
 pub with_true-all : (n : ℕ) (ps old new : List ℕ)
     → MarkedAt n ps old new → bits new 0 n ≡ with_true (bits old 0 n) ps
 with_true-all n ps old new marked =

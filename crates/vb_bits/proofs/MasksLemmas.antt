@@ -23,7 +23,7 @@ use Rattle.vb_bits.proofs.DigitsLemmas.{length-digits, at-digits}
 use Rattle.vb_bits.proofs.ShiftLemmas.{shl_high, bit_at_cut}
 use Rattle.vb_bits.proofs.WritesLemmas.{Writes_by_bits}
 
--- a bit of the byte that is written
+-- a bit of the written byte
 bit_of-set_same : (b : List ℕ) (j y k : ℕ)
     → j < length b → k / 8 ≡ j → bit_of (set b j y) k ≡ has_bit y (k % 8)
 bit_of-set_same b j y k h e = ap (λ x. has_bit (get_or (set b j y) x 0) (k % 8)) e
@@ -81,7 +81,7 @@ Writes_unset b i h =
     Writes-bit b i _ false h (ap (λ d. eqb d 1) (bit_at_clear_same w8 x (i % 8) small))
     (λ j l ne. bit_at_clear_other w8 x (i % 8) small j l ne)
 
--- a digit is cleared, and v put there
+-- a digit is cleared, then v is written there
 put_digit : (b : List ℕ) (i : ℕ) (v : Bool) → i / 8 < length b
     → Writes b (set b (i / 8) (bit_or (bit_and (get_or b (i / 8) 0) (255 - 1 * 2 ^ (i % 8) % 256))
     (from_bool v * 2 ^ (i % 8) % 256))) i (v ∷ [])
@@ -105,7 +105,7 @@ put_digit b i false h =
     ∙ ap (λ d. eqb d 1) (bit_at_clear_same w8 x (i % 8) small))
     (λ j l ne. ap (λ y. bit_at y j) same ∙ bit_at_clear_other w8 x (i % 8) small j l ne)
 
--- one digit is turned to where it would be shifted
+-- rotating one digit equals shifting it
 turned_digit : (v : Bool) (k : ℕ) → k < 8
     → rotate_left w8 (from_bool v) k ≡ from_bool v * 2 ^ k % 256
 turned_digit true zero h = refl
@@ -143,7 +143,7 @@ mask_fits lo hi wide =
     let some : 0 < 2 ^ lo = pow_pos lo in
     omega arith
 
--- the mask of ones from lo up to hi has no digit elsewhere
+-- the mask of ones from lo up to hi has no digit outside
 mask_outside : (lo hi i : ℕ) → (i < lo) ⊎ (hi ≤ i) → bit_at (2 ^ hi - 2 ^ lo) i ≡ 0
 mask_outside lo hi i (inl h) = bit_at_mask_below lo hi i h
 mask_outside lo hi i (inr h) = bit_at_mask_above lo hi i h
@@ -168,7 +168,7 @@ Writes_or_mask b o n within there =
     let same : max (bit_at x r) (bit_at (2 ^ hi - 2 ^ lo) r) ≡ bit_at x r = omega arith in
     ap (λ z. eqb z 1) (bit_at_or x (2 ^ hi - 2 ^ lo) r ∙ same))
 
--- a digit of a byte under a mask that is negated
+-- a digit of a byte under a negated mask
 not_mask : (x m i : ℕ)
     → m < 2 ^ 8 → i < 8 → bit_at (bit_and x (bit_not w8 m)) i ≡ min (bit_at x i) (1 - bit_at m i)
 not_mask x m i small h =
@@ -196,7 +196,7 @@ Writes_and_mask b o n within there =
     omega (arith, low r) in
     ap (λ z. eqb z 1) (not_mask x (2 ^ hi - 2 ^ lo) r small l ∙ same))
 
--- a bit of a window that lies in one byte
+-- a bit of a window within one byte
 at-bits_in_byte : (b : List ℕ) (o n i : ℕ) (d : Bool)
     → o % 8 + n ≤ 8 → i < n → get_or (bits b o n) i d ≡ has_bit (get_or b (o / 8) 0) (o % 8 + i)
 at-bits_in_byte b o n i d within h =
@@ -205,7 +205,7 @@ at-bits_in_byte b o n i d within h =
     at-bits b o n i d h ∙ ap (λ j. has_bit (get_or b j 0) ((o + i) % 8)) byte
     ∙ ap (has_bit (get_or b (o / 8) 0)) digit
 
--- a digit that is flipped
+-- a flipped digit
 flipped : (x : ℕ) → x < 2 → eqb ((x + 1) % 2) 1 ≡ not (eqb x 1)
 flipped zero h = refl
 flipped (suc zero) h = refl

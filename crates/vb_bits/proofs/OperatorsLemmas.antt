@@ -1,4 +1,4 @@
--- Lists of truth values combined place by place, and writes of what they are combined to.
+-- Lists of truth values combined index by index, and writes of the results.
 use Rattle.std.proofs.Common.{◌≡◌, ℕ, ◌+◌, ◌/◌, ◌^◌, ◌<◌, ◌≤◌, Bool, List, [], ◌∷◌, ◌++◌, length}
 use Rattle.std.proofs.Common.{get_or, refl, sym, ap, subst, ◌∙◌, arith, zero-add}
 use Rattle.std.proofs.lemmas.List.{same_lists}
@@ -12,7 +12,7 @@ use Rattle.vb_bits.proofs.DigitsLemmas.{length-digits, at-digits, digits-add}
 use Rattle.vb_bits.proofs.ShiftLemmas.{digits_shr}
 use Rattle.vb_bits.proofs.WritesLemmas.{Writes_none, Writes-add, bits_outside}
 
--- as many values as in one of the lists
+-- the result has the length of the lists
 pub length-merged_by : (f : Bool → Bool → Bool) (l r : List Bool)
     → length l ≡ length r → length (merged_by f l r) ≡ length l
 unfolding merged_by
@@ -24,7 +24,7 @@ pub at-merged_by : (f : Bool → Bool → Bool) (l r : List Bool) (i : ℕ) (c d
 unfolding merged_by
 at-merged_by f l r i c d e a b = get_or-zip2 f l r i c d e a b
 
--- lists behind lists of one length
+-- lists appended to lists of the same length
 pub merged_by-append : (f : Bool → Bool → Bool) (k l m r : List Bool)
     → length k ≡ length m → merged_by f (k ++ l) (m ++ r) ≡ merged_by f k m ++ merged_by f l r
 unfolding merged_by
@@ -34,7 +34,7 @@ merged_by-append f (x ∷ k) l [] r e = absurd (omega arith)
 merged_by-append f (x ∷ k) l (y ∷ m) r e =
     ap (λ z. f x y ∷ z) (merged_by-append f k l m r (omega arith))
 
--- of two values the right one
+-- the right operand of two
 pub merged_right : (l r : List Bool) → length l ≡ length r → merged_by (λ a b. b) l r ≡ r
 unfolding merged_by
 merged_right [] [] e = refl
@@ -58,20 +58,20 @@ digits-merged_by f w a b n small h =
     ∙ ap (λ x. f x (get_or (digits b 0 n) i d)) (at-digits a 0 n i d inside)
     ∙ ap (f (has_bit a (0 + i))) (at-digits b 0 n i d inside)))
 
--- the bits of a window are combined with those of another: as many as there are
+-- a window of n bits combined with another has n bits
 pub length-merged_bits : (f : Bool → Bool → Bool) (b s : List ℕ) (o p n : ℕ)
     → length (merged_by f (bits b o n) (bits s p n)) ≡ n
 length-merged_bits f b s o p n =
     length-merged_by f (bits b o n) (bits s p n) (length-bits b o n ∙ sym (length-bits s p n))
     ∙ length-bits b o n
 
--- none are
+-- no bits
 pub Writes_merged_none : (f : Bool → Bool → Bool) (b s : List ℕ) (o p n : ℕ)
     → n ≡ 0 → Writes b b o (merged_by f (bits b o n) (bits s p n))
 Writes_merged_none f b s o p n e =
     Writes_none b o (merged_by f (bits b o n) (bits s p n)) (length-merged_bits f b s o p n ∙ e)
 
--- two windows, one right behind the other, with two lists
+-- two adjacent windows, combined with two lists
 Writes-merged_lists : (f : Bool → Bool → Bool) (b c d : List ℕ) (o p m n k : ℕ) (r t : List Bool)
     → length r ≡ m → Writes b c o (merged_by f (bits b o m) r)
     → Writes c d p (merged_by f (bits c p n) t)
@@ -90,7 +90,7 @@ Writes-merged_lists f b c d o p m n k r t size one two at whole =
     (Writes-add b c d o p (merged_by f (bits b o m) r) (merged_by f (bits c p n) t) (omega arith)
     one two)
 
--- with two other windows, one right behind the other
+-- two adjacent windows, combined with two other windows
 pub Writes-merged_by : (f : Bool → Bool → Bool) (b c d s : List ℕ) (o p u v m n k : ℕ)
     → Writes b c o (merged_by f (bits b o m) (bits s u m))
     → Writes c d p (merged_by f (bits c p n) (bits s v n))
@@ -102,7 +102,7 @@ Writes-merged_by f b c d s o p u v m n k one two at from whole =
     (Writes-merged_lists f b c d o p m n k (bits s u m) (bits s v n) (length-bits s u m) one two at
     whole)
 
--- with the lowest digits of a number and those behind them
+-- two adjacent windows, combined with the lowest digits of a number and the digits after them
 pub Writes-merged_digits : (f : Bool → Bool → Bool) (b c d : List ℕ) (o p m n k w : ℕ)
     → Writes b c o (merged_by f (bits b o m) (digits w 0 m))
     → Writes c d p (merged_by f (bits c p n) (digits (w / 2 ^ m) 0 n))
@@ -114,8 +114,7 @@ Writes-merged_digits f b c d o p m n k w one two at whole =
     (Writes-merged_lists f b c d o p m n k (digits w 0 m) (digits (w / 2 ^ m) 0 n)
     (length-digits w 0 m) one two at whole)
 
--- a number whose digits are a window, and one that is combined of it and of another one and written
--- to that window
+-- a number whose digits are a window, and the combined number written to that window
 pub Writes_merged_number : (f : Bool → Bool → Bool) (b c : List ℕ) (o n w x y : ℕ) → n ≤ 64
     → digits x 0 n ≡ bits b o n
     → ((i : ℕ) → i < 64 → has_bit w i ≡ f (has_bit x i) (has_bit y i))
@@ -124,8 +123,7 @@ Writes_merged_number f b c o n w x y small left h written =
     subst (Writes b c o) (digits-merged_by f w x y n small h
     ∙ ap (λ z. merged_by f z (digits y 0 n)) left) written
 
--- numbers whose digits are windows, and one that is combined of them and written to the first
--- window
+-- numbers whose digits are windows, and the combined number written to the first window
 pub Writes_merged_digits : (f : Bool → Bool → Bool) (b c s : List ℕ) (o p q n w x y : ℕ) → n ≤ 64
     → digits x 0 n ≡ bits b p n → digits y 0 n ≡ bits s q n
     → ((i : ℕ) → i < 64 → has_bit w i ≡ f (has_bit x i) (has_bit y i))
@@ -136,7 +134,7 @@ Writes_merged_digits f b c s o p q n w x y small left right h written at =
     ∙ ap (λ z. merged_by f z (digits y 0 n)) left ∙ ap (merged_by f (bits b p n)) right) written)
 
 -- ---- two windows combined into a third one
--- two lists of numbers' digits, and one that is combined of them
+-- two numbers whose digits are windows, and the combined number written to a third window
 pub Writes_into_digits : (f : Bool → Bool → Bool) (b c s t : List ℕ) (o u v n w x y : ℕ) → n ≤ 64
     → digits x 0 n ≡ bits s u n → digits y 0 n ≡ bits t v n
     → ((i : ℕ) → i < 64 → has_bit w i ≡ f (has_bit x i) (has_bit y i))
@@ -145,14 +143,14 @@ Writes_into_digits f b c s t o u v n w x y small left right h written =
     subst (Writes b c o) (digits-merged_by f w x y n small h
     ∙ ap (λ z. merged_by f z (digits y 0 n)) left ∙ ap (merged_by f (bits s u n)) right) written
 
--- the right one of two is written
+-- the right operand is written
 pub Writes_right : (b c : List ℕ) (o n w : ℕ)
     → Writes b c o (merged_by (λ x y. y) (bits b o n) (digits w 0 n)) → Writes b c o (digits w 0 n)
 Writes_right b c o n w written =
     subst (Writes b c o) (merged_right (bits b o n) (digits w 0 n)
     (length-bits b o n ∙ sym (length-digits w 0 n))) written
 
--- one right behind the other
+-- two adjacent windows
 pub Writes-into : (f : Bool → Bool → Bool) (b c d s t : List ℕ) (o p u q v r m n k : ℕ)
     → Writes b c o (merged_by f (bits s u m) (bits t v m))
     → Writes c d p (merged_by f (bits s q n) (bits t r n))
@@ -172,7 +170,7 @@ Writes-into f b c d s t o p u q v r m n k one two at first second whole =
     (Writes-add b c d o p (merged_by f (bits s u m) (bits t v m))
     (merged_by f (bits s q n) (bits t r n)) (omega arith) one two)
 
--- none are
+-- no bits
 pub Writes_into_none : (f : Bool → Bool → Bool) (b s t : List ℕ) (o u v n : ℕ)
     → n ≡ 0 → Writes b b o (merged_by f (bits s u n) (bits t v n))
 Writes_into_none f b s t o u v n e =

@@ -1,4 +1,4 @@
--- The places of true values.
+-- The indices of true values.
 use Rattle.std.proofs.Common.{◌≡◌, ℕ, zero, suc, ◌+◌, ◌<◌, ◌≤◌, Bool, true, false, cond, List, []}
 use Rattle.std.proofs.Common.{◌∷◌, ◌++◌, length, map, filter, refl, ap, ◌∙◌, arith, add-zero}
 use Rattle.std.specs.List.{All, range_with_len}
@@ -10,14 +10,14 @@ use Rattle.vb_bits.specs.Bits.{at, count, places}
 use Rattle.vb_bits.proofs.BitsLemmas.{count-cons}
 use Rattle.vb_bits.proofs.RangeLemmas.{range_with_len-add, same_filter-range_with_len}
 
--- a range that begins m later
+-- a range that starts m later
 range_with_len_later : (a m n : ℕ)
     → range_with_len (m + a) n ≡ map (λ i. m + i) (range_with_len a n)
 range_with_len_later a m zero = refl
 range_with_len_later a m (suc n) = let e : m + a + 1 ≡ m + (a + 1) = omega arith in
     ap (λ l. (m + a) ∷ l) (ap (λ x. range_with_len x n) e ∙ range_with_len_later (a + 1) m n)
 
--- to keep what a function made is to keep what it was made of
+-- filtering mapped numbers is mapping filtered ones
 filter-map : (p : ℕ → Bool) (f : ℕ → ℕ) (xs : List ℕ)
     → filter p (map f xs) ≡ map f (filter (λ x. p (f x)) xs)
 filter-map p f [] = refl
@@ -27,18 +27,18 @@ filter-map p f (x ∷ xs) =
     (map f (filter (λ x. p (f x)) xs)) ≡ map f (cond b (x ∷ filter (λ x. p (f x)) xs)
     (filter (λ x. p (f x)) xs))) [ true ↦ refl | false ↦ refl ]
 
--- the places of no values
+-- the indices in a list of no values
 pub places_none : places [] ≡ []
 unfolding places
 places_none = refl
 
--- the places of one value
+-- the index of one value
 places_one : (b : Bool) → places (b ∷ []) ≡ cond b (0 ∷ []) []
 unfolding places
 places_one true = refl
 places_one false = refl
 
--- the places of two lists, one after the other
+-- the indices in two lists, one after the other
 pub places-append : (k l : List Bool)
     → places (k ++ l) ≡ places k ++ map (λ i. length k + i) (places l)
 unfolding places
@@ -75,7 +75,7 @@ places_push l true =
 places_push l false = places-append l (false ∷ [])
     ∙ ap (λ x. places l ++ map (λ i. length l + i) x) (places_one false)
 
--- there are as many places as true values
+-- the number of indices is the number of true values
 pub length-places : (l : List Bool) → length (places l) ≡ count l
 length-places [] = ap length places_none
 length-places (b ∷ l) =
@@ -93,11 +93,11 @@ length-places (b ∷ l) =
     length_one true = ap length (places_one true)
     length_one false = ap length (places_one false)
 
--- there are at most as many as values
+-- it is at most the number of values
 pub places_few : (l : List Bool) → length (places l) ≤ length l
 places_few l = omega (arith, length-places l, count_by-le-length (λ b. b) l)
 
--- each lies in the list
+-- each index is below the length
 pub places_below : (l : List Bool) → All (λ i. i < length l) (places l)
 places_below [] = rw places_none (All-nil (λ i. i < 0))
 places_below (b ∷ l) =

@@ -1,4 +1,4 @@
--- Lists made of a range of numbers.
+-- Lists built from a range of numbers.
 use Rattle.std.proofs.Common.{◌≡◌, ℕ, zero, suc, ◌+◌, ◌<◌, ◌≤◌, Bool, cond, ◌∷◌, ◌++◌, map, filter}
 use Rattle.std.proofs.Common.{sym, refl, ap, ◌∙◌, arith}
 use Rattle.std.specs.List.{range_with_len}
@@ -17,13 +17,13 @@ range_with_len-add a (suc m) n =
     ap (range_with_len a) e ∙ ap (λ l. a ∷ l) (range_with_len-add (a + 1) m n
     ∙ ap (λ x. range_with_len (a + 1) m ++ range_with_len x n) z)
 
--- what a function makes of a range that is cut in two
+-- a function mapped over a range cut in two
 pub map-range_with_len-add : (f : ℕ → Bool) (a m n : ℕ) → map f
     (range_with_len a (m + n)) ≡ map f (range_with_len a m) ++ map f (range_with_len (a + m) n)
 map-range_with_len-add f a m n = ap (map f) (range_with_len-add a m n)
     ∙ map-append f (range_with_len a m) (range_with_len (a + m) n)
 
--- two functions that agree number by number make one list
+-- two functions that agree on each number give the same list
 pub same_map-range_with_len : {A : Type 0} (f g : ℕ → A) (a b n : ℕ) → ((i : ℕ)
     → i < n → f (a + i) ≡ g (b + i)) → map f (range_with_len a n) ≡ map g (range_with_len b n)
 same_map-range_with_len f g a b n h =
@@ -33,7 +33,7 @@ same_map-range_with_len f g a b n h =
     get_or-map-range_with_len f a n k (a + k) d lt refl
     ∙ h k lt ∙ sym (get_or-map-range_with_len g b n k (b + k) d lt refl))
 
--- two tests that agree on a range keep the same numbers of it
+-- two tests that agree on a range select the same numbers
 pub same_filter-range_with_len : (p q : ℕ → Bool) (a n : ℕ)
     → ((i : ℕ) → a ≤ i → i < a + n → p i ≡ q i)
     → filter p (range_with_len a n) ≡ filter q (range_with_len a n)

@@ -25,7 +25,7 @@ has_bit-bits b w o n i e h =
     ap (has_bit w) (sym (zero-add i))
     ∙ sym (at-digits w 0 n i false h) ∙ ap (λ l. get_or l i false) e ∙ at-bits b o n i false h
 
--- a number whose digits are a window, said digit by digit
+-- a number whose digits are a window, given digit by digit
 pub digits-bits : (b : List ℕ) (w o n : ℕ)
     → ((i : ℕ) → i < n → has_bit w i ≡ bit_of b (o + i)) → digits w 0 n ≡ bits b o n
 digits-bits b w o n h =
@@ -57,13 +57,13 @@ pub digits_of_number : (b : List ℕ) (w a k : ℕ)
 digits_of_number b w a k read = sym (bits-bytes_low_first k w 0 (8 * k) (omega arith))
     ∙ bits_of_read b b (bytes_low_first 0 k w) a k (8 * a) refl read refl
 
--- ---- windows that begin within a byte
--- a window that begins within the first byte of a number of z digits and ends in them
+-- ---- windows that start within a byte
+-- a window that starts within the first byte of a number of z digits and ends within them
 pub digits_shifted : (b : List ℕ) (z f s n w at : ℕ) → digits w 0 z ≡ bits b (8 * f) z
     → at ≡ 8 * f + s → s + n ≤ z → digits (w / 2 ^ s) 0 n ≡ bits b at n
 digits_shifted b z f s n w at e from within = digits_inside b w (8 * f) z s n at e from within
 
--- one that ends in the byte behind a number of k bytes
+-- a window that ends in the byte after a number of k bytes
 pub digits_joined : (b : List ℕ) (k f s n w at : ℕ)
     → digits w 0 (8 * k) ≡ bits b (8 * f) (8 * k) → at ≡ 8 * f + s → w < 2 ^ (8 * k) → s < 8
     → n ≤ 8 * k → k ≤ 8
@@ -123,7 +123,7 @@ either_same {x} {y} {t} e f = ap (λ z. z || y) e ∙ ap (λ z. t || z) f ∙ or
 either_right : {x y t : Bool} → x ≡ false → y ≡ t → (x || y) ≡ t
 either_right {x} {y} {t} none e = ap (λ z. z || y) none ∙ e
 
--- two words, the second from the next byte on: where they overlap both have the digit
+-- two words, the second from the next byte on; where they overlap both have the digit
 pub digits_overlapped : (b : List ℕ) (f s v w : ℕ) → digits v 0 64 ≡ bits b (8 * f) 64
     → digits w 0 64 ≡ bits b (8 * (f + 1)) 64 → v < 2 ^ 64 → s < 8
     → digits (bit_or (v / 2 ^ s) (w * 2 ^ (8 - s) % 2 ^ 64)) 0 64 ≡ bits b (8 * f + s) 64
@@ -149,27 +149,27 @@ digits_overlapped b f s v w first second fits small =
           ]
     ])
 
--- the digits that a cut leaves
+-- the digits below a cut
 pub digits_cut : (w n : ℕ) → digits (w % 2 ^ n) 0 n ≡ digits w 0 n
 digits_cut w n = same_digits (w % 2 ^ n) w 0 0 n
     (λ i l. ap (λ y. eqb y 1) (bit_at_cut w n (0 + i) (omega arith)))
 
 -- ---- fewer than eight bytes
--- the bits from byte a on are those of the bytes that are left
+-- the bits from byte a on are those of the remaining bytes
 pub bits_of_rest : (b : List ℕ) (a n : ℕ) → bits (drop a b) 0 n ≡ bits b (8 * a) n
 bits_of_rest b a n = same_bits (drop a b) b 0
     (8 * a) n (λ i l. ap (bit_of (drop a b)) (zero-add i) ∙ bit_of-drop a b i)
 
--- a bit past the bytes
+-- a bit after the last byte
 bit_past : (b : List ℕ) (i : ℕ) → 8 * length b ≤ i → bit_of b i ≡ false
 bit_past b i past = ap (λ x. has_bit x (i % 8)) (get_or_past b (i / 8) 0 (omega arith))
     ∙ digits-clear (i % 8)
 
--- a digit past those of a number
+-- a digit above those of a number
 digit_past : (w k i : ℕ) → w < 2 ^ k → k ≤ i → has_bit w i ≡ false
 digit_past w k i small past = ap (λ y. eqb y 1) (bit_at_above w k i small past)
 
--- two numbers of k bytes each, of the first bytes and of the last ones: where they overlap both
+-- two numbers of k bytes each, of the first bytes and of the last ones; where they overlap both
 -- have the digit
 pub digits_of_ends : (b : List ℕ) (k n v w : ℕ) → n ≡ length b → k ≤ n → n ≤ 2 * k → n ≤ 8
     → digits v 0 (8 * k) ≡ bits b 0 (8 * k) → digits w 0 (8 * k) ≡ bits b (8 * (n - k)) (8 * k)
@@ -214,7 +214,7 @@ digits_of_one b one small =
       | inr past ↦ digit_past x 8 i small past ∙ sym (bit_past b (0 + i) (omega arith))
     ])
 
--- none
+-- no byte
 pub digits_of_no_byte : (b : List ℕ) → length b ≡ 0 → digits 0 0 64 ≡ bits b 0 64
 digits_of_no_byte b none = digits-bits b 0 0 64
     (λ i l. digits-clear i ∙ sym (bit_past b (0 + i) (omega arith)))

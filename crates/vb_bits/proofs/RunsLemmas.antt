@@ -9,8 +9,8 @@ use Rattle.std.proofs.lemmas.List.Elements.{All-cons, All-nil}
 use Rattle.vb_bits.specs.Bits.{at}
 use Rattle.vb_bits.specs.Runs.{value_before, runs, shift_run}
 
--- P is the runs of t among the places from a below e: nothing is true before the first one, all of
--- it is, and the place behind it is the end or isn't
+-- P is the runs of t among the indices from a below e: no value before the first run is true, all
+-- values in it are, and the index after it is e or its value is false
 abbrev pub AreRuns : (ℕ → Bool) → ℕ → ℕ → List (ℕ × ℕ) → Type 0
 AreRuns t a e [] = (i : ℕ) → a ≤ i → i < e → t i ≡ false
 AreRuns t a e (p ∷ ps) =
@@ -20,7 +20,7 @@ AreRuns t a e (p ∷ ps) =
     × ((p.1 ≡ e) ⊎ (t p.1 ≡ false))
     × AreRuns t p.1 e ps
 
--- places in front that are false
+-- indices in front with false values
 pub AreRuns-front : (t : ℕ → Bool) (a b e : ℕ) (P : List (ℕ × ℕ))
     → a ≤ b → ((i : ℕ) → a ≤ i → i < b → t i ≡ false) → AreRuns t b e P → AreRuns t a e P
 AreRuns-front t a b e [] le off h =
@@ -48,7 +48,7 @@ module _ (t u : ℕ → Bool) (e : ℕ) (next : (i : ℕ) → u (i + 1) ≡ t i)
   fall : ℕ → ℕ → List ℕ
   fall a n = filter (λ i. u i && not (t i)) (range_with_len a n)
 
-  -- the first place, by its value and the one before it
+  -- the first index, by its value and the one before it
   rise_true : (a n : ℕ) → t a ≡ true → u a ≡ false → rise a (suc n) ≡ a ∷ rise (a + 1) n
   unfolding rise
   rise_true a n x y = rw (x, y) refl
@@ -77,7 +77,7 @@ module _ (t u : ℕ → Bool) (e : ℕ) (next : (i : ℕ) → u (i + 1) ≡ t i)
   unfolding rise
   rise_empty a = refl
 
-  -- from a place on: where the value before it is false, and where a run goes on that began at s
+  -- from an index on: either the value before it is false, or a run that started at s continues
   paired : (n a : ℕ) → a + n ≡ e
       → (u a ≡ false → AreRuns t a e (zip (rise a (suc n)) (fall a (suc n))))
       × ((s : ℕ) → u a ≡ true → s < a → ((i : ℕ) → s ≤ i → i < a → t i ≡ true) → AreRuns t s e
@@ -140,7 +140,7 @@ module _ (t u : ℕ → Bool) (e : ℕ) (next : (i : ℕ) → u (i + 1) ≡ t i)
       t_cases : (i : ℕ) → (t i ≡ true) ⊎ (t i ≡ false)
       t_cases i = true_or_false (t i)
 
--- `runs` gives the runs
+-- `runs` returns the runs
 pub AreRuns-runs : (l : List Bool) → AreRuns (at l) 0 (length l) (runs l)
 unfolding runs rise fall
 AreRuns-runs l =
@@ -155,7 +155,7 @@ AreRuns-runs l =
     ((paired t u (length l) later
     (get_or_past l (length l) false (omega arith)) (length l) 0 (omega arith)).0 refl)
 
--- each run takes a place of its own
+-- each run takes at least one index
 AreRuns-few : (t : ℕ → Bool) (a e : ℕ) (P : List (ℕ × ℕ)) → a ≤ e → AreRuns t a e P
     → a + length P ≤ e
 AreRuns-few t a e [] le h = omega arith
@@ -163,11 +163,11 @@ AreRuns-few t a e (p ∷ ps) le h =
     let rest : p.1 + length ps ≤ e = AreRuns-few t p.1 e ps h.2 h.6 in
     omega (arith, h.0, h.1, rest)
 
--- there are at most as many as values
+-- there are at most as many runs as values
 pub runs_few : (l : List Bool) → length (runs l) ≤ length l
 runs_few l = omega (arith, AreRuns-few (at l) 0 (length l) (runs l) (omega arith) (AreRuns-runs l))
 
--- a run isn't empty, and ends by the end
+-- a run isn't empty, and ends at e or before
 AreRuns-within : (t : ℕ → Bool) (a e : ℕ) (P : List (ℕ × ℕ)) → AreRuns t a e P
     → All (λ r. (r.0 < r.1) × (r.1 ≤ e)) P
 AreRuns-within t a e [] h = All-nil (λ (r : ℕ × ℕ). (r.0 < r.1) × (r.1 ≤ e))
@@ -175,7 +175,7 @@ AreRuns-within t a e (p ∷ ps) h =
     All-cons (λ (r : ℕ × ℕ). (r.0 < r.1) × (r.1 ≤ e)) p ps
     (h.1, h.2) (AreRuns-within t p.1 e ps h.6)
 
--- each run lies in the list
+-- each run is within the list
 pub runs_within : (l : List Bool) → All (λ r. (r.0 < r.1) × (r.1 ≤ length l)) (runs l)
 runs_within l = AreRuns-within (at l) 0 (length l) (runs l) (AreRuns-runs l)
 
@@ -183,7 +183,7 @@ runs_within l = AreRuns-within (at l) 0 (length l) (runs l) (AreRuns-runs l)
 clash : (b : Bool) → b ≡ true → b ≡ false → ⊥
 clash b p q = cc
 
--- the first run begins at one place only
+-- the first run starts at one index only
 same_start : (t : ℕ → Bool) (a x y : ℕ)
     → a ≤ x → t x ≡ true → ((i : ℕ) → a ≤ i → i < y → t i ≡ false) → y ≤ x
 same_start t a x y l on off =
@@ -246,7 +246,7 @@ AreRuns-same t u a e (p ∷ ps) same h = (
   AreRuns-same t u p.1 e ps (λ i l r. same i (omega (arith, h.0, h.1)) r) h.6,
 )
 
--- runs that lie m places further on
+-- runs moved up by m indices
 pub AreRuns-shift_run : (t u : ℕ → Bool) (m a e : ℕ) (P : List (ℕ × ℕ))
     → ((i : ℕ) → a ≤ i → i < e → t (m + i) ≡ u i)
     → AreRuns u a e P → AreRuns t (m + a) (m + e) (map (shift_run m) P)

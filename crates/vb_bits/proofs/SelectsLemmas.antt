@@ -1,4 +1,4 @@
--- Selecting in lists that are joined, and among the digits of a word.
+-- Select in joined lists and among the digits of a word.
 use Rattle.std.proofs.Common.{◌≡◌, ℕ, zero, suc, ◌+◌, ◌-◌, ◌*◌, ◌/◌, ◌%◌, ◌^◌, ◌<◌, ◌≤◌, Bool, true}
 use Rattle.std.proofs.Common.{false, eqb, List, [], ◌∷◌, ◌++◌, length, get_or, map, take}
 use Rattle.std.proofs.Common.{Some, refl, sym, ap, ◌∙◌, arith, subst, zero-add}
@@ -51,11 +51,11 @@ Selects-digits w z a k n left p within passed found =
     ∙ ap (digits w 0) all) (subst (λ m. Selects (digits w 0 (a + k) ++ digits w
     (0 + (a + k)) (z - (a + k))) n (Some (m + p))) (length-digits w 0 a) whole)
 
--- a digit that is found is one of those that are searched
+-- a digit that is found is among the k digits searched
 pub Selects-digits_inside : (w a k n p : ℕ) → Selects (digits w a k) n (Some p) → p < k
 Selects-digits_inside w a k n p s = omega (arith, s.0, length-digits w a k)
 
--- the n-th of the places is the one that n selects
+-- the n-th of the indices is the one that n selects
 Selects-places : (l : List Bool) (n : ℕ) → n < count l → Selects l n (Some (get_or (places l) n 0))
 Selects-places [] n h = absurd (omega arith)
 Selects-places (true ∷ l) zero h =
@@ -77,14 +77,14 @@ Selects-places (false ∷ l) n h =
     subst (λ p. Selects (false ∷ l) n (Some p)) (sym next) (Selects-append_right
     (false ∷ []) l n n (get_or (places l) n 0) (omega arith) (Selects-places l n low))
 
--- entry n of row x, of eight each, is the place of the n-th digit of x that is 1, and 0 behind the
--- last one
+-- entry n of row x, of eight each, is the index of the n-th set digit of x, and 0 after the last
+-- one
 places_table : map (λ i. get_or (places (digits (i / 8) 0 8)) (i % 8) 0) (range_with_len 0 2048)
     ≡ PLACES
 unfolding places digits
 places_table = refl
 
--- the table has the place that n selects among eight digits, which are those of x
+-- the table has the index that n selects among eight digits, which are those of x
 pub Selects-table : (x w n : ℕ) → x < 256 → digits x 0 8 ≡ digits w 0 8
     → n < count (digits w 0 8) → Selects (digits w 0 8) n (Some (get_or PLACES (8 * x + n) 0))
 Selects-table x w n small same h =
@@ -101,7 +101,7 @@ Selects-table x w n small same h =
     (subst (λ p. Selects (digits x 0 8) n (Some p))
     (sym entry) (Selects-places (digits x 0 8) n (omega (arith, ap count same))))
 
--- the digits of a number from place a on
+-- the digits of a number from index a on
 pub digits_shifted : (w a k : ℕ) → digits (w / 2 ^ a) 0 k ≡ digits w a k
 digits_shifted w a k = same_digits (w / 2 ^ a) w 0 a k
     (λ i h. ap (has_bit (w / 2 ^ a)) (zero-add i) ∙ ap (λ z. eqb (z % 2) 1) (shr-shr w a i))
@@ -118,7 +118,7 @@ digits_low w k h =
     (sym (bit_at_cat_low (w / 2 ^ k) k (w % 2 ^ k) i l) ∙ ap (λ z. bit_at z i) (shr_split w k))
     ∙ sym (ap (has_bit w) (zero-add i)))
 
--- how many they are
+-- the count of these digits
 pub ones_low : (w k : ℕ)
     → k < 64 → count_ones (bit_and w (1 * 2 ^ k % 2 ^ 64 - 1)) ≡ count (digits w 0 k)
 ones_low w k h =

@@ -1,4 +1,4 @@
--- Parts of windows, and windows of bytes that were added to, cut off or repeated.
+-- Parts of windows, and windows of bytes that were appended to, cut off or repeated.
 use Rattle.std.proofs.Common.{◌≡◌, ℕ, ◌+◌, ◌-◌, ◌*◌, ◌/◌, ◌%◌, ◌<◌, ◌≤◌, Bool, true, false, eqb}
 use Rattle.std.proofs.Common.{List, [], ◌∷◌, ◌++◌, length, get_or, take, drop, replicate}
 use Rattle.std.proofs.Common.{slice_range, slice_get, Some, ap, sym, ◌∙◌, arith, refl}
@@ -19,14 +19,14 @@ use Rattle.vb_bits.proofs.BitsLemmas.{count-append, count-complement, count-le}
 pub bits-empty : (b : List ℕ) (o n : ℕ) → n ≡ 0 → bits b o n ≡ []
 bits-empty b o n e = ap (bits b o) e ∙ bits_none b o
 
--- the bit at a place
+-- the bit at an index
 pub slice_get-bits : (b : List ℕ) (o n i : ℕ)
     → i < n → slice_get (bits b o n) i ≡ Some (bit_of b (o + i))
 slice_get-bits b o n i h =
     slice_get-get_or (bits b o n) i (bit_of b (o + i)) (omega (arith, length-bits b o n))
     ∙ ap Some (at-bits b o n i (bit_of b (o + i)) h)
 
--- a part is a window of its own
+-- a part is a window
 pub bits-part : (b : List ℕ) (o n i j : ℕ)
     → i ≤ j → j ≤ n → bits b (o + i) (j - i) ≡ slice_range (bits b o n) i j
 bits-part b o n i j h le =
@@ -58,7 +58,7 @@ count_parts l i j k n e h le =
     ∙ ap (λ x. count (take (j - i) d) + count (take (k - j) x))
     (drop-drop (j - i) i l ∙ ap (λ n. drop n l) rest)
 
--- ---- bytes added, cut off, left out
+-- ---- bytes appended, cut off, left out
 -- a bit of the bytes in front
 pub bit_of-append : (b x : List ℕ) (k : ℕ) → k < 8 * length b → bit_of (b ++ x) k ≡ bit_of b k
 bit_of-append b x k h = ap (λ y. has_bit y (k % 8)) (get_or_append_left b x 0 (k / 8) (omega arith))
@@ -75,7 +75,7 @@ bit_of-drop m b k =
     ap (λ y. has_bit y (k % 8)) (get_or-drop m b (k / 8) 0 ∙ ap (λ i. get_or b i 0) byte)
     ∙ ap (has_bit (get_or b ((8 * m + k) / 8) 0)) digit
 
--- a bit behind the bytes that were lengthened
+-- a bit in the appended bytes
 pub bit_of-extension : (b c : List ℕ) (k : ℕ)
     → 8 * length b ≤ k → bit_of (extension b c) k ≡ bit_of c k
 bit_of-extension b c k h =
@@ -94,14 +94,14 @@ pub bits-take_bytes : (m : ℕ) (b : List ℕ) (o n : ℕ)
 bits-take_bytes m b o n h =
     same_bits (take m b) b o o n (λ i l. bit_of-take m b (o + i) (omega arith))
 
--- a window of the bytes from that of its first bit on
+-- a window, with the bytes before its first one dropped
 pub bits-drop_bytes : (b : List ℕ) (o n : ℕ) → bits (drop (o / 8) b) (o % 8) n ≡ bits b o n
 bits-drop_bytes b o n =
     same_bits (drop (o / 8) b) b (o % 8) o n
     (λ i l. let place : 8 * (o / 8) + (o % 8 + i) ≡ o + i =
     omega arith in bit_of-drop (o / 8) b (o % 8 + i) ∙ ap (bit_of b) place)
 
--- a window of bytes that are all one byte, whose digits are all v
+-- a window of equal bytes whose digits are all v
 pub bits-replicate : (y m n : ℕ) (v : Bool)
     → ((j : ℕ) → j < 8 → has_bit y j ≡ v) → n ≤ 8 * m → bits (replicate m y) 0 n ≡ replicate n v
 bits-replicate y m n v h le =

@@ -1,4 +1,4 @@
--- Some digits of a word of bytes that are written.
+-- Writes of some digits of a word of bytes.
 use Rattle.std.proofs.Common.{◌≡◌, ◌⊎◌, inl, inr, ℕ, ◌+◌, ◌-◌, ◌*◌, ◌/◌, ◌%◌, ◌^◌, ◌<◌, ◌≤◌, eqb}
 use Rattle.std.proofs.Common.{false, max, min, List, length, get_or, set, sym, ap, subst, ◌∙◌}
 use Rattle.std.proofs.Common.{arith, zero-add}
@@ -40,7 +40,7 @@ ones_outside s n r few l (inr high) =
     ∙ ap (λ y. y % 2) (shr-shr (2 ^ 64 - 1) (64 - n) (r - s))
     ∙ bit_at_above (2 ^ 64 - 1) 64 (64 - n + (r - s)) (omega arith) (omega arith)
 
--- a number with the n lowest digits of another in place of its own from digit s on
+-- a number with its digits from s on replaced by the n lowest digits of another
 abbrev pub mixed : ℕ → ℕ → ℕ → ℕ → ℕ
 mixed x s n w = bit_or (bit_and x (bit_not w64 (ones_from s n)))
     (bit_and (w * 2 ^ s % 2 ^ 64) (ones_from s n))
@@ -58,7 +58,7 @@ mixed_digit x s n w r l =
     ∙ ap (min (bit_at x r)) (bit_at_not w64 m r small l))
     ∙ ap (max (min (bit_at x r) (1 - bit_at m r))) (bit_at_and y m r)
 
--- its digits there, and the others
+-- the digits of the mixed number: those from s on, and the others
 pub mixed_inside : (x s n w : ℕ) → s + n ≤ 64 → digits (mixed x s n w) s n ≡ digits w 0 n
 mixed_inside x s n w within =
     let m : ℕ = ones_from s n in
@@ -86,7 +86,8 @@ mixed_outside x s n w r within l h =
     ≡ bit_at x r = omega (arith, low x r) in
     ap (λ z. eqb z 1) (mixed_digit x s n w r l ∙ here)
 
--- some digits of a number that is written are the lowest ones of another, the others as they were
+-- some digits of a number that is written are the lowest ones of another, and the others are
+-- unchanged
 pub Writes_digits : (b c : List ℕ) (o s n z x v w : ℕ) → s + n ≤ z → digits x 0 z ≡ bits b o z
     → digits v s n ≡ digits w 0 n
     → ((r : ℕ) → r < z → (r < s) ⊎ (s + n ≤ r) → has_bit v r ≡ has_bit x r)
@@ -117,11 +118,11 @@ Writes_digits b c o s n z x v w within read inside outside written =
     ])
 
 -- ---- a number written to at most eight bytes
--- the digits that a mask leaves
+-- the digits under a mask
 digits_under : (w k : ℕ) → digits (bit_and w (2 ^ k - 1)) 0 k ≡ digits w 0 k
 digits_under w k = ap (λ x. digits x 0 k) (and_mask w k) ∙ digits_cut w k
 
--- to the first k of n bytes and to the last k
+-- a number written to the first k of n bytes and to the last k
 pub Writes_ends : (b c d : List ℕ) (k n w : ℕ) → k ≤ n → n ≤ 2 * k
     → Writes b c 0 (digits (bit_and w (2 ^ (8 * k) - 1)) 0 (8 * k))
     → Writes c d (8 * (n - k))
@@ -153,7 +154,7 @@ Writes_ends b c d k n w from to one two =
     (λ i h. two.others i (elim h [ inl low ↦ inl (omega arith) | inr high ↦ inr (omega arith) ])
     ∙ one.others i (elim h [ inl low ↦ inl low | inr high ↦ inr (omega arith) ]))
 
--- to one byte
+-- a number written to one byte
 pub Writes_one : (b : List ℕ) (w : ℕ) → length b ≡ 1
     → Writes b (set b 0 (bit_and w 255)) 0 (digits w 0 (8 * length b))
 Writes_one b w one =

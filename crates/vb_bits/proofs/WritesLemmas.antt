@@ -1,5 +1,4 @@
--- Writes of bits: a run of bytes, a word, one write after another, and what a write makes of a
--- window.
+-- Writes of bits: runs of bytes, words, successive writes, and the window after a write.
 use Rattle.std.proofs.Common.{◌≡◌, ◌⊎◌, inl, inr, ℕ, zero, suc, ◌+◌, ◌-◌, ◌*◌, ◌/◌, ◌%◌, ◌^◌, ◌<◌}
 use Rattle.std.proofs.Common.{◌≤◌, Bool, true, false, not, List, [], ◌∷◌, ◌++◌, length, get_or, set}
 use Rattle.std.proofs.Common.{take, drop, replicate, refl, sym, ap, subst, ◌∙◌, arith, rules}
@@ -27,11 +26,11 @@ use Rattle.vb_bits.proofs.WrittenLemmas.{Written-add}
 use Rattle.vb_bits.proofs.WindowLemmas.{bits-append, bit_of-append, bit_of-extension}
 
 -- ---- writes by their bits
--- bits stand one behind the other in bytes
+-- the bits of bytes in order
 pub bits_windowed : IsWindowed bit_of bits
 bits_windowed = record { len = length-bits; at = at-bits }
 
--- a write, without what it says of the number of bytes, and with it
+-- a write, with and without the number of bytes
 pub Written_of : {b c : List ℕ} {o : ℕ} {m : List Bool}
     → Writes b c o m → Written bit_of bits b c o m
 Written_of w = record { window_is = w.window; others = w.others }
@@ -40,7 +39,7 @@ pub Writes_of : {b c : List ℕ} {o : ℕ} {m : List Bool} → length c ≡ leng
     → Written bit_of bits b c o m → Writes b c o m
 Writes_of same w = record { same_len = same; window = w.window_is; others = w.others }
 
--- a write, said bit by bit
+-- a write, given bit by bit
 pub Writes_by_bits : (b c : List ℕ) (o : ℕ) (m : List Bool) → length c ≡ length b
     → ((i : ℕ) (d : Bool) → i < length m → bit_of c (o + i) ≡ get_or m i d)
     → ((i : ℕ) → (i < o) ⊎ (o + length m ≤ i) → bit_of c i ≡ bit_of b i) → Writes b c o m
@@ -56,7 +55,7 @@ Writes-at b c o i m d w l = Written-at bit_of bits bits_windowed b c o i m d (Wr
 pub Writes_none : (b : List ℕ) (o : ℕ) (m : List Bool) → length m ≡ 0 → Writes b b o m
 Writes_none b o m e = Writes_by_bits b b o m refl (λ i d l. absurd (omega arith)) (λ i h. refl)
 
--- two writes, the second right behind the first, are one
+-- two adjacent writes are one
 pub Writes-add : (b c d : List ℕ) (o p : ℕ) (l m : List Bool) → p ≡ o + length l
     → Writes b c o l → Writes c d p m → Writes b d o (l ++ m)
 Writes-add b c d o p l m at one two =
@@ -108,7 +107,7 @@ pub get_or-put_mid_outside : (a k : ℕ) (xs ys : List ℕ) (j : ℕ) → length
 get_or-put_mid_outside a k xs ys j long within (inl h) = search (rules, places)
 get_or-put_mid_outside a k xs ys j long within (inr h) = search (rules, places)
 
--- as many bytes
+-- the number of bytes is unchanged
 pub length-put_mid : (a k : ℕ) (xs ys : List ℕ)
     → length ys ≡ k → a + k ≤ length xs → length (put_mid a k xs ys) ≡ length xs
 length-put_mid a k xs ys long within = search (rules, places)
@@ -152,8 +151,8 @@ Writes_not_word b c a w small read written =
     (omega arith)) ∙ bits_of_read b b (to_le_bytes w64 w) a 8 (8 * a) refl read refl))
     written
 
--- ---- what a write makes of a window of the bytes
--- a part inside
+-- ---- a window of the bytes after a write
+-- a part inside the window
 pub bits-with_part : (b c : List ℕ) (o n i : ℕ) (m : List Bool)
     → Writes b c (o + i) m → i + length m ≤ n → bits c o n ≡ with_part (bits b o n) i m
 bits-with_part b c o n i m w h =
@@ -172,7 +171,7 @@ bits-with_part b c o n i m w h =
     ∙ ap (λ x. take i (bits b o n) ++ x) w.window)
     ∙ ap (λ x. take i (bits b o n) ++ m ++ x) back
 
--- one bit inside
+-- one bit inside the window
 pub bits-set : (b c : List ℕ) (o n i : ℕ) (v : Bool)
     → Writes b c (o + i) (v ∷ []) → i < n → bits c o n ≡ set (bits b o n) i v
 bits-set b c o n i v w h =
@@ -182,7 +181,7 @@ bits-set b c o n i v w h =
     (v ∷ []) (drop (i + 1) l) ∙ ap (λ x. take i l ++ v ∷ drop x l) next
     ∙ sym (set_split l i v (omega (arith, length-bits b o n)))
 
--- a run inside
+-- a run inside the window
 pub bits-with_fill : (b c : List ℕ) (o n i j : ℕ) (v : Bool)
     → Writes b c (o + i) (replicate (j - i) v)
     → i ≤ j → j ≤ n → bits c o n ≡ with_fill (bits b o n) i j v
@@ -195,15 +194,15 @@ pub bits-complement : (b c : List ℕ) (o n : ℕ)
 bits-complement b c o n w =
     ap (bits c o) (sym (length-map (bits b o n) not ∙ length-bits b o n)) ∙ w.window
 
--- ---- bytes that are lengthened
--- a write in the bytes that are there
+-- ---- extended bytes
+-- a write within the old bytes
 pub Writes-extension : (b c : List ℕ) (o : ℕ) (m : List Bool)
     → Writes b c o m → Writes (extension b c) c o m
 Writes-extension b c o m w =
     let none : drop (length b) c ≡ [] = drop_all (length b) c (omega (arith, w.same_len)) in
     subst (λ (x : List ℕ). Writes x c o m) (sym (ap (λ x. b ++ x) none ∙ append-nil b)) w
 
--- the bits behind the first o are m, and m ends in the bytes that are new
+-- the bits after the first o are m, and m ends in the new bytes
 pub Writes_behind : (b c : List ℕ) (o : ℕ) (m : List Bool) → length b ≤ length c
     → o ≤ 8 * length b → 8 * length b ≤ o + length m → ((i : ℕ) → i < o → bit_of c i ≡ bit_of b i)
     → ((i : ℕ) (d : Bool) → i < length m → bit_of c (o + i) ≡ get_or m i d)
@@ -216,7 +215,7 @@ Writes_behind b c o m more low high kept inside =
       | inr after ↦ sym (bit_of-extension b c i (omega arith))
     ])
 
--- a bit of bytes that were added, whose digits are all v
+-- a bit of appended bytes whose digits are all v
 bit_of_added : (b : List ℕ) (k y i : ℕ) (v : Bool) → ((j : ℕ) → j < 8 → has_bit y j ≡ v)
     → 8 * length b ≤ i → i < 8 * (length b + k) → bit_of (b ++ replicate k y) i ≡ v
 bit_of_added b k y i v h low high =
@@ -224,7 +223,7 @@ bit_of_added b k y i v h low high =
     (i / 8) 0 refl (omega arith) ∙ get_or-replicate k (i / 8 - length b) y 0 (omega arith))
     ∙ h (i % 8) (omega arith)
 
--- a byte is added whose lowest digit is v
+-- an appended byte whose lowest digit is v
 pub Writes_push : (b c : List ℕ) (o y : ℕ) (v : Bool)
     → c ≡ b ++ y ∷ [] → y ≡ from_bool v → o ≡ 8 * length b → Writes (extension b c) c o (v ∷ [])
 Writes_push b c o y v e f at =
@@ -247,7 +246,7 @@ Writes_push b c o y v e f at =
     first w e zero d l = ap (bit_of c) (add-zero o) ∙ e
     first w e (suc i) d l = absurd (omega arith)
 
--- bytes are added whose digits are all v, and the bits up to them are written
+-- appended bytes whose digits are all v, and the bits up to them written
 pub Writes_push_run : (b with_more c : List ℕ) (o n k y e : ℕ) (v : Bool)
     → with_more ≡ b ++ replicate k y → ((j : ℕ) → j < 8 → has_bit y j ≡ v) → e ≡ 8 * length b
     → o ≤ e → e ≤ o + n → o + n ≤ 8 * (length b + k)
@@ -269,7 +268,7 @@ Writes_push_run b with_more c o n k y e v more h whole low high fits w =
     ]
     ∙ sym (get_or-replicate n i v d (omega arith)))
 
--- a window that is lengthened by what was written behind it
+-- a window extended by the bits written after it
 pub bits_behind : (b c : List ℕ) (o n : ℕ) (m : List Bool) → Writes (extension b c) c (o + n) m
     → o + n ≤ 8 * length b → bits c o (n + length m) ≡ bits b o n ++ m
 bits_behind b c o n m w h =
@@ -278,19 +277,19 @@ bits_behind b c o n m w h =
     (λ i l. w.others (o + i) (inl (omega arith))) ∙ bits-append b (drop (length b) c) o n h)
     ∙ ap (λ x. bits b o n ++ x) w.window
 
--- by one bit
+-- a window extended by one bit
 pub bits-pushed : (b c : List ℕ) (o n : ℕ) (v : Bool) → Writes (extension b c) c (o + n) (v ∷ [])
     → o + n ≤ 8 * length b → bits c o (n + 1) ≡ bits b o n ++ v ∷ []
 bits-pushed b c o n v w h = bits_behind b c o n (v ∷ []) w h
 
--- by a run
+-- a window extended by a run
 pub bits-extended : (b c : List ℕ) (o n k : ℕ) (v : Bool) → Writes (extension b c) c
     (o + n) (replicate k v) → o + n ≤ 8 * length b → bits c o (n + k) ≡ bits b o n ++ replicate k v
 bits-extended b c o n k v w h = ap (λ x. bits c o (n + x)) (sym (length-replicate k v))
     ∙ bits_behind b c o n (replicate k v) w h
 
 -- ---- for `#[tactic(auto, using(..))]`
--- what writes make of windows, and of bytes that are lengthened
+-- windows after writes, and of extended bytes
 pub ruleset writes = (
   bits-set,
   bits-with_fill,

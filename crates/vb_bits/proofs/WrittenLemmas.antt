@@ -1,4 +1,4 @@
--- Writes of truth values that stand one behind the other, as bits do in bytes and digits in words.
+-- Writes of truth values in order, as bits in bytes and digits in words.
 use Rattle.std.proofs.Common.{◌≡◌, ℕ, ◌+◌, ◌-◌, ◌<◌, ◌≤◌, ◌⊎◌, inl, inr, Bool, List, ◌++◌}
 use Rattle.std.proofs.Common.{length, get_or, refl, sym, ap, subst, ◌∙◌, arith}
 use Rattle.std.proofs.lemmas.Bool.{cases_lt}
@@ -11,7 +11,7 @@ pub record IsWindowed {B : Type 0} (value : B → ℕ → Bool) (window : B → 
   pub len : (b : B) (o n : ℕ) → length (window b o n) ≡ n
   pub at : (b : B) (o n i : ℕ) (d : Bool) → i < n → get_or (window b o n) i d ≡ value b (o + i)
 
--- the window from value o on is the list m, and every other value is as before
+-- the window from value o on is the list m, and every other value is unchanged
 pub record Written {B : Type 0} (value : B → ℕ → Bool) (window : B → ℕ → ℕ → List Bool)
     (old new : B) (o : ℕ) (m : List Bool) : Type 0 where
   pub window_is : window new o (length m) ≡ m
@@ -19,7 +19,7 @@ pub record Written {B : Type 0} (value : B → ℕ → Bool) (window : B → ℕ
 
 module _ {B : Type 0} (value : B → ℕ → Bool) (window : B → ℕ → ℕ → List Bool)
     (windowed : IsWindowed value window) where
-  -- a write, said value by value
+  -- a write, given value by value
   pub Written_by_values : (b c : B) (o : ℕ) (m : List Bool)
       → ((i : ℕ) (d : Bool) → i < length m → value c (o + i) ≡ get_or m i d)
       → ((i : ℕ) → (i < o) ⊎ (o + length m ≤ i) → value c i ≡ value b i)
@@ -38,7 +38,7 @@ module _ {B : Type 0} (value : B → ℕ → Bool) (window : B → ℕ → ℕ �
   Written-at b c o i m d w h =
       sym (windowed.at c o (length m) i d h) ∙ ap (λ l. get_or l i d) w.window_is
 
-  -- two writes, the second right behind the first, are one
+  -- two adjacent writes are one
   pub Written-add : (b c d : B) (o p : ℕ) (l m : List Bool) → p ≡ o + length l
       → Written value window b c o l → Written value window c d p m
       → Written value window b d o (l ++ m)
@@ -59,7 +59,7 @@ module _ {B : Type 0} (value : B → ℕ → Bool) (window : B → ℕ → ℕ �
       two.others i (elim h [ inl low ↦ inl (omega arith) | inr high ↦ inr (omega arith) ])
       ∙ one.others i (elim h [ inl low ↦ inl low | inr high ↦ inr (omega arith) ]))
 
-  -- the front of what was written
+  -- the front of a written list
   pub Written-front : (b c : B) (o n : ℕ) (l m : List Bool) → Written value window b c o (l ++ m)
       → n ≡ length l → window c o n ≡ l
   Written-front b c o n l m w e =
@@ -70,7 +70,7 @@ module _ {B : Type 0} (value : B → ℕ → Bool) (window : B → ℕ → ℕ �
       windowed.at c o n i d inside ∙ Written-at b c o i (l ++ m) d w whole
       ∙ get_or_append_left l m d i (omega arith))
 
-  -- a window, and what is written behind it
+  -- a window, and the list written after it
   pub Written-more : (b c d : B) (o p m k : ℕ) (l : List Bool) → p ≡ o + m → k ≡ m + length l
       → Written value window b c o (window c o m) → Written value window c d p l
       → (window d o k ≡ window c o m ++ l) × Written value window b d o (window d o k)
@@ -82,7 +82,7 @@ module _ {B : Type 0} (value : B → ℕ → Bool) (window : B → ℕ → ℕ �
       let is : window d o k ≡ front ++ l = ap (window d o) (sym size) ∙ both.window_is in
       (is, subst (Written value window b d o) (sym is) both)
 
-  -- the same where one more list was written behind
+  -- the same if one more list is written after it
   pub Written-ended : (b c d : B) (o p m n : ℕ) (l more : List Bool) → p ≡ o + m
       → n ≡ m + length l → Written value window b c o (window c o m)
       → Written value window c d p (l ++ more)

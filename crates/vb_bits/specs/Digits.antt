@@ -11,10 +11,10 @@ has_bit w i = bit_at w i == 1
 unfoldable pub digits : ℕ → ℕ → ℕ → List Bool
 digits w a k = map (has_bit w) (range_with_len a k)
 
--- digit i of words of 64 digits, one behind the other
+-- digit i of words of 64 digits, one after the other
 abbrev pub lane_bit : List ℕ → ℕ → Bool
 lane_bit words i = has_bit (slice_index words (i / 64)) (i % 64)
 
--- the digits of four words, one behind the other
+-- the digits of four words, one after the other
 unfoldable pub lane_bits : List ℕ → List Bool
 lane_bits words = map (lane_bit words) (range_with_len 0 256)

@@ -1,4 +1,4 @@
--- Values that a mask keeps.
+-- Values selected by a mask.
 use Rattle.std.specs.Prelude.{Bool, true, false, List, [], ◌∷◌}
 
 -- the values whose bit is true

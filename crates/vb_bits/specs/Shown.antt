@@ -7,12 +7,12 @@ use Rattle.std.specs.List.{flat_map}
 abbrev pub truth_word : Bool → List ℕ
 truth_word b = if b then codes "true" else codes "false"
 
--- truth values as words, with a comma and a space between two
+-- truth values as words, separated by a comma and a space
 abbrev pub truth_words : List Bool → List ℕ
 truth_words [] = []
 truth_words (b ∷ bs) = truth_word b ++ flat_map (λ c. codes ", " ++ truth_word c) bs
 
--- how many truth values there are, and the first 16 of them
+-- the number of truth values, and the first 16 of them
 unfoldable pub bits_text : List Bool → List ℕ
 bits_text l =
     codes "BitBuffer { len: " ++ decimal (length l)

@@ -3,7 +3,7 @@ ghost use Rattle.std.specs.Prelude.{◌≡◌, ◌/◌, ◌<◌, true, false, []
 ghost use Rattle.vb_bits.specs.Bits.{bit_of};
 ghost use Rattle.vb_bits.specs.Writes.{Writes};
 
-/// Bit `i`, which has to lie in the bytes.
+/// Returns bit `i`. The caller must prove that its byte is in bounds.
 pub fn get_bit(buf: &[u8], i: usize) -> bool
     requires { i / 8 < length buf.now }
     ensures { result ≡ bit_of buf.now i }
@@ -11,9 +11,9 @@ pub fn get_bit(buf: &[u8], i: usize) -> bool
     (buf[i / 8] >> (i % 8)) & 1 == 1
 }
 
-/// Bit `i`: [`get_bit`] under the name that callers of the unchecked form use.
+/// Returns bit `i`. The caller must prove that its byte is in bounds.
 ///
-/// Neither call tests `i` when it runs, since each caller has proved that its byte is there.
+/// This is [`get_bit`] under the name of the unchecked form. Neither call tests `i` at run time.
 pub fn get_bit_unchecked(buf: &[u8], i: usize) -> bool
     requires { i / 8 < length buf.now }
     ensures { result ≡ bit_of buf.now i }
@@ -21,7 +21,8 @@ pub fn get_bit_unchecked(buf: &[u8], i: usize) -> bool
     get_bit(buf, i)
 }
 
-/// Makes bit `i`, which has to lie in the bytes, true and leaves every other bit.
+/// Sets bit `i` and leaves every other bit unchanged. The caller must prove that its byte is in
+/// bounds.
 pub fn set_bit_unchecked(buf: &mut [u8], i: usize)
     requires { i / 8 < length buf.old }
     ensures { Writes buf.old buf.new i (true ∷ []) }
@@ -29,7 +30,8 @@ pub fn set_bit_unchecked(buf: &mut [u8], i: usize)
     buf[i / 8] |= 1 << (i % 8);
 }
 
-/// Makes bit `i`, which has to lie in the bytes, false and leaves every other bit.
+/// Clears bit `i` and leaves every other bit unchanged. The caller must prove that its byte is in
+/// bounds.
 pub fn unset_bit_unchecked(buf: &mut [u8], i: usize)
     requires { i / 8 < length buf.old }
     ensures { Writes buf.old buf.new i (false ∷ []) }
@@ -37,13 +39,13 @@ pub fn unset_bit_unchecked(buf: &mut [u8], i: usize)
     buf[i / 8] &= !(1 << (i % 8));
 }
 
-/// Makes bit `i`, which has to lie in the bytes, `v` and leaves every other bit, without a branch
-/// on `v`.
+/// Sets bit `i` to `v`, without a branch on `v`, and leaves every other bit unchanged. The caller
+/// must prove that its byte is in bounds.
 pub fn set_bit_to(buf: &mut [u8], i: usize, v: bool)
     requires { i / 8 < length buf.old }
     ensures { Writes buf.old buf.new i (v ∷ []) }
 {
     let others = buf[i / 8] & !(1 << (i % 8));
-    // A digit is turned to its place as a shift would put it, in fewer instructions.
+    // The rotation moves the digit to the same index as a shift, in fewer instructions.
     buf[i / 8] = others | u8::from(v).rotate_left((i % 8) as u32);
 }

@@ -1,4 +1,4 @@
-//! Many bytes of a slice read or written at once, and masks of one byte.
+//! Reads and writes of several bytes of a slice at once, and masks of one byte.
 ghost use Rattle.std.specs.Prelude.{◌≡◌, ◌+◌, ◌-◌, ◌*◌, ◌^◌, ◌≤◌, length, slice_range};
 ghost use Rattle.std.specs.Int.{w16, w32, w64, to_le_bytes};
 ghost use Rattle.vb_bits.specs.Digits.{digits};
@@ -6,7 +6,8 @@ ghost use Rattle.vb_bits.specs.Writes.{Writes};
 
 use std::simd::prelude::*;
 
-/// The 64 bytes from `at` on, by one load of a vector.
+/// Returns the 64 bytes from index `at` on, by one vector load. The caller must prove that they are
+/// in bounds.
 pub fn chunk_at(bytes: &[u8], at: usize) -> [u8; 64]
     requires { at + 64 ≤ length bytes.now }
     ensures { result ≡ slice_range bytes.now at (at + 64) }
@@ -14,9 +15,10 @@ pub fn chunk_at(bytes: &[u8], at: usize) -> [u8; 64]
     u8x64::from_slice(&bytes[at..at + 64]).to_array()
 }
 
-/// The eight bytes from `at` on, least significant first.
+/// Returns the eight bytes from index `at` on as a number, least significant byte first. The caller
+/// must prove that they are in bounds.
 ///
-/// A vector of eight bytes, since a slice turned into an array would leave a test of its length.
+/// It loads a vector of eight bytes, since turning a slice into an array would leave a length test.
 pub fn word_at(bytes: &[u8], at: usize) -> u64
     requires { at + 8 ≤ length bytes.now }
     ensures { to_le_bytes w64 result ≡ slice_range bytes.now at (at + 8) }
@@ -24,7 +26,7 @@ pub fn word_at(bytes: &[u8], at: usize) -> u64
     u64::from_le_bytes(u8x8::from_slice(&bytes[at..at + 8]).to_array())
 }
 
-/// The four bytes from `at` on, least significant first.
+/// Returns the four bytes from index `at` on as a number, least significant byte first.
 #[inline(always)]
 pub(crate) fn four_at(bytes: &[u8], at: usize) -> u32
     requires { at + 4 ≤ length bytes.now }
@@ -33,7 +35,7 @@ pub(crate) fn four_at(bytes: &[u8], at: usize) -> u32
     u32::from_le_bytes(u8x4::from_slice(&bytes[at..at + 4]).to_array())
 }
 
-/// The two bytes from `at` on, least significant first.
+/// Returns the two bytes from index `at` on as a number, least significant byte first.
 #[inline(always)]
 pub(crate) fn two_at(bytes: &[u8], at: usize) -> u16
     requires { at + 2 ≤ length bytes.now }
@@ -42,9 +44,10 @@ pub(crate) fn two_at(bytes: &[u8], at: usize) -> u16
     u16::from_le_bytes(u8x2::from_slice(&bytes[at..at + 2]).to_array())
 }
 
-/// Writes `word` into the eight bytes from `at` on, least significant first.
+/// Writes `word` into the eight bytes from index `at` on, least significant byte first. The caller
+/// must prove that they are in bounds.
 ///
-/// They go as a vector too: of an array the toolchain's own compiler makes a copy that first tests
+/// It stores a vector: from an array the toolchain's own compiler makes a copy that first tests
 /// whether the two overlap.
 pub fn write_word(bytes: &mut [u8], at: usize, word: u64)
     requires { at + 8 ≤ length bytes.old }
@@ -53,7 +56,7 @@ pub fn write_word(bytes: &mut [u8], at: usize, word: u64)
     u8x8::from_array(word.to_le_bytes()).copy_to_slice(&mut bytes[at..at + 8]);
 }
 
-/// Writes `word` into the four bytes from `at` on, least significant first.
+/// Writes `word` into the four bytes from index `at` on, least significant byte first.
 #[inline(always)]
 pub(crate) fn write_four(bytes: &mut [u8], at: usize, word: u32)
     requires { at + 4 ≤ length bytes.old }
@@ -62,7 +65,7 @@ pub(crate) fn write_four(bytes: &mut [u8], at: usize, word: u32)
     u8x4::from_array(word.to_le_bytes()).copy_to_slice(&mut bytes[at..at + 4]);
 }
 
-/// Writes `word` into the two bytes from `at` on, least significant first.
+/// Writes `word` into the two bytes from index `at` on, least significant byte first.
 #[inline(always)]
 pub(crate) fn write_two(bytes: &mut [u8], at: usize, word: u16)
     requires { at + 2 ≤ length bytes.old }
@@ -71,7 +74,7 @@ pub(crate) fn write_two(bytes: &mut [u8], at: usize, word: u16)
     u8x2::from_array(word.to_le_bytes()).copy_to_slice(&mut bytes[at..at + 2]);
 }
 
-/// Ones in the digits from `from` up to `to`, `to` excluded.
+/// Returns a byte with ones in the digits `from..to`.
 pub(crate) fn byte_mask(from: usize, to: usize) -> u8
     requires ordered { from ≤ to }
     requires in_byte { to ≤ 8 }

@@ -1,4 +1,4 @@
-//! Windows copied.
+//! Copies of windows.
 ghost use Rattle.vb_bits.specs.Bits.{bits};
 ghost use Rattle.vb_bits.specs.InBytes.{InBytes};
 ghost use Rattle.vb_bits.specs.Writes.{Writes};
@@ -7,9 +7,10 @@ use crate::merge::merge_bits;
 use crate::operator::Right;
 
 /// Copies the `len` bits of `src` from bit `s` on to the bits of `dst` from bit `d` on, and leaves
-/// every other bit of `dst`. Each window has to lie in its bytes, and to end below 2^64.
+/// every other bit of `dst` unchanged. The caller must prove that both windows are in bounds, and
+/// that `d + len` and `s + len` fit in a `usize`.
 ///
-/// It goes by words of 64 bits, four at a time, whatever the two offsets are.
+/// It processes words of 64 bits, four at a time, at any two offsets.
 pub fn copy_bits(dst: &mut [u8], d: usize, src: &[u8], s: usize, len: usize)
     requires into { InBytes dst.old d len }
     requires from { InBytes src.now s len }

@@ -1,4 +1,4 @@
-//! Windows compared.
+//! Comparison of windows.
 ghost use Rattle.std.specs.Prelude.{◌≡◌, ◌+◌, ◌*◌, ◌%◌, ◌^◌, ◌<◌, ◌≤◌, ◌↔◌, length, IsTrue};
 ghost use Rattle.vb_bits.specs.Bits.{bits};
 ghost use Rattle.vb_bits.specs.InBytes.{InBytes};
@@ -7,15 +7,17 @@ use crate::bytes::word_at;
 use crate::read::{read_bits, read_in_eight, shifted_word};
 use crate::word::low_digits;
 
-/// How many words are compared before it is seen whether they differ: a vector loop has no way out.
+/// The number of words that are compared before a test for a difference: a vector loop can't exit
+/// early.
 const BLOCK_WORDS: usize = 64;
 
-/// Whether the `len` bits of `left` from bit `l` on are those of `right` from bit `r` on. Each
-/// window has to lie in its bytes, and to end below 2^64.
+/// Returns whether the `len` bits of `left` from bit `l` on equal those of `right` from bit `r` on.
+/// The caller must prove that both windows are in bounds, and that `l + len` and `r + len` fit in a
+/// `usize`.
 ///
-/// The bits up to a word of `left` are compared as one number, and so are the last 64; the words
-/// between go by blocks, which begin with a cache line of `left` where `left` begins with one. No
-/// block behind the first difference is read.
+/// It compares the bits up to a word boundary of `left` as one number, and the last 64 bits as
+/// another. It compares the words between in blocks of 512 bytes, which start at a cache line of
+/// `left` if `left` starts at one. It reads no block after the first one that differs.
 pub fn equal_bits(left: &[u8], l: usize, right: &[u8], r: usize, len: usize) -> bool
     requires left { InBytes left.now l len }
     requires right { InBytes right.now r len }
@@ -53,7 +55,7 @@ fn equal_few(left: &[u8], l: usize, right: &[u8], r: usize, len: usize) -> bool
     read_bits(left, l, len) == read_bits(right, r, len)
 }
 
-/// [`equal_few`] where each of the two has at least eight bytes.
+/// [`equal_few`] for slices of at least eight bytes each.
 #[inline(always)]
 fn equal_in_eight(left: &[u8], l: usize, right: &[u8], r: usize, len: usize) -> bool
     requires in_word { len ≤ 64 }
@@ -66,8 +68,8 @@ fn equal_in_eight(left: &[u8], l: usize, right: &[u8], r: usize, len: usize) -> 
     low_digits(read_in_eight(left, l, len), len) == low_digits(read_in_eight(right, r, len), len)
 }
 
-/// [`equal_bits`] of `n` words of `left` from byte `a` on: those up to a multiple of 64 bytes,
-/// blocks, and those that are left.
+/// [`equal_bits`] of the `n` words from byte `a` of `left` on. It compares the words up to a
+/// multiple of 64 bytes, then whole blocks, then the remaining words.
 fn equal_words(left: &[u8], a: usize, right: &[u8], r: usize, n: usize) -> bool
     requires left_inside { a + 8 * n ≤ length left.now }
     requires right { InBytes right.now r (64 * n) }
@@ -81,7 +83,7 @@ fn equal_words(left: &[u8], a: usize, right: &[u8], r: usize, n: usize) -> bool
         && differing_digits(left, a + 8 * done, right, r + 64 * done, n - done) == 0
 }
 
-/// [`equal_bits`] of `n` blocks of `left` from byte `a` on.
+/// [`equal_bits`] of the `n` blocks from byte `a` of `left` on.
 fn equal_blocks(left: &[u8], a: usize, right: &[u8], r: usize, n: usize) -> bool
     requires left_inside { a + 8 * (BLOCK_WORDS * n) ≤ length left.now }
     requires right { InBytes right.now r (64 * (BLOCK_WORDS * n)) }
@@ -97,8 +99,8 @@ fn equal_blocks(left: &[u8], a: usize, right: &[u8], r: usize, n: usize) -> bool
     true
 }
 
-/// The digits that differ in one of the `n` words of `left` from byte `a` on, and of `right` from
-/// bit `r` on.
+/// Returns 0 exactly if the `n` words of `left` from byte `a` on equal those of `right` from bit
+/// `r` on. Otherwise the result has the digits in which some pair of words differs.
 #[inline(always)]
 fn differing_digits(left: &[u8], a: usize, right: &[u8], r: usize, n: usize) -> u64
     requires left_inside { a + 8 * n ≤ length left.now }
@@ -112,7 +114,7 @@ fn differing_digits(left: &[u8], a: usize, right: &[u8], r: usize, n: usize) -> 
     }
 }
 
-/// [`differing_digits`] where the words of both begin with a byte.
+/// [`differing_digits`] if the words of both start at a byte.
 #[inline(always)]
 fn differing_whole(left: &[u8], a: usize, right: &[u8], b: usize, n: usize) -> u64
     requires left_inside { a + 8 * n ≤ length left.now }
@@ -126,7 +128,7 @@ fn differing_whole(left: &[u8], a: usize, right: &[u8], b: usize, n: usize) -> u
     differing
 }
 
-/// [`differing_digits`] where the words of `right` begin within a byte.
+/// [`differing_digits`] if the words of `right` start within a byte.
 #[inline(always)]
 fn differing_shifted(left: &[u8], a: usize, right: &[u8], r: usize, n: usize) -> u64
     requires part { 0 < r % 8 }

@@ -1,4 +1,4 @@
-//! A window of at most 64 bits combined with one of other bytes: by one word, and a ninth byte.
+//! Combines windows of at most 64 bits, by one word and a ninth byte.
 ghost use Rattle.std.specs.Prelude.{ℕ, ◌≡◌, ◌+◌, ◌*◌, ◌%◌, ◌^◌, ◌<◌, ◌≤◌, length};
 ghost use Rattle.vb_bits.specs.Bits.{bits};
 ghost use Rattle.vb_bits.specs.Digits.{digits};
@@ -12,8 +12,8 @@ use crate::read::{read_shifted, read_u64_le};
 use crate::word::with_digits;
 use crate::write::{write_in_byte, write_in_word, write_u64_le};
 
-/// Combines each of the `len` bits of `dst` from bit `d` on, at most 64, with that of `src` from
-/// bit `s` on, and leaves every other bit of `dst`.
+/// Combines the `len` bits of `dst` from bit `d` on, at most 64, with the bits of `src` from bit
+/// `s` on, and leaves every other bit of `dst` unchanged.
 #[inline(never)]
 pub(crate) fn merge_few<M: Merge>(dst: &mut [u8], d: usize, src: &[u8], s: usize, len: usize)
     requires in_word { len ≤ 64 }
@@ -27,8 +27,8 @@ pub(crate) fn merge_few<M: Merge>(dst: &mut [u8], d: usize, src: &[u8], s: usize
     }
 }
 
-/// Combines each of the `count` bits of `dst` from bit `d` on with a digit of `right`, from the
-/// lowest one on, and leaves every other bit of `dst`.
+/// Combines the `count` bits of `dst` from bit `d` on with the lowest digits of `right`, and leaves
+/// every other bit of `dst` unchanged.
 #[inline(always)]
 pub(crate) fn merge_digits<M: Merge>(dst: &mut [u8], d: usize, count: usize, right: u64)
     requires some { 0 < count }
@@ -50,8 +50,8 @@ pub(crate) fn merge_digits<M: Merge>(dst: &mut [u8], d: usize, count: usize, rig
     }
 }
 
-/// [`merge_digits`] in one word, where there are at least eight bytes: in that which begins with
-/// the first of theirs, or in the last one.
+/// [`merge_digits`] within one word, for at least eight bytes: the word that starts at the byte of
+/// bit `d`, or the last word of `dst`.
 #[inline(always)]
 pub(crate) fn merge_in_eight<M: Merge>(dst: &mut [u8], d: usize, count: usize, right: u64)
     requires some { 0 < count }
@@ -65,7 +65,7 @@ pub(crate) fn merge_in_eight<M: Merge>(dst: &mut [u8], d: usize, count: usize, r
     merge_in_word::<M>(dst, first, d - 8 * first, count, right);
 }
 
-/// [`merge_digits`] from digit `from` of the word on that begins with byte `first`.
+/// [`merge_digits`] within the word that starts at byte `first`, from its digit `from` on.
 #[inline(always)]
 fn merge_in_word<M: Merge>(dst: &mut [u8], first: usize, from: usize, count: usize, right: u64)
     requires some { 0 < count }
@@ -78,7 +78,7 @@ fn merge_in_word<M: Merge>(dst: &mut [u8], first: usize, from: usize, count: usi
     write_in_word(dst, first, from, count, M::word(left, right));
 }
 
-/// [`merge_digits`] where there are at most eight bytes.
+/// [`merge_digits`] for at most eight bytes.
 #[inline(always)]
 fn merge_in_bytes<M: Merge>(dst: &mut [u8], d: usize, count: usize, right: u64)
     requires some { 0 < count }
@@ -91,7 +91,7 @@ fn merge_in_bytes<M: Merge>(dst: &mut [u8], d: usize, count: usize, right: u64)
     write_u64_le(dst, with_digits(old, d, count, M::word(old >> d, right)));
 }
 
-/// [`merge_digits`] from the first bit of byte `at` on, which has all of them.
+/// [`merge_digits`] of the lowest `count` bits of byte `at`.
 #[inline(always)]
 fn merge_in_byte<M: Merge>(dst: &mut [u8], at: usize, count: usize, right: u64)
     requires few { count ≤ 8 }

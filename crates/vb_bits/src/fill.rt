@@ -4,10 +4,10 @@ ghost use Rattle.vb_bits.specs.Writes.{Writes};
 
 use crate::bytes::byte_mask;
 
-/// Sets the bits from bit `start` up to bit `end`, `end` excluded, to `v`. No other bit changes.
-/// Where `start >= end`, no bit changes. `end` has to be at most the number of bits in `bytes`.
+/// Sets the bits `start..end` to `v`. No other bit changes, and none changes if `start >= end`. The
+/// caller must prove that `end` is at most the number of bits in `bytes`.
 ///
-/// The bits of a partial first and last byte go by a mask, the whole bytes between by one block
+/// It sets the bits of a partial first and last byte by a mask, and the whole bytes between by one
 /// fill.
 pub fn fill_bits(bytes: &mut [u8], start: usize, end: usize, v: bool)
     requires { end ≤ 8 * length bytes.old }
@@ -27,7 +27,7 @@ pub fn fill_bits(bytes: &mut [u8], start: usize, end: usize, v: bool)
     fill_in_byte(bytes, 8 * last, end, v);
 }
 
-/// [`fill_bits`] of bits that lie in one byte.
+/// [`fill_bits`] of bits within one byte.
 fn fill_in_byte(bytes: &mut [u8], start: usize, end: usize, v: bool)
     requires ordered { start ≤ end }
     requires in_byte { start % 8 + (end - start) ≤ 8 }
@@ -46,7 +46,7 @@ fn fill_in_byte(bytes: &mut [u8], start: usize, end: usize, v: bool)
     }
 }
 
-/// [`fill_bits`] of the bytes from `first` up to `last`, `last` excluded.
+/// [`fill_bits`] of the bytes `first..last`.
 fn fill_bytes(bytes: &mut [u8], first: usize, last: usize, v: bool)
     requires ordered { first ≤ last }
     requires inside { last ≤ length bytes.old }

@@ -1,4 +1,4 @@
-//! Two windows combined into a third one, in one pass.
+//! Combines two windows into a third one, in one pass.
 ghost use Rattle.std.specs.Prelude.{◌≡◌, ◌+◌, ◌*◌, ◌%◌, ◌^◌, ◌<◌, ◌≤◌, length};
 ghost use Rattle.vb_bits.specs.Bits.{bits};
 ghost use Rattle.vb_bits.specs.Digits.{lane_bits};
@@ -18,10 +18,10 @@ use std::simd::prelude::*;
 /// Replaces bit `o + i` of `out`, for each `i` below `len`, by `op` of bit `l + i` of `left` and
 /// bit `r + i` of `right`. No other bit of `out` changes.
 ///
-/// These bits have to lie in the three slices, and `o + len`, `l + len` and `r + len` have to fit
-/// in a `usize`.
+/// The caller must prove that the three windows are in bounds, and that `o + len`, `l + len` and
+/// `r + len` fit in a `usize`.
 ///
-/// It goes by words of 64 bits, four at a time, whatever the three offsets are.
+/// It processes words of 64 bits, four at a time, at any three offsets.
 #[inline(always)]
 pub fn zip_into(
     out: &mut [u8],
@@ -47,7 +47,7 @@ pub fn zip_into(
     }
 }
 
-/// [`zip_into`] by one operator.
+/// [`zip_into`] by the operator `M`.
 #[inline(always)]
 fn merge_into<M: Merge>(
     out: &mut [u8],
@@ -97,8 +97,8 @@ fn merge_few_into<M: Merge>(
     merge_digits::<Right>(out, o, len, M::word(first, second));
 }
 
-/// [`merge_into`] of more than 64 bits: those of a partial first byte of `out` by a mask, those
-/// behind it by words, and what is left by one word more.
+/// [`merge_into`] of more than 64 bits: the bits of a partial first byte of `out` by a mask, then
+/// whole words, then the rest by one more word.
 #[inline(never)]
 fn merge_many_into<M: Merge>(
     out: &mut [u8],
@@ -127,7 +127,7 @@ fn merge_many_into<M: Merge>(
     merge_rest_into::<M>(out, o + last, left, l + last, right, r + last, len - last);
 }
 
-/// [`merge_into`] of bits that lie in one byte of `out`.
+/// [`merge_into`] of bits within one byte of `out`.
 fn merge_byte_into<M: Merge>(
     out: &mut [u8],
     o: usize,
@@ -152,7 +152,7 @@ fn merge_byte_into<M: Merge>(
     write_in_byte(out, o, len, M::word(first, second));
 }
 
-/// [`merge_into`] of `n` times four words of `out`, which begin with a byte.
+/// [`merge_into`] of `n` times four words, which start at a byte of `out`.
 fn merge_blocks_into<M: Merge>(
     out: &mut [u8],
     o: usize,
@@ -176,7 +176,7 @@ fn merge_blocks_into<M: Merge>(
     }
 }
 
-/// The four words from bit `shift` of byte `first` on.
+/// Returns the four words from bit `shift` of byte `first` on.
 #[inline(always)]
 fn four_words(bytes: &[u8], first: usize, shift: usize) -> u64x4
     requires in_byte { shift < 8 }
@@ -191,7 +191,7 @@ fn four_words(bytes: &[u8], first: usize, shift: usize) -> u64x4
     }
 }
 
-/// [`merge_into`] of `n` words of `out`, fewer than four, which begin with a byte.
+/// [`merge_into`] of `n` words, fewer than four, which start at a byte of `out`.
 fn merge_words_into<M: Merge>(
     out: &mut [u8],
     o: usize,
@@ -223,7 +223,7 @@ fn merge_words_into<M: Merge>(
     merge_word_into::<M>(out, o + 128, left, l + 128, right, r + 128);
 }
 
-/// [`merge_words_into`] of one.
+/// [`merge_words_into`] of one word.
 #[inline(always)]
 fn merge_word_into<M: Merge>(
     out: &mut [u8],
@@ -245,8 +245,8 @@ fn merge_word_into<M: Merge>(
     write_word(out, o / 8, M::word(first, second));
 }
 
-/// [`merge_into`] of fewer than 64 bits, which begin with a byte of `out`, where each of the three
-/// has at least eight bytes.
+/// [`merge_into`] of at most 64 bits, which start at a byte of `out`, for slices of at least eight
+/// bytes each.
 fn merge_rest_into<M: Merge>(
     out: &mut [u8],
     o: usize,

@@ -1,4 +1,4 @@
-//! Four words at once, as a vector: the compiler that makes no vectors of loops has them too.
+//! Four words at once, as a vector, also for the compiler that makes no vectors of loops.
 ghost use Rattle.std.specs.Prelude.{◌≡◌, ◌+◌, ◌*◌, ◌^◌, ◌<◌, ◌≤◌, length};
 ghost use Rattle.std.specs.Simd.Lanes.{Each1};
 ghost use Rattle.vb_bits.specs.Bits.{bits};
@@ -7,7 +7,8 @@ ghost use Rattle.vb_bits.specs.Writes.{Writes};
 
 use std::simd::prelude::*;
 
-/// The four words from byte `at` on, least significant byte first, by one load of a vector.
+/// Returns the four words from byte `at` on, least significant byte first, by one vector load. The
+/// caller must prove that their 32 bytes are in bounds.
 #[inline(always)]
 pub fn words_at(bytes: &[u8], at: usize) -> u64x4
     requires { at + 32 ≤ length bytes.now }
@@ -18,8 +19,8 @@ pub fn words_at(bytes: &[u8], at: usize) -> u64x4
     words_of(&bytes[at..at + 32])
 }
 
-/// 32 bytes as four words. They are a slice, since a proof knows of a slice's bytes, and not of an
-/// array's, that they are below 256.
+/// Returns 32 bytes as four words. They are a slice, since a proof knows of a slice's bytes, but
+/// not of an array's, that they are below 256.
 #[inline(always)]
 fn words_of(bytes: &[u8]) -> u64x4
     requires { length bytes.now ≡ 32 }
@@ -30,8 +31,9 @@ fn words_of(bytes: &[u8]) -> u64x4
     u64x4::from_le_bytes(u8x32::from_slice(bytes))
 }
 
-/// The four words from bit `shift` of byte `first` on: the digits of the 32 bytes that begin there,
-/// and those of the 32 that begin a byte later, which have the missing ones.
+/// Returns the four words from bit `shift` of byte `first` on. It loads the 32 bytes from `first`
+/// on, and the 32 bytes that start one byte later for the digits that the shift lacks. The caller
+/// must prove that `shift` is 1 to 7 and that 33 bytes are in bounds.
 #[inline(always)]
 pub fn shifted_words(bytes: &[u8], first: usize, shift: usize) -> u64x4
     requires part { 0 < shift }
@@ -47,7 +49,7 @@ pub fn shifted_words(bytes: &[u8], first: usize, shift: usize) -> u64x4
 
 /// Writes four words into the 32 bytes from `at` on.
 ///
-/// The bytes go from the vector into the slice, since those of an array would be copied by a call.
+/// It stores the vector into the slice directly, since a call would copy the bytes of an array.
 #[inline(always)]
 pub(crate) fn write_words(bytes: &mut [u8], at: usize, words: u64x4)
     requires inside { at + 32 ≤ length bytes.old }

@@ -1,8 +1,8 @@
 //! Bits over slices of bytes, least significant first: bit `i` is digit `i % 8` of byte `i / 8`.
 //!
-//! A window is the `len` bits from bit `offset` on. It has to lie in the bytes, and its end has to
-//! be a `usize`; [`window_fits`] is the test. Every write says the same of the bytes: the window is
-//! as asked, and no other bit changes.
+//! A window is the `len` bits from bit `offset` on. The caller must prove that it is in bounds and
+//! that `offset + len` fits in a `usize`; [`window_fits`] tests both at run time. A call that
+//! writes changes only the bits of its window. No call allocates.
 #![tactic(auto)]
 
 mod bit;

@@ -1,4 +1,4 @@
-//! Windows negated.
+//! Negation of windows.
 ghost use Rattle.std.specs.Prelude.{ℕ, ◌+◌, ◌-◌, ◌*◌, ◌%◌, ◌^◌, ◌<◌, ◌≤◌, length};
 ghost use Rattle.vb_bits.specs.Bits.{bits, complement};
 ghost use Rattle.vb_bits.specs.InBytes.{InBytes};
@@ -8,11 +8,11 @@ use crate::bytes::{byte_mask, word_at, write_word};
 use crate::lanes::{words_at, write_words};
 use std::simd::prelude::*;
 
-/// Negates each of the `len` bits from bit `offset` on, and leaves every other bit. The window has
-/// to lie in the bytes, and to end below 2^64.
+/// Negates each of the `len` bits from bit `offset` on, and leaves every other bit unchanged. The
+/// caller must prove that the window is in bounds and that `offset + len` fits in a `usize`.
 ///
-/// The bits of a partial first and last byte go by a mask, the whole bytes between by words, four
-/// at a time where there are so many, and then by bytes.
+/// It negates the bits of a partial first and last byte by a mask, and the whole bytes between word
+/// by word, four at a time while there are four, and then byte by byte.
 pub fn map_words(bytes: &mut [u8], offset: usize, len: usize)
     requires window { InBytes bytes.old offset len }
     ensures { Writes bytes.old bytes.new offset (complement (bits bytes.old offset len)) }
@@ -31,7 +31,7 @@ pub fn map_words(bytes: &mut [u8], offset: usize, len: usize)
     negate_in_byte(bytes, 8 * last, end);
 }
 
-/// Negates the bits from `start` up to `end`, `end` excluded, which lie in one byte.
+/// Negates the bits `start..end`, which are in one byte.
 fn negate_in_byte(bytes: &mut [u8], start: usize, end: usize)
     requires ordered { start ≤ end }
     requires in_byte { start % 8 + (end - start) ≤ 8 }
@@ -45,7 +45,7 @@ fn negate_in_byte(bytes: &mut [u8], start: usize, end: usize)
     bytes[start / 8] ^= byte_mask(from, from + (end - start));
 }
 
-/// Negates `n` words from byte `at` on: four at a time, and those left.
+/// Negates `n` words from byte `at` on: four at a time, then the rest.
 fn negate_words(bytes: &mut [u8], at: usize, n: usize)
     requires { at + 8 * n ≤ length bytes.old }
     ensures { Writes bytes.old bytes.new (8 * at) (complement (bits bytes.old (8 * at) (64 * n))) }
@@ -70,8 +70,8 @@ fn negate_blocks(bytes: &mut [u8], at: usize, n: usize)
     }
 }
 
-/// Negates `n` words from byte `at` on, fewer than four, with no loop: of one over so few words the
-/// compiler makes vectors under a mask, which wait for what was just written.
+/// Negates `n` words from byte `at` on, fewer than four, without a loop. From a loop over so few
+/// words the compiler would make masked vectors, which wait for the stores just before.
 fn negate_few_words(bytes: &mut [u8], at: usize, n: usize)
     requires few { n < 4 }
     requires inside { at + 8 * n ≤ length bytes.old }
@@ -101,7 +101,7 @@ fn negate_word(bytes: &mut [u8], at: usize)
     write_word(bytes, at, !word);
 }
 
-/// Negates the bytes from `first` up to `last`, `last` excluded.
+/// Negates the bytes `first..last`.
 fn negate_bytes(bytes: &mut [u8], first: usize, last: usize)
     requires ordered { first ≤ last }
     requires inside { last ≤ length bytes.old }

@@ -1,4 +1,4 @@
-//! Bits made true at places.
+//! Sets bits at indices.
 ghost use Rattle.std.specs.Prelude.{◌≡◌, ◌*◌, ◌≤◌, length, IfErr, OnOk};
 ghost use Rattle.std.specs.Iterator.{IsFinite};
 ghost use Rattle.vb_bits.specs.Bits.{bits};
@@ -7,11 +7,12 @@ ghost use Rattle.vb_bits.specs.Writes.{Writes};
 
 use crate::bit::set_bit_unchecked;
 
-/// Makes bit `p` of `bytes` true for each `p` that `places` gives, which may come more than once.
-/// `Err` holds the first `p` that is not below `len`; the iterator is asked for nothing after it.
+/// Sets bit `p` of `bytes` for each `p` that `places` returns; an index may repeat. Returns
+/// `Err(p)` with the first `p` that isn't below `len`, and then stops polling.
 ///
-/// `bytes` has to have room for `len` bits, and the iterator has to end. On `Ok` no other bit
-/// changes. On `Err` the bits before bit `len` are unspecified, and those from it on are unchanged.
+/// The caller must prove that `bytes` has at least `len` bits, and that `places` can be polled and
+/// ends. On `Ok` no other bit changes. On `Err` the bits below `len` are unspecified, and the
+/// others are unchanged.
 pub fn set_bits_at<I: Iterator<Item = usize>>(
     bytes: &mut [u8],
     len: usize,

@@ -1,4 +1,4 @@
-//! A window of bits combined with one of other bytes.
+//! Combines a window with one of another slice.
 ghost use Rattle.std.specs.Prelude.{◌≡◌, ◌+◌, ◌*◌, ◌%◌, ◌^◌, ◌<◌, ◌≤◌, length};
 ghost use Rattle.vb_bits.specs.Bits.{bits};
 ghost use Rattle.vb_bits.specs.InBytes.{InBytes};
@@ -12,14 +12,15 @@ use crate::operator::Merge;
 use crate::read::{full_word, read_few, read_in_eight};
 use crate::write::write_in_byte;
 
-/// From so many bits on, those up to a multiple of four words of `dst` are combined first: then no
-/// vector that is written reaches over a cache line where `dst` begins with one.
+/// From this number of bits on, [`merge_bits`] first combines the bits up to a multiple of four
+/// words of `dst`: if `dst` starts at a cache line, no vector store then crosses one.
 const MIN_ALIGNED_BITS: usize = 65_536;
 
-/// Combines each of the `len` bits of `dst` from bit `d` on with that of `src` from bit `s` on, and
-/// leaves every other bit of `dst`.
+/// Combines the `len` bits of `dst` from bit `d` on with the bits of `src` from bit `s` on, and
+/// leaves every other bit of `dst` unchanged.
 ///
-/// Which way they go is seen where it is called, so that few bits save no registers for many.
+/// It is inlined to select the path in the caller, so that a call with few bits doesn't save the
+/// registers that the path for many needs.
 #[inline(always)]
 pub(crate) fn merge_bits<M: Merge>(dst: &mut [u8], d: usize, src: &[u8], s: usize, len: usize)
     requires into { InBytes dst.old d len }
@@ -36,7 +37,8 @@ pub(crate) fn merge_bits<M: Merge>(dst: &mut [u8], d: usize, src: &[u8], s: usiz
     }
 }
 
-/// [`merge_bits`] of more than 64 bits, of which those up to a multiple of four words go first.
+/// [`merge_bits`] of at least 256 bits: first up to a multiple of four words of `dst`, then the
+/// rest.
 #[inline(never)]
 fn merge_aligned<M: Merge>(dst: &mut [u8], d: usize, src: &[u8], s: usize, len: usize)
     requires many { 256 ≤ len }
@@ -50,8 +52,8 @@ fn merge_aligned<M: Merge>(dst: &mut [u8], d: usize, src: &[u8], s: usize, len: 
     merge_run::<M>(dst, d + lead, src, s + lead, len - lead);
 }
 
-/// [`merge_bits`] from wherever they begin: those of a partial first byte of `dst` by a mask, those
-/// behind it by words, and what is left by one word more.
+/// [`merge_bits`] at any offset: the bits of a partial first byte of `dst` by a mask, then whole
+/// words, then the rest by one more word.
 #[inline(never)]
 fn merge_run<M: Merge>(dst: &mut [u8], d: usize, src: &[u8], s: usize, len: usize)
     requires into { InBytes dst.old d len }
@@ -69,7 +71,7 @@ fn merge_run<M: Merge>(dst: &mut [u8], d: usize, src: &[u8], s: usize, len: usiz
     merge_rest::<M>(dst, d + done, src, s + done, len - done);
 }
 
-/// [`merge_bits`] of bits that lie in one byte of `dst`.
+/// [`merge_bits`] of bits within one byte of `dst`.
 fn merge_in_byte<M: Merge>(dst: &mut [u8], d: usize, src: &[u8], s: usize, len: usize)
     requires in_byte { d % 8 + len ≤ 8 }
     requires into { d + len ≤ 8 * length dst.old }
@@ -85,7 +87,7 @@ fn merge_in_byte<M: Merge>(dst: &mut [u8], d: usize, src: &[u8], s: usize, len: 
     write_in_byte(dst, d, len, M::word(left, right));
 }
 
-/// [`merge_bits`] of `n` words of `dst`, which begin with a byte: four at a time, and those left.
+/// [`merge_bits`] of `n` words, which start at a byte of `dst`: four at a time, then the rest.
 fn merge_words<M: Merge>(dst: &mut [u8], d: usize, src: &[u8], s: usize, n: usize)
     requires whole { 0 < n → d % 8 ≡ 0 }
     requires into { InBytes dst.old d (64 * n) }
@@ -114,7 +116,7 @@ fn merge_blocks<M: Merge>(dst: &mut [u8], d: usize, src: &[u8], s: usize, n: usi
     }
 }
 
-/// [`merge_blocks`] where those of `src` begin with a byte too.
+/// [`merge_blocks`] if the blocks of `src` also start at a byte.
 fn merge_whole_blocks<M: Merge>(dst: &mut [u8], d: usize, src: &[u8], s: usize, n: usize)
     requires whole { 0 < n → d % 8 ≡ 0 }
     requires whole_source { s % 8 ≡ 0 }
@@ -130,7 +132,7 @@ fn merge_whole_blocks<M: Merge>(dst: &mut [u8], d: usize, src: &[u8], s: usize, 
     }
 }
 
-/// [`merge_blocks`] where those of `src` begin within a byte.
+/// [`merge_blocks`] if the blocks of `src` start within a byte.
 fn merge_shifted_blocks<M: Merge>(dst: &mut [u8], d: usize, src: &[u8], s: usize, n: usize)
     requires whole { 0 < n → d % 8 ≡ 0 }
     requires part { 0 < s % 8 }
@@ -146,8 +148,8 @@ fn merge_shifted_blocks<M: Merge>(dst: &mut [u8], d: usize, src: &[u8], s: usize
     }
 }
 
-/// [`merge_words`] of fewer than four, with no loop: of one over so few words the compiler makes
-/// vectors under a mask, which wait for what was just written.
+/// [`merge_words`] of fewer than four words, without a loop. From a loop over so few words the
+/// compiler would make masked vectors, which wait for the stores just before.
 fn merge_few_words<M: Merge>(dst: &mut [u8], d: usize, src: &[u8], s: usize, n: usize)
     requires few { n < 4 }
     requires whole { 0 < n → d % 8 ≡ 0 }
@@ -170,7 +172,7 @@ fn merge_few_words<M: Merge>(dst: &mut [u8], d: usize, src: &[u8], s: usize, n: 
     merge_word::<M>(dst, d + 128, src, s + 128);
 }
 
-/// [`merge_words`] of one.
+/// [`merge_words`] of one word.
 #[inline(always)]
 fn merge_word<M: Merge>(dst: &mut [u8], d: usize, src: &[u8], s: usize)
     requires whole { d % 8 ≡ 0 }
@@ -184,7 +186,7 @@ fn merge_word<M: Merge>(dst: &mut [u8], d: usize, src: &[u8], s: usize)
     write_word(dst, d / 8, M::word(left, right));
 }
 
-/// [`merge_bits`] of at most 64 bits, which begin with a byte of `dst`.
+/// [`merge_bits`] of at most 64 bits, which start at a byte of `dst`.
 fn merge_rest<M: Merge>(dst: &mut [u8], d: usize, src: &[u8], s: usize, len: usize)
     requires in_word { len ≤ 64 }
     requires whole { 0 < len → d % 8 ≡ 0 }

@@ -1,42 +1,43 @@
-//! What two bits are combined to.
+//! Operators on two bits.
 ghost use Rattle.std.specs.Prelude.{◌≡◌, ℕ, ◌<◌, Bool, length};
 ghost use Rattle.vb_bits.specs.Digits.{has_bit, lane_bits};
 ghost use Rattle.vb_bits.specs.Operators.{merged_by};
 
 use std::simd::prelude::*;
 
-/// What two bits are combined to: all bits of four words, of one, or of a byte, at once.
+/// An operator on two bits, which combines all bits of four words, of one word or of a byte at
+/// once.
 ///
-/// It is a type, so that each operator has loops of its own.
+/// It is a type, so that each operator has its own loops.
 pub trait Merge {
     ghost bit: { Bool → Bool → Bool };
 
-    /// Each digit of `left` combined with that of `right`.
+    /// Combines each digit of `left` with the same digit of `right`.
     fn word(left: u64, right: u64) -> u64
         ensures { (i : ℕ) → i < 64 → has_bit result i ≡ bit (has_bit left i) (has_bit right i) };
 
-    /// [`word`](Merge::word) of four words.
+    /// Combines each digit of four words, as [`word`](Merge::word) does.
     fn words(left: u64x4, right: u64x4) -> u64x4
         requires left { length left ≡ 4 }
         requires right { length right ≡ 4 }
         ensures len { length result ≡ 4 }
         ensures digits { lane_bits result ≡ merged_by bit (lane_bits left) (lane_bits right) };
 
-    /// [`word`](Merge::word) of eight digits.
+    /// Combines each digit of a byte, as [`word`](Merge::word) does.
     fn byte(left: u8, right: u8) -> u8
         ensures { (i : ℕ) → i < 8 → has_bit result i ≡ bit (has_bit left i) (has_bit right i) };
 }
 
-/// Both bits.
+/// True if both bits are true.
 pub struct And;
 
-/// Either bit.
+/// True if at least one bit is true.
 pub struct Or;
 
-/// One bit of two.
+/// True if exactly one bit is true.
 pub struct Xor;
 
-/// The left bit without the right one.
+/// True if the left bit is true and the right one isn't.
 pub struct AndNot;
 
 /// The right bit.
@@ -117,7 +118,7 @@ impl Merge for AndNot {
 
     #[inline(always)]
     fn words(left: u64x4, right: u64x4) -> u64x4 {
-        // The same as `left & !right`, and its digits follow from those of words of any size.
+        // Equals `left & !right`. The lemmas about its digits hold for words of any size.
         left ^ (left & right)
     }
 

@@ -1,4 +1,4 @@
-//! Up to 64 bits as one number.
+//! Reads up to 64 bits as one number.
 ghost use Rattle.std.specs.Prelude.{◌≡◌, ◌+◌, ◌*◌, ◌^◌, ◌<◌, ◌≤◌, length};
 ghost use Rattle.vb_bits.specs.Bits.{bits};
 ghost use Rattle.vb_bits.specs.Digits.{digits};
@@ -6,10 +6,10 @@ ghost use Rattle.vb_bits.specs.Digits.{digits};
 use crate::bytes::{four_at, two_at, word_at};
 use crate::word::low_digits;
 
-/// The bytes, at most eight, as one number: its lowest digits are those of the first byte, and its
-/// digits past the last byte are 0.
+/// Returns the bytes as one number: its lowest digits are those of the first byte, and its digits
+/// past the last byte are 0. The caller must prove that there are at most eight bytes.
 ///
-/// From two bytes on they are read by two loads that overlap, of four bytes or of two.
+/// It reads two bytes or more by two loads that overlap, of four bytes each or of two.
 pub fn read_u64_le(bytes: &[u8]) -> u64
     requires { length bytes.now ≤ 8 }
     ensures { digits result 0 64 ≡ bits bytes.now 0 64 }
@@ -24,10 +24,11 @@ pub fn read_u64_le(bytes: &[u8]) -> u64
     if n == 1 { u64::from(bytes[0]) } else { 0 }
 }
 
-/// The window of `count` bits from bit `at` on, at most 64, as one number: its lowest digit is bit
-/// `at`, and its digits from `count` on are 0.
+/// Returns the window of `count` bits from bit `at` on as one number: its lowest digit is bit `at`,
+/// and its digits from `count` on are 0. The caller must prove that `count` is at most 64 and that
+/// the window is in bounds.
 ///
-/// At most nine bytes are read, by one load of eight where so many are left.
+/// It reads at most nine bytes, with one load of eight if `bytes` has eight.
 pub fn read_bits(bytes: &[u8], at: usize, count: usize) -> u64
     requires in_word { count ≤ 64 }
     requires inside { at + count ≤ 8 * length bytes.now }
@@ -37,7 +38,7 @@ pub fn read_bits(bytes: &[u8], at: usize, count: usize) -> u64
     low_digits(read_shifted(bytes, at, count), count)
 }
 
-/// [`read_bits`], with any digits from `count` on.
+/// [`read_bits`], except that the digits from `count` on may be any.
 #[inline(always)]
 pub(crate) fn read_shifted(bytes: &[u8], at: usize, count: usize) -> u64
     requires in_word { count ≤ 64 }
@@ -51,8 +52,8 @@ pub(crate) fn read_shifted(bytes: &[u8], at: usize, count: usize) -> u64
     }
 }
 
-/// [`read_shifted`] of at least eight bytes: by the word from the first byte on and the ninth byte,
-/// or where fewer are left by the last word.
+/// [`read_shifted`] for at least eight bytes: by the word that starts at the first byte and by the
+/// ninth byte, or, if fewer bytes are left, by the last word.
 #[inline(always)]
 pub(crate) fn read_in_eight(bytes: &[u8], at: usize, count: usize) -> u64
     requires in_word { count ≤ 64 }
@@ -74,7 +75,7 @@ pub(crate) fn read_in_eight(bytes: &[u8], at: usize, count: usize) -> u64
     }
 }
 
-/// [`read_shifted`] of at most eight bits: of one byte, or of two.
+/// [`read_shifted`] of at most eight bits, from one byte or from two.
 #[inline(always)]
 pub(crate) fn read_few(bytes: &[u8], at: usize, count: usize) -> u64
     requires some { 0 < count }
@@ -92,7 +93,9 @@ pub(crate) fn read_few(bytes: &[u8], at: usize, count: usize) -> u64
     }
 }
 
-/// [`read_bits`], of which 64 are a [`full_word`].
+/// Returns the window of `count` bits from bit `at` on as one number, as [`read_bits`] does, and
+/// reads 64 bits by [`full_word`]. The caller must prove that `count` is at most 64 and that the
+/// window is in bounds.
 #[inline(always)]
 pub fn read_word(bytes: &[u8], at: usize, count: usize) -> u64
     requires in_word { count ≤ 64 }
@@ -107,7 +110,8 @@ pub fn read_word(bytes: &[u8], at: usize, count: usize) -> u64
     }
 }
 
-/// The 64 bits from bit `shift` of byte `first` on as one number.
+/// Returns the 64 bits from bit `shift` of byte `first` on as one number. The caller must prove
+/// that `shift` is below 8 and that the bits are in bounds.
 #[inline(always)]
 pub fn full_word(bytes: &[u8], first: usize, shift: usize) -> u64
     requires in_byte { shift < 8 }
@@ -121,8 +125,8 @@ pub fn full_word(bytes: &[u8], first: usize, shift: usize) -> u64
     }
 }
 
-/// [`full_word`] where it begins within a byte: the digits of eight bytes, and those of the eight
-/// that begin a byte later, which have the missing ones.
+/// [`full_word`] of bits that start within a byte: the digits of eight bytes, and the missing ones
+/// from the eight bytes that start one byte later.
 #[inline(always)]
 pub(crate) fn shifted_word(bytes: &[u8], first: usize, shift: usize) -> u64
     requires part { 0 < shift }

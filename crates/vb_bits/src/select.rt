@@ -1,10 +1,12 @@
-//! Selecting within one word.
+//! Select within one word.
 ghost use Rattle.std.specs.Prelude.{ℕ, ◌+◌, ◌*◌, ◌<◌, ◌≤◌, Some};
 ghost use Rattle.vb_bits.specs.Bits.{count, Selects};
 ghost use Rattle.vb_bits.specs.Digits.{digits};
 
-/// The place of the `n`-th digit of `word` that is 1: the digits that are left are halved, without
-/// a branch, until they are a byte.
+/// Returns the index of the `n`-th set digit of `word`, counted from 0. The caller must prove that
+/// more than `n` digits are set.
+///
+/// It halves the digits, without a branch, until one byte is left.
 pub fn select_in_word(word: u64, n: usize) -> usize
     requires { n < count (digits word 0 64) }
     ensures { Selects (digits word 0 64) n (Some result) }
@@ -15,8 +17,8 @@ pub fn select_in_word(word: u64, n: usize) -> usize
     first + second + third + select_in_byte(byte, left)
 }
 
-/// The half, of the `2 * half` lowest digits of `word`, in which the `n`-th 1 is: a number with its
-/// digits, where it begins, and which one it is there.
+/// Returns the half of the `2 * half` lowest digits of `word` that has the `n`-th set digit: its
+/// digits as a number, the index at which it starts, and the rank of that digit in it.
 fn halve(word: u64, half: usize, n: usize) -> (u64, usize, usize)
     requires inside { half < 64 }
     requires here { n < count (digits word 0 (2 * half)) }
@@ -34,7 +36,8 @@ fn halve(word: u64, half: usize, n: usize) -> (u64, usize, usize)
     }
 }
 
-/// The place of the `n`-th 1 among the eight lowest digits of `word`.
+/// Returns the index of the `n`-th set digit among the eight lowest digits of `word`, counted from
+/// 0. The caller must prove that more than `n` of them are set.
 pub fn select_in_byte(word: u64, n: usize) -> usize
     requires { n < count (digits word 0 8) }
     ensures { Selects (digits word 0 8) n (Some result) }
@@ -42,8 +45,7 @@ pub fn select_in_byte(word: u64, n: usize) -> usize
     PLACES[8 * (word & 0xFF) as usize + n] as usize
 }
 
-/// Eight entries for each number of eight digits: the places of its digits that are 1, lowest
-/// first, and zeros after them.
+/// Eight entries for each byte: the indices of its set digits, lowest first, then zeros.
 static PLACES: [u8; 2048] = [
     0, 0, 0, 0, 0, 0, 0, 0, 0, 0, 0, 0, 0, 0, 0, 0, 1, 0, 0, 0, 0, 0, 0, 0, 0, 1, 0, 0, 0, 0, 0, 0,
     2, 0, 0, 0, 0, 0, 0, 0, 0, 2, 0, 0, 0, 0, 0, 0, 1, 2, 0, 0, 0, 0, 0, 0, 0, 1, 2, 0, 0, 0, 0, 0,

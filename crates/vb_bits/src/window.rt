@@ -2,10 +2,10 @@
 ghost use Rattle.std.specs.Prelude.{◌↔◌, IsTrue};
 ghost use Rattle.vb_bits.specs.InBytes.{InBytes};
 
-/// Whether the `len` bits from bit `offset` on lie in `bytes`, and `offset + len` fits in a
-/// `usize`.
+/// Returns whether the `len` bits from bit `offset` on are in bounds of `bytes`, and `offset + len`
+/// fits in a `usize`.
 ///
-/// A window of no bits may stand right behind the last bit, and no further.
+/// A window of no bits may start right after the last bit, but no further.
 pub fn window_fits(bytes: &[u8], offset: usize, len: usize) -> bool
     ensures { IsTrue result ↔ InBytes bytes.now offset len }
 {

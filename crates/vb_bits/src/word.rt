@@ -2,7 +2,8 @@
 ghost use Rattle.std.specs.Prelude.{◌≡◌, ◌⊎◌, ℕ, ◌+◌, ◌^◌, ◌<◌, ◌≤◌};
 ghost use Rattle.vb_bits.specs.Digits.{digits, has_bit};
 
-/// Digit `i` of a word, from the lowest one on.
+/// Returns digit `i` of `word`, counted from the lowest one. The caller must prove that `i` is
+/// below 64.
 #[inline(always)]
 pub fn digit(word: u64, i: usize) -> bool
     requires { i < 64 }
@@ -11,7 +12,8 @@ pub fn digit(word: u64, i: usize) -> bool
     (word >> i) & 1 == 1
 }
 
-/// The word with 0 for its digits from `n` on, of which there are none at 64.
+/// Returns the `n` lowest digits of `word`, with zeros above them. The caller must prove that `n`
+/// is at most 64.
 #[inline(always)]
 pub fn low_digits(word: u64, n: usize) -> u64
     requires in_word { n ≤ 64 }
@@ -21,7 +23,8 @@ pub fn low_digits(word: u64, n: usize) -> u64
     if n == 64 { word } else { word & ((1 << n) - 1) }
 }
 
-/// `old` with the `count` lowest digits of `word` in place of its own from digit `from` on.
+/// Returns `old` with its `count` digits from digit `from` on replaced by the lowest digits of
+/// `word`.
 #[inline(always)]
 pub(crate) fn with_digits(old: u64, from: usize, count: usize, word: u64) -> u64
     requires some { 0 < count }

@@ -1,4 +1,4 @@
-//! The lowest digits of a number written as bits.
+//! Writes the lowest digits of a number as bits.
 ghost use Rattle.std.specs.Prelude.{ℕ, ◌+◌, ◌*◌, ◌%◌, ◌^◌, ◌<◌, ◌≤◌, length};
 ghost use Rattle.vb_bits.specs.Digits.{digits};
 ghost use Rattle.vb_bits.specs.Writes.{Writes};
@@ -6,7 +6,7 @@ ghost use Rattle.vb_bits.specs.Writes.{Writes};
 use crate::bytes::{byte_mask, word_at, write_four, write_two, write_word};
 use crate::word::with_digits;
 
-/// Writes the `count` lowest digits of `word` to the bits from bit `at` on, which lie in one byte.
+/// Writes the `count` lowest digits of `word` to the bits from bit `at` on, which are in one byte.
 pub(crate) fn write_in_byte(bytes: &mut [u8], at: usize, count: usize, word: u64)
     requires in_byte { at % 8 + count ≤ 8 }
     requires inside { at + count ≤ 8 * length bytes.old }
@@ -21,7 +21,7 @@ pub(crate) fn write_in_byte(bytes: &mut [u8], at: usize, count: usize, word: u64
     bytes[at / 8] = (bytes[at / 8] & !mask) | (byte & mask);
 }
 
-/// Writes the `count` lowest digits of `word` to digits of the word from byte `first` on, from
+/// Writes the `count` lowest digits of `word` into the word that starts at byte `first`, from its
 /// digit `from` on.
 #[inline(always)]
 pub(crate) fn write_in_word(bytes: &mut [u8], first: usize, from: usize, count: usize, word: u64)
@@ -34,9 +34,9 @@ pub(crate) fn write_in_word(bytes: &mut [u8], first: usize, from: usize, count: 
     write_word(bytes, first, with_digits(old, from, count, word));
 }
 
-/// Writes the lowest digits of `word` to all bits of the bytes, of which there are at most eight.
+/// Writes the lowest digits of `word` to all bits of `bytes`, which has at most eight bytes.
 ///
-/// From two bytes on they are written by two stores that overlap, of four bytes or of two.
+/// It writes two bytes or more by two stores that overlap, of four bytes each or of two.
 pub(crate) fn write_u64_le(bytes: &mut [u8], word: u64)
     requires { length bytes.old ≤ 8 }
     ensures { Writes bytes.old bytes.new 0 (digits word 0 (8 * length bytes.old)) }

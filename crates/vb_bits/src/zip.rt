@@ -1,4 +1,4 @@
-//! Windows combined by an operator.
+//! Combines windows by an operator.
 ghost use Rattle.std.specs.Prelude.{◌+◌, ◌*◌, ◌^◌, ◌<◌, ◌≤◌, length};
 ghost use Rattle.vb_bits.specs.Bits.{bits};
 ghost use Rattle.vb_bits.specs.InBytes.{InBytes};
@@ -8,26 +8,26 @@ ghost use Rattle.vb_bits.specs.Writes.{Writes};
 use crate::merge::merge_bits;
 use crate::operator::{And, AndNot, Or, Xor};
 
-/// How two bits are combined.
+/// An operator on two bits.
 #[derive(Clone, Copy, Debug, PartialEq, Eq)]
 pub enum BitOp {
-    /// Both are true.
+    /// True if both are true.
     And,
-    /// One of them is true, or both are.
+    /// True if at least one is true.
     Or,
-    /// One of them is true, and not both.
+    /// True if exactly one is true.
     Xor,
-    /// The left one is true and the right one isn't.
+    /// True if the left one is true and the right one isn't.
     AndNot,
 }
 
 /// Replaces bit `d + i` of `dst`, for each `i` below `len`, by `op` of that bit and of bit `s + i`
 /// of `src`. The bit of `dst` is the left operand. No other bit of `dst` changes.
 ///
-/// These bits have to lie in `dst` and in `src`, and `d + len` and `s + len` have to fit in a
+/// The caller must prove that both windows are in bounds, and that `d + len` and `s + len` fit in a
 /// `usize`.
 ///
-/// It goes by words of 64 bits, four at a time, whatever the two offsets are.
+/// It processes words of 64 bits, four at a time, at any two offsets.
 #[inline(always)]
 pub fn zip_words(dst: &mut [u8], d: usize, src: &[u8], s: usize, len: usize, op: BitOp)
     requires into { InBytes dst.old d len }
