@@ -1,4 +1,4 @@
--- Questions to a closure, asked one after the other.
+-- Calls of a closure, one after another.
 use Rattle.std.proofs.Common.{◌≡◌, ℕ, zero, suc, ◌+◌, ◌<◌, Bool, false, List, [], ◌∷◌, ◌++◌, length}
 use Rattle.std.proofs.Common.{get_or, map, refl, sym, ap, ◌∙◌, subst, arith, zero-add}
 use Rattle.std.proofs.lemmas.List.{same_lists, get_or_default}
@@ -16,21 +16,21 @@ pub span-cut : (a b m n k : ℕ) → b ≡ a + m → n ≡ m + k → span a n �
 span-cut a b m n k from whole =
     ap (span a) whole ∙ span-add a m k ∙ ap (λ x. span a m ++ span x k) (sym from)
 
--- ---- closures that answer anything
+-- ---- closures with any results
 module _ {F A R : Type 0} (step : F → A → R → F → Type 0) (pre : F → A → Type 0) where
-  -- a closure that may be asked anything
+  -- a closure that can always be called
   pub CanAsk_always : ((p : F) (x : A) → pre p x) → (p : F) (xs : List A) → CanAsk pre step p xs
   CanAsk_always may p [] = tt
   CanAsk_always may p (x ∷ xs) = (may p x, λ b q said. CanAsk_always may q xs)
 
-  -- the first questions
+  -- the first calls
   pub CanAsk-front : (p : F) (xs ys : List A) → CanAsk pre step p (xs ++ ys) → CanAsk pre step p xs
   CanAsk-front p [] ys may = tt
   CanAsk-front p (x ∷ xs) ys may = (may.0, λ b q said. CanAsk-front q xs ys (may.1 b q said))
 
--- ---- closures that answer nothing
+-- ---- closures that return nothing
 module _ {F A : Type 0} (step : F → A → Unit {0} → F → Type 0) (pre : F → A → Type 0) where
-  -- those behind the first ones
+  -- the calls after the first ones
   pub CanAsk-past : (p : F) (xs ys : List A) (q : F) → CanAsk pre step p (xs ++ ys)
       → FoldsTo (λ p x q. step p x tt q) p xs q → CanAsk pre step q ys
   CanAsk-past p [] ys q may called = subst (λ s. CanAsk pre step s ys) called may
@@ -44,7 +44,7 @@ FoldsTo-append step p [] ys q r first second = subst (λ s. FoldsTo step s ys r)
 FoldsTo-append step p (x ∷ xs) ys q r first second =
     (first.0, first.1, FoldsTo-append step first.0 xs ys q r first.2 second)
 
--- ---- closures that answer truth values
+-- ---- closures that return truth values
 module _ {F A : Type 0} (step : F → A → Bool → F → Type 0) where
   Answers-append : (p : F)
       (xs : List A) (bs : List Bool) (q : F) (ys : List A) (cs : List Bool) (r : F)
@@ -56,7 +56,7 @@ module _ {F A : Type 0} (step : F → A → Bool → F → Type 0) where
   Answers-append p (x ∷ xs) (b ∷ bs) q ys cs r first second =
       (first.0, first.1, Answers-append first.0 xs bs q ys cs r first.2 second)
 
-  -- what each answer keeps of the state, all answers keep
+  -- if each call keeps a part of the state, all calls keep it
   pub Answers-keeps : {N : Type 0} (part : F → N)
       → ((p : F) (x : A) (b : Bool) (q : F) → step p x b q → part q ≡ part p)
       → (p : F) (xs : List A) (bs : List Bool) (q : F) → Answers step p xs bs q → part q ≡ part p
@@ -66,7 +66,7 @@ module _ {F A : Type 0} (step : F → A → Bool → F → Type 0) where
   Answers-keeps part keeps p (x ∷ xs) (b ∷ bs) q asked =
       Answers-keeps part keeps asked.0 xs bs q asked.2 ∙ keeps p x b asked.0 asked.1
 
-  -- of a closure whose answer is a function of the question
+  -- a closure whose result is a function of its argument
   pub Answers-map : (t : A → Bool) → ((p : F) (x : A) (b : Bool) (q : F) → step p x b q → b ≡ t x)
       → (p : F) (xs : List A) (bs : List Bool) (q : F) → Answers step p xs bs q → bs ≡ map t xs
   Answers-map t tells p [] [] q asked = refl
@@ -87,12 +87,12 @@ module _ {F A : Type 0} (step : F → A → Bool → F → Type 0) where
         CanAsk-behind asked.0 xs ys bs q (may.1 b asked.0 asked.1) asked.2
 
 module _ {F : Type 0} (step : F → ℕ → Bool → F → Type 0) where
-  -- nothing was asked yet
+  -- no call yet
   pub Answers_none : (a : ℕ) (p : F) → Answers step p (span a 0) [] p
   unfolding span
   Answers_none a p = refl
 
-  -- one question more
+  -- one more call
   pub Answers-push : (a n m : ℕ) (p : F) (bs : List Bool) (q : F) (b : Bool) (r : F)
       → m ≡ n + 1 → Answers step p (span a n) bs q
       → step q (a + n) b r → Answers step p (span a m) (bs ++ b ∷ []) r
@@ -101,7 +101,7 @@ module _ {F : Type 0} (step : F → ℕ → Bool → F → Type 0) where
       subst (λ xs. Answers step p xs (bs ++ b ∷ []) r) (sym (span-add a n 1) ∙ ap (span a) (sym e))
       (Answers-append step p (span a n) bs q ((a + n) ∷ []) (b ∷ []) r asked (r, said, refl))
 
-  -- a span more
+  -- one more span
   pub Answers-add : (a o m n k : ℕ) (p : F) (bs : List Bool) (q : F) (cs : List Bool) (r : F)
       → o ≡ a + m → k ≡ m + n → Answers step p (span a m) bs q
       → Answers step q (span o n) cs r → Answers step p (span a k) (bs ++ cs) r
@@ -110,7 +110,7 @@ module _ {F : Type 0} (step : F → ℕ → Bool → F → Type 0) where
       (ap (λ x. span a m ++ span x n) from ∙ sym (span-add a m n) ∙ ap (span a) (sym whole))
       (Answers-append step p (span a m) bs q (span o n) cs r first second)
 
-  -- of a closure whose state keeps an invariant, I k before question k, and which answers t k there
+  -- a closure whose state has an invariant, I k before call k, and which returns t k there
   pub Answers-from : (I : ℕ → F → Type 0) (t : ℕ → Bool) (a n : ℕ)
       → ((k : ℕ) (p : F) (b : Bool) (q : F) → k < a + n → I k p
       → step p k b q → (b ≡ t k) × I (k + 1) q) → (p : F) (bs : List Bool) (q : F)
@@ -129,13 +129,13 @@ module _ {F : Type 0} (step : F → ℕ → Bool → F → Type 0) where
       (ap (λ x. x ∷ bs) first.0 ∙ ap (λ l. t a ∷ l) rest.0, subst (λ k. I k q) end rest.1)
 
   module _ (pre : F → ℕ → Type 0) where
-    -- the next question
+    -- the next call
     pub CanAsk_next : (a n : ℕ) (p : F) → 0 < n → CanAsk pre step p (span a n) → pre p a
     unfolding span
     CanAsk_next a zero p some may = absurd (omega arith)
     CanAsk_next a (suc n) p some may = may.0
 
-    -- those that come after it
+    -- the calls after it
     pub CanAsk_after : (a o n m : ℕ) (p : F) (b : Bool) (q : F) → o ≡ a + 1
         → n ≡ m + 1 → CanAsk pre step p (span a n) → step p a b q → CanAsk pre step q (span o m)
     unfolding span
@@ -145,14 +145,14 @@ module _ {F : Type 0} (step : F → ℕ → Bool → F → Type 0) where
         subst (λ k. CanAsk pre step q (span k m))
         (sym from) (subst (λ k. CanAsk pre step q (span (a + 1) k)) same (may.1 b q said))
 
-    -- the first ones of a span
+    -- the first calls of a span
     pub CanAsk-first : (a m n k : ℕ) (p : F)
         → n ≡ m + k → CanAsk pre step p (span a n) → CanAsk pre step p (span a m)
     CanAsk-first a m n k p e may =
         CanAsk-front step pre p (span a m)
         (span (a + m) k) (subst (CanAsk pre step p) (ap (span a) e ∙ span-add a m k) may)
 
-    -- those behind the first ones
+    -- the calls after the first ones
     pub CanAsk-rest : (a o m n k : ℕ) (p : F) (bs : List Bool) (q : F)
         → n ≡ m + k → o ≡ a + m → CanAsk pre step p (span a n) → Answers step p (span a m) bs q
         → CanAsk pre step q (span o k)
@@ -161,7 +161,7 @@ module _ {F : Type 0} (step : F → ℕ → Bool → F → Type 0) where
         (CanAsk-behind step pre p (span a m) (span (a + m) k) bs q
         (subst (CanAsk pre step p) (ap (span a) e ∙ span-add a m k) may) asked)
 
-    -- a closure whose state keeps an invariant, I k before question k, that lets it be asked
+    -- a closure whose state has an invariant, I k before call k, which permits the call
     pub CanAsk-from : (I : ℕ → F → Type 0) (a n : ℕ)
         → ((k : ℕ) (p : F) → k < a + n → I k p → pre p k)
         → ((k : ℕ) (p : F) (b : Bool) (q : F) → k < a + n → I k p → step p k b q → I (k + 1) q)
@@ -174,7 +174,7 @@ module _ {F : Type 0} (step : F → ℕ → Bool → F → Type 0) where
           (λ k p b q l. keeps k p b q (omega arith)) q (keeps a p b q (omega arith) i said),
     )
 
--- a closure whose answer at each place is the value of a list there answers the list
+-- a closure that returns the values of a list, index by index, returns the list
 pub map-span : (t : ℕ → Bool) (l : List Bool) (n : ℕ)
     → n ≡ length l → ((k : ℕ) → k < n → t k ≡ get_or l k false) → map t (span 0 n) ≡ l
 unfolding span
@@ -185,7 +185,7 @@ map-span t l n e same =
     get_or-map-range_with_len t 0 n k k d inside (zero-add k)
     ∙ same k inside ∙ get_or_default l k false d (omega arith))
 
--- ---- two closures that are alike on a span
+-- ---- two closures that agree on a span
 module _ {F : Type 0} (s t : F → ℕ → Bool → F → Type 0) where
   pub Answers-alike : (a n : ℕ)
       → ((k : ℕ) (p : F) (b : Bool) (q : F) → k < a + n → s p k b q → t p k b q)

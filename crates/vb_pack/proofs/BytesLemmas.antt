@@ -1,4 +1,4 @@
--- Windows of bytes that are written from front to end.
+-- Windows of bytes written from front to end.
 use Rattle.std.proofs.Common.{◌≡◌, ℕ, ◌+◌, ◌-◌, ◌^◌, ◌<◌, ◌≤◌, Bool, false, List, ◌++◌, length}
 use Rattle.std.proofs.Common.{replicate, subst, ◌∙◌, arith}
 use Rattle.vb_bits.specs.Bits.{bit_of, bits}
@@ -9,7 +9,7 @@ use Rattle.vb_bits.proofs.WrittenLemmas.{Written-more, Written-ended}
 use Rattle.vb_bits.proofs.WritesLemmas.{bits_windowed, Written_of, Writes_of}
 use Rattle.vb_pack.proofs.WordsLemmas.{digits_above}
 
--- a window, and what is written behind it
+-- a window, and the list written after it
 pub Writes-more : (b c d : List ℕ) (o p m n k : ℕ) (l : List Bool) → p ≡ o + m → length l ≡ n
     → k ≡ m + n → Writes b c o (bits c o m) → Writes c d p l
     → (bits d o k ≡ bits c o m ++ l) × Writes b d o (bits d o k)
@@ -19,7 +19,7 @@ Writes-more b c d o p m n k l from long whole first second =
     (Written_of second) in
     (more.0, Writes_of (second.same_len ∙ first.same_len) more.1)
 
--- a window, and the digits of a number behind it, of which those from r on are 0
+-- a window, and the digits of a number written after it, of which those from r on are 0
 pub Writes-ended : (b c d : List ℕ) (o p m r n k w : ℕ) → p ≡ o + m → n ≡ m + r → r ≤ k
     → w < 2 ^ r → Writes b c o (bits c o m) → Writes c d p (digits w 0 k)
     → (bits d o n ≡ bits c o m ++ digits w 0 r)

@@ -41,7 +41,7 @@ abbrev pub all_lists : ℕ → (List Bool → Bool) → Bool
 all_lists zero t = t []
 all_lists (suc n) t = all_lists n (λ l. t (true ∷ l)) && all_lists n (λ l. t (false ∷ l))
 
--- what holds of all holds of each
+-- if all lists pass a test, each list does
 pub all_lists-each : (n : ℕ) (t : List Bool → Bool) → all_lists n t ≡ true → (l : List Bool)
     → length l ≡ n → t l ≡ true
 all_lists-each zero t all [] e = all
@@ -60,11 +60,11 @@ all_lists-each (suc n) t all (false ∷ l) e =
     right true c both = both
     right false c both = cc
 
--- the byte that is made of truth value i
+-- the byte of truth value i
 abbrev pub byte_of : List Bool → ℕ → ℕ
 byte_of l i = bool_byte (get_or l i false)
 
--- whether the multiply gathers these eight
+-- whether the multiplication gathers these eight values
 abbrev pub gathers : List Bool → Bool
 gathers l =
     eqb
@@ -73,11 +73,11 @@ gathers l =
     6 * 256 ^ 6 + byte_of l 7 * 256 ^ 7) * 0x0102_0408_1020_4080 % 2 ^ 64 / 2 ^ 56)
     (mask_l l)
 
--- it does of each of the 256 lists
+-- it gathers each of the 256 lists
 pub all_gathered : all_lists 8 gathers ≡ true
 all_gathered = refl
 
--- the digits of eight values more
+-- the digits of eight more values
 pub mask_l-more : (l : List Bool) (k : ℕ) → length l ≡ 64 → k < 8 → bit_or (mask_l (take (8 * k) l))
     (mask_l (chunk (8 * k) 8 l) * 2 ^ (8 * k) % 2 ^ 64) ≡ mask_l (take (8 * (k + 1)) l)
 mask_l-more l k long h =

@@ -1,4 +1,4 @@
--- A word that gets one digit more.
+-- A word with one more digit.
 use Rattle.std.proofs.Common.{◌≡◌, ℕ, ◌+◌, ◌*◌, ◌%◌, ◌^◌, ◌<◌, Bool, true, false, [], ◌∷◌, ◌++◌}
 use Rattle.std.proofs.Common.{eqb, sym, ap, ◌∙◌, arith, zero-add}
 use mir.Val.{bool_byte}
@@ -13,7 +13,7 @@ use Rattle.vb_bits.proofs.DigitsLemmas.{digits-add, same_digits}
 abbrev pub with_digit : ℕ → ℕ → Bool → ℕ
 with_digit p i b = bit_or p (bool_byte b * 2 ^ i % 2 ^ 64)
 
--- with a false one it is the same
+-- a false digit changes nothing
 with_false : (p i : ℕ) → with_digit p i false ≡ p
 with_false p i =
     let none : 0 * 2 ^ i ≡ 0 = omega arith in
@@ -30,7 +30,7 @@ digit_same p i true within small = ap (λ x. eqb x 1) (bit_at_set_same w64 p i w
 digit_same p i false within small = ap (λ x. has_bit x i) (with_false p i)
     ∙ ap (λ x. eqb x 1) (bit_at_above p i i small (omega arith))
 
--- no digits come behind it
+-- the word has no digit above the new one
 pub packed_below : (p i : ℕ) (b : Bool) → i < 64 → p < 2 ^ i → with_digit p i b < 2 ^ (i + 1)
 packed_below p i true within small =
     let one : bool_byte true * 2 ^ i % 2 ^ 64 ≡ 2 ^ i = one_shl i 64 within in
@@ -40,7 +40,7 @@ packed_below p i false within small =
     let more : 2 ^ i < 2 ^ (i + 1) = pow_below i (i + 1) (omega arith) in
     rw with_false (omega arith)
 
--- its digits are those before, and the new one
+-- its digits are the old ones and the new one
 pub digits_packed : (p i : ℕ) (b : Bool)
     → i < 64 → p < 2 ^ i → digits (with_digit p i b) 0 (i + 1) ≡ digits p 0 i ++ b ∷ []
 unfolding digits

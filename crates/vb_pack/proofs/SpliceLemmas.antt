@@ -1,4 +1,4 @@
--- A word put in the place of digits that are 0.
+-- A word written over digits that are 0.
 use Rattle.std.proofs.Common.{◌≡◌, ◌≢◌, inl, inr, ℕ, ◌+◌, ◌-◌, ◌*◌, ◌/◌, ◌%◌, ◌^◌, ◌<◌, ◌≤◌, Bool}
 use Rattle.std.proofs.Common.{true, false, ◌||◌, List, length, get_or, eqb, refl, sym, ap, ◌∙◌}
 use Rattle.std.proofs.Common.{arith, zero-add}
@@ -10,7 +10,7 @@ use Rattle.vb_bits.proofs.ShiftLemmas.{has_bit_shr, shl_low, shl_high, bit_at_cu
 use Rattle.vb_pack.specs.WordBits.{word_bit, WritesWords}
 use Rattle.vb_pack.proofs.WordsLemmas.{has_bit_above, WritesWords_by_digits}
 
--- the digits of a number that is shifted up within a word
+-- the digits of a number shifted up within a word
 shifted_low : (w s j : ℕ) → j < s → j < 64 → has_bit (w * 2 ^ s % 2 ^ 64) j ≡ false
 shifted_low w s j low h = ap (λ x. eqb x 1) (bit_at_cut (w * 2 ^ s) 64 j h ∙ shl_low w s j low)
 
@@ -32,8 +32,8 @@ joined_high : (v w s j : ℕ) → s ≤ j
 joined_high v w s j high h clear = has_bit-or v (w * 2 ^ s % 2 ^ 64) j
     ∙ ap (λ x. x || has_bit (w * 2 ^ s % 2 ^ 64) j) clear ∙ shifted_high w s j high h
 
--- what the words are after a splice: the first one joined, the next one the digits that were
--- shifted out of it
+-- the words after a splice: the first word joined with the low digits, and the next word with those
+-- shifted out
 pub record IsSpliced (b c : List ℕ) (at word : ℕ) : Type 0 where
   pub same_len : length c ≡ length b
   pub first : get_or c (at / 64) 0 ≡ bit_or (get_or b (at / 64) 0) (word * 2 ^ (at % 64) % 2 ^ 64)
@@ -41,7 +41,7 @@ pub record IsSpliced (b c : List ℕ) (at word : ℕ) : Type 0 where
       → j < 64 → has_bit (get_or c (at / 64 + 1) 0) j ≡ has_bit (word / 2 ^ (64 - at % 64)) j
   pub others : (k : ℕ) → k ≢ at / 64 → k ≢ at / 64 + 1 → get_or c k 0 ≡ get_or b k 0
 
--- a digit of the words by the word that has it
+-- a digit of the words is a digit of its word
 digit_of : (c : List ℕ) (i k x : ℕ)
     → i / 64 ≡ k → get_or c k 0 ≡ x → word_bit c i ≡ has_bit x (i % 64)
 digit_of c i k x word e =

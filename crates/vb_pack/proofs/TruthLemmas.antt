@@ -1,4 +1,4 @@
--- Words of lists of truth values, and bytes that they fill.
+-- Words of lists of truth values, and the bytes that they fill.
 use Rattle.std.proofs.Common.{◌≡◌, ℕ, inl, inr, ◌+◌, ◌-◌, ◌/◌, ◌^◌, ◌≤◌, Bool, List, ◌++◌, length}
 use Rattle.std.proofs.Common.{take, drop, sym, ap, ◌∙◌, arith, zero-add}
 use Rattle.std.proofs.Math.Seq.{take-append_seam}
@@ -14,7 +14,7 @@ use Rattle.vb_bits.proofs.BitsLemmas.{take-bits}
 use Rattle.vb_bits.proofs.DigitsLemmas.{length-digits, digits-add}
 use Rattle.vb_bits.proofs.ShiftLemmas.{digits_shr}
 
--- where the digits of a word are the last 64 values, its last digits are the last values
+-- if the digits of a word are the last 64 values, its last digits are the last values
 pub last_values : (w r : ℕ) (l : List Bool) → 64 ≤ length l → r ≤ 64
     → digits w 0 64 ≡ drop (length l - 64) l → digits (w / 2 ^ (64 - r)) 0 r ≡ drop (length l - r) l
 last_values w r l enough h e =
@@ -34,7 +34,7 @@ first_bits b l m e =
     sym (take-bits b 0 (length (l ++ m)) (length l) less)
     ∙ ap (take (length l)) e ∙ take-append_seam l m
 
--- a window, and one that begins within it and ends no sooner
+-- a window, and a second one that starts within it and doesn't end before it
 pub Writes-over : (b c d : List ℕ) (p : ℕ) (l m : List Bool) → p ≤ length l
     → length l ≤ p + length m → Writes b c 0 l → Writes c d p m → Writes b d 0 (take p l ++ m)
 Writes-over b c d p l m low high one two =

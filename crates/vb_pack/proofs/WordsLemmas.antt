@@ -14,7 +14,7 @@ use Rattle.vb_bits.proofs.WrittenLemmas.{IsWindowed, Written, Written_by_values,
 use Rattle.vb_bits.proofs.WrittenLemmas.{Written-more, Written-ended}
 use Rattle.vb_pack.specs.WordBits.{word_bit, word_bits, WritesWords}
 
--- as many digits as asked for
+-- n digits have length n
 pub length-word_bits : (w : List ℕ) (o n : ℕ) → length (word_bits w o n) ≡ n
 unfolding word_bits
 length-word_bits w o n = length-map-range_with_len (word_bit w) o n
@@ -31,11 +31,11 @@ unfolding word_bits
 word_bits_none w o = refl
 
 -- ---- digits that are 0
--- a digit past a number's last one
+-- a digit above those of a number
 pub has_bit_above : (w n i : ℕ) → w < 2 ^ n → n ≤ i → has_bit w i ≡ false
 has_bit_above w n i small h = ap (λ x. eqb x 1) (bit_at_above w n i small h)
 
--- a number's digits, and those past its last one
+-- the digits of a number, and the zeros above them
 pub digits_above : (w n k : ℕ)
     → w < 2 ^ n → n ≤ k → digits w 0 k ≡ digits w 0 n ++ replicate (k - n) false
 digits_above w n k small h =
@@ -48,11 +48,11 @@ digits_above w n k small h =
     ∙ sym (get_or-replicate (k - n) i false d inside)))
 
 -- ---- writes
--- digits stand one behind the other in words
+-- the digits of words in order
 word_bits_windowed : IsWindowed word_bit word_bits
 word_bits_windowed = record { len = length-word_bits; at = at-word_bits }
 
--- a write, without what it says of the number of words, and with it
+-- a write, with and without the number of words
 Written_of : {b c : List ℕ} {o : ℕ} {m : List Bool} → WritesWords b c o m
     → Written word_bit word_bits b c o m
 Written_of w = record { window_is = w.window; others = w.others }
@@ -61,7 +61,7 @@ WritesWords_of : {b c : List ℕ} {o : ℕ} {m : List Bool} → length c ≡ len
     → Written word_bit word_bits b c o m → WritesWords b c o m
 WritesWords_of same w = record { same_len = same; window = w.window_is; others = w.others }
 
--- a write, said digit by digit
+-- a write, given digit by digit
 pub WritesWords_by_digits : (b c : List ℕ) (o : ℕ) (m : List Bool) → length c ≡ length b
     → ((i : ℕ) (d : Bool) → i < length m → word_bit c (o + i) ≡ get_or m i d)
     → ((i : ℕ) → (i < o) ⊎ (o + length m ≤ i) → word_bit c i ≡ word_bit b i) → WritesWords b c o m
@@ -92,7 +92,7 @@ WritesWords_set b k w h =
     let other : i / 64 ≢ k = elim l [ inl low ↦ omega arith | inr high ↦ omega arith ] in
     ap (λ x. has_bit x (i % 64)) (get_or-set_other b k (i / 64) w 0 other))
 
--- a window, and what is written behind it
+-- a window, and the list written after it
 pub WritesWords-more : (b c d : List ℕ) (o p m n k : ℕ) (l : List Bool) → p ≡ o + m → length l ≡ n
     → k ≡ m + n → WritesWords b c o (word_bits c o m) → WritesWords c d p l
     → (word_bits d o k ≡ word_bits c o m ++ l) × WritesWords b d o (word_bits d o k)
@@ -102,7 +102,7 @@ WritesWords-more b c d o p m n k l from long whole first second =
     (Written_of first) (Written_of second) in
     (more.0, WritesWords_of (second.same_len ∙ first.same_len) more.1)
 
--- a write whose end is false, where the digits were
+-- a write whose last digits are false, over digits that were false
 pub WritesWords-less : (b c : List ℕ) (o k : ℕ) (l : List Bool)
     → WritesWords b c o (l ++ replicate k false)
     → ((i : ℕ) → o + length l ≤ i → word_bit b i ≡ false) → WritesWords b c o l
@@ -127,7 +127,7 @@ WritesWords-less b c o k l written clear =
       ]
     ])
 
--- a window, and the digits of a number behind it, of which those from r on are 0
+-- a window, and the digits of a number written after it, of which those from r on are 0
 pub WritesWords-ended : (b c d : List ℕ) (o p m r n k w : ℕ) → p ≡ o + m → n ≡ m + r → r ≤ k
     → w < 2 ^ r → WritesWords b c o (word_bits c o m) → WritesWords c d p (digits w 0 k)
     → (word_bits d o n ≡ word_bits c o m ++ digits w 0 r)

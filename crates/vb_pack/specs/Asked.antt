@@ -1,4 +1,4 @@
--- Questions to a closure, and the truth values that it answers.
+-- Calls of a closure, and the truth values that it returns.
 use Rattle.std.specs.Prelude.{◌≡◌, ℕ, Bool, List, [], ◌∷◌}
 use Rattle.std.specs.List.{range_with_len}
 
@@ -6,7 +6,7 @@ use Rattle.std.specs.List.{range_with_len}
 unfoldable pub span : ℕ → ℕ → List ℕ
 span a n = range_with_len a n
 
--- a closure in the state p was asked xs in turn, answered bs, and is then in the state q
+-- calls of a closure with xs in turn, from state p on, returned bs and ended in state q
 abbrev pub Answers : {F A : Type 0} → (F → A → Bool → F → Type 0)
     → F → List A → List Bool → F → Type 0
 Answers step p [] [] q = p ≡ q
@@ -14,7 +14,7 @@ Answers step p [] (b ∷ bs) q = ⊥
 Answers step p (x ∷ xs) [] q = ⊥
 Answers {F} step p (x ∷ xs) (b ∷ bs) q = (r : F) × step p x b r × Answers step r xs bs q
 
--- a closure in the state p may be asked xs in turn, whatever it answers
+-- a closure in state p can be called with xs in turn, whatever it returns
 abbrev pub CanAsk : {F A R : Type 0} → (F → A → Type 0) → (F → A → R → F → Type 0)
     → F → List A → Type 0
 CanAsk pre step p [] = Unit {0}

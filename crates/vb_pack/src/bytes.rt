@@ -1,4 +1,4 @@
-//! Truth values as bits of bytes.
+//! Packs truth values into bits of bytes.
 ghost use Rattle.std.specs.Prelude.{◌≡◌, ◌+◌, ◌*◌, ◌≤◌, ◌==◌, not, length, map};
 ghost use Rattle.vb_pack.specs.Asked.{Answers, CanAsk, span};
 ghost use Rattle.vb_pack.specs.Bits.{bits};
@@ -10,12 +10,12 @@ use crate::collect::{collect_full, collect_part};
 use crate::pack::Lanes;
 use crate::truths::pack_values;
 
-/// Calls `f` with each number below `len`, in ascending order, and packs the answers into the first
-/// bytes of `bytes`, eight to a byte, least significant bit first. `bytes` has to have room for
-/// `len` bits. The bits of the last written byte behind the answers are false; later bytes keep
-/// their values.
+/// Calls `f` with each number below `len`, in ascending order, and packs the results into the first
+/// bytes of `bytes`, eight per byte, least significant bit first. Clears the bits after them in the
+/// last byte that it writes; later bytes are unchanged. The caller must prove that `bytes` has at
+/// least `len` bits and that `f` can be called with these numbers.
 ///
-/// Full words of 64 go by vectors of bytes, the rest bit by bit.
+/// It packs full words of 64 results by vectors of bytes, and the rest bit by bit.
 pub fn collect_bool_bytes<F: FnMut(usize) -> bool>(bytes: &mut [u8], len: usize, f: &mut F)
     requires room { len ≤ 8 * length bytes.old }
     requires callable { CanAsk (F.pre) (F.step) f.old (span 0 len) }
@@ -32,11 +32,11 @@ pub fn collect_bool_bytes<F: FnMut(usize) -> bool>(bytes: &mut [u8], len: usize,
     write_front(bytes, 8 * full, rest.div_ceil(8), last);
 }
 
-/// Packs truth values into the first bytes of `bytes`, eight to a byte, least significant bit
-/// first. `bytes` has to have room for `bools.len()` bits. The bits of the last written byte behind
-/// them are false; later bytes keep their values.
+/// Packs the values of `bools` into the first bytes of `bytes`, eight per byte, least significant
+/// bit first. Clears the bits after them in the last byte that it writes; later bytes are
+/// unchanged. The caller must prove that `bytes` has at least `bools.len()` bits.
 ///
-/// From 64 values on each is packed by a word, fewer go bit by bit.
+/// If there are at least 64 values, it packs all of them by words, else bit by bit.
 pub fn pack_bools(bytes: &mut [u8], bools: &[bool])
     requires { length bools.now ≤ 8 * length bytes.old }
     ensures packed { bits bytes.new 0 (length bools.now) ≡ bools.now }
@@ -45,12 +45,12 @@ pub fn pack_bools(bytes: &mut [u8], bools: &[bool])
     pack_values(bytes, bools);
 }
 
-/// Packs one bit for each byte of `truthy`, true where the byte isn't 0, into the first bytes of
-/// `bytes`, eight bits to a byte, least significant first. `bytes` has to have room for
-/// `truthy.len()` bits. The bits of the last written byte behind them are false; later bytes keep
-/// their values.
+/// Packs one bit for each byte of `truthy`, true if the byte isn't 0, into the first bytes of
+/// `bytes`, eight per byte, least significant bit first. Clears the bits after them in the last
+/// byte that it writes; later bytes are unchanged. The caller must prove that `bytes` has at least
+/// `truthy.len()` bits.
 ///
-/// From 64 values on each is packed by a word, fewer go bit by bit.
+/// If there are at least 64 bytes, it packs all of them by words, else bit by bit.
 pub fn pack_truthy(bytes: &mut [u8], truthy: &[u8])
     requires { length truthy.now ≤ 8 * length bytes.old }
     ensures packed { bits bytes.new 0 (length truthy.now) ≡ map (λ x. not (x == 0)) truthy.now }
@@ -60,7 +60,7 @@ pub fn pack_truthy(bytes: &mut [u8], truthy: &[u8])
     pack_values(bytes, truthy);
 }
 
-/// Writes the first `n` bytes of `word`, least significant first, to the bytes from `at` on.
+/// Writes the `n` lowest bytes of `word`, least significant first, to the bytes from index `at` on.
 #[inline(always)]
 pub(crate) fn write_front(bytes: &mut [u8], at: usize, n: usize, word: u64)
     requires in_word { n ≤ 8 }

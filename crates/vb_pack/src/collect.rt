@@ -1,12 +1,13 @@
-//! The answers of a closure as one word.
+//! Packs the results of a closure into one word.
 ghost use Rattle.std.specs.Prelude.{◌+◌, ◌^◌, ◌<◌, ◌≤◌};
 ghost use Rattle.vb_pack.specs.Asked.{Answers, CanAsk, span};
 ghost use Rattle.vb_pack.specs.Digits.{digits};
 
 use crate::pack::{Multiply, Pack};
 
-/// Calls `f` with each number below `len`, in ascending order, and packs the answers into one word,
-/// bit by bit: answer `i` is bit `i`, and the bits from `len` on are 0. `len` has to be at most 64.
+/// Calls `f` with each number below `len`, in ascending order, and returns a word with the results,
+/// which it packs bit by bit: result `i` is bit `i`, and the bits from `len` on are 0. The caller
+/// must prove that `len` is at most 64 and that `f` can be called with these numbers.
 pub fn collect_bool_word_scalar<F: FnMut(usize) -> bool>(len: usize, f: &mut F) -> u64
     requires in_word { len ≤ 64 }
     requires callable { CanAsk (F.pre) (F.step) f.old (span 0 len) }
@@ -16,10 +17,11 @@ pub fn collect_bool_word_scalar<F: FnMut(usize) -> bool>(len: usize, f: &mut F) 
     collect_part(0, len, f)
 }
 
-/// Calls `f` with each number below `len`, in ascending order, and packs the answers into one word:
-/// answer `i` is bit `i`, and the bits from `len` on are 0. `len` has to be at most 64.
+/// Calls `f` with each number below `len`, in ascending order, and returns a word with the results:
+/// result `i` is bit `i`, and the bits from `len` on are 0. The caller must prove that `len` is at
+/// most 64 and that `f` can be called with these numbers.
 ///
-/// Exactly 64 answers are packed by multiplies, fewer bit by bit.
+/// It packs exactly 64 results by multiplication, and fewer bit by bit.
 pub fn collect_bool_word<F: FnMut(usize) -> bool>(len: usize, f: &mut F) -> u64
     requires in_word { len ≤ 64 }
     requires callable { CanAsk (F.pre) (F.step) f.old (span 0 len) }
@@ -33,7 +35,7 @@ pub fn collect_bool_word<F: FnMut(usize) -> bool>(len: usize, f: &mut F) -> u64
     }
 }
 
-/// The answers of `f` at the `len` places from `base` on, at most 64, one digit after the other.
+/// Returns a word with the results of `f` for the `len` numbers from `base` on, at most 64.
 #[inline(always)]
 pub(crate) fn collect_part<F: FnMut(usize) -> bool>(base: usize, len: usize, f: &mut F) -> u64
     requires in_word { len ≤ 64 }
@@ -49,7 +51,7 @@ pub(crate) fn collect_part<F: FnMut(usize) -> bool>(base: usize, len: usize, f: 
     packed
 }
 
-/// The answers of `f` at the 64 places from `base` on, packed by `P`.
+/// Returns a word with the results of `f` for the 64 numbers from `base` on, packed by `P`.
 #[inline(always)]
 pub(crate) fn collect_full<P: Pack, F: FnMut(usize) -> bool>(base: usize, f: &mut F) -> u64
     requires fits { base + 64 < 2 ^ 64 }

@@ -1,8 +1,8 @@
-//! Truth values packed into words and bytes, least significant first: those that a closure answers,
-//! and those of slices.
+//! Packs truth values, from a closure or a slice, into words and bytes, least significant bit
+//! first.
 //!
-//! A closure is lent. It is asked exactly at its places, in ascending order and once each, and a
-//! contract says what it answered and in which state it is then. No call takes memory.
+//! Calls borrow the closure. They call it exactly once for each index, in ascending order, and
+//! their contracts state its results and its final state. No call allocates.
 #![tactic(auto)]
 
 mod bytes;

@@ -1,4 +1,4 @@
-//! What a closure makes of the bits of a window.
+//! Packs the results of a closure over the bits of a window.
 ghost use Rattle.std.specs.Prelude.{◌≡◌, ◌+◌, ◌*◌, ◌^◌, ◌<◌, ◌≤◌, length};
 ghost use Rattle.vb_bits.specs.InBytes.{InBytes};
 ghost use Rattle.vb_pack.specs.Asked.{Answers, CanAsk, span};
@@ -12,14 +12,13 @@ use crate::pack::pack_bool_word_lanes;
 use vb_bits::{digit, full_word, read_bits};
 
 /// Calls `f(i, b)` for each `i` below `len`, in ascending order, where `b` is bit `offset + i` of
-/// `src`, and packs the answers into the first bytes of `dst`, eight to a byte, least significant
-/// bit first. The bits of the last written byte behind the answers are false; later bytes keep
-/// their values.
+/// `src`. Packs the results into the first bytes of `dst`, eight per byte, least significant bit
+/// first. Clears the bits after them in the last byte that it writes; later bytes are unchanged.
 ///
-/// These bits have to lie in `src`, and `offset + len` has to fit in a `usize`. `dst` has to have
-/// room for `len` bits.
+/// The caller must prove that the window is in bounds of `src`, that `offset + len` fits in a
+/// `usize`, that `dst` has at least `len` bits, and that `f` can be called with these arguments.
 ///
-/// Full words of 64 go by vectors of bytes, the rest bit by bit.
+/// It packs full words of 64 results by vectors of bytes, and the rest bit by bit.
 pub fn map_bool_bytes<F: FnMut(usize, bool) -> bool>(
     dst: &mut [u8],
     src: &[u8],
@@ -45,8 +44,8 @@ pub fn map_bool_bytes<F: FnMut(usize, bool) -> bool>(
     write_front(dst, 8 * full, rest.div_ceil(8), last);
 }
 
-/// The answers of `f` at the 64 places from `base` on, counted from bit `offset`, with the bit
-/// there.
+/// Returns a word with the results of `f(i, b)` for the 64 indices `i` from `base` on, where `b` is
+/// bit `offset + i`.
 #[inline(always)]
 fn map_full<F: FnMut(usize, bool) -> bool>(src: &[u8], offset: usize, base: usize, f: &mut F) -> u64
     requires window { InBytes src.now (offset + base) 64 }
@@ -63,7 +62,7 @@ fn map_full<F: FnMut(usize, bool) -> bool>(src: &[u8], offset: usize, base: usiz
     pack_bool_word_lanes(&bools)
 }
 
-/// The answers of `f` at the `len` places from `base` on, at most 64, as [`map_full`].
+/// [`map_full`] for the `len` indices from `base` on, at most 64.
 #[inline(always)]
 fn map_part<F: FnMut(usize, bool) -> bool>(
     src: &[u8],

@@ -5,19 +5,19 @@ ghost use Rattle.vb_pack.specs.Digits.{digits};
 
 use std::simd::prelude::*;
 
-/// How 64 truth values become a word.
+/// A way to pack 64 truth values into a word.
 ///
-/// It is a type, so that each way has loops of its own, which the compiler makes vectors of.
+/// It is a type, so that each way has its own loops, which the compiler vectorizes.
 pub(crate) trait Pack {
-    /// The word whose digit `i` is truth value `i`.
+    /// Returns the word whose digit `i` is truth value `i`.
     fn pack(bools: &[bool; 64]) -> u64
         ensures { digits result 0 64 ≡ bools.now };
 }
 
-/// By multiplies of numbers.
+/// Packs by multiplication.
 pub(crate) struct Multiply;
 
-/// By a comparison of vectors.
+/// Packs by a comparison of vectors.
 pub(crate) struct Lanes;
 
 impl Pack for Multiply {
@@ -32,7 +32,7 @@ impl Pack for Lanes {
     }
 }
 
-/// The word whose digit `i` is truth value `i`, by a multiply for each eight of them.
+/// Returns the word whose digit `i` is truth value `i`. It multiplies once for eight values.
 #[inline]
 pub fn pack_bool_word_swar(bools: &[bool; 64]) -> u64
     ensures { digits result 0 64 ≡ bools.now }
@@ -44,8 +44,8 @@ pub fn pack_bool_word_swar(bools: &[bool; 64]) -> u64
     packed
 }
 
-/// The word whose digit `i` is truth value `i`, by vectors of bytes: each is compared with 1, and
-/// the answers are the word.
+/// Returns the word whose digit `i` is truth value `i`. It compares vectors of bytes with 1; the
+/// results of the lanes are the word.
 #[inline]
 pub fn pack_bool_word_lanes(bools: &[bool; 64]) -> u64
     ensures { digits result 0 64 ≡ bools.now }
@@ -53,7 +53,7 @@ pub fn pack_bool_word_lanes(bools: &[bool; 64]) -> u64
     pack_lanes(bools)
 }
 
-/// [`pack_bool_word_lanes`] of a slice of 64.
+/// [`pack_bool_word_lanes`] of a slice of 64 values.
 #[inline(always)]
 pub(crate) fn pack_lanes(bools: &[bool]) -> u64
     requires { length bools.now ≡ 64 }
@@ -68,7 +68,8 @@ pub(crate) fn pack_lanes(bools: &[bool]) -> u64
         .to_bitmask()
 }
 
-/// Eight truth values as one byte: a multiply moves the lowest digit of byte `i` to digit `56 + i`.
+/// Returns eight truth values as one byte: a multiplication moves the lowest digit of byte `i` to
+/// digit `56 + i`.
 #[inline(always)]
 fn pack_byte(eight: &[bool]) -> u8
     requires { length eight.now ≡ 8 }

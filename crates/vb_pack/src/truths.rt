@@ -1,4 +1,4 @@
-//! Slices whose values stand for truth values, packed a word at a time.
+//! Packs slices whose values represent truth values, a word at a time.
 ghost use Rattle.std.specs.Prelude.{◌≡◌, ◌-◌, ◌*◌, ◌/◌, ◌^◌, ◌<◌, ◌≤◌, ◌==◌, Bool, not};
 ghost use Rattle.std.specs.Prelude.{drop, length, map, take};
 ghost use Rattle.vb_pack.specs.Digits.{digits};
@@ -9,16 +9,16 @@ use crate::bytes::write_front;
 use crate::pack::pack_lanes;
 use std::simd::prelude::*;
 
-/// A value that stands for a truth value.
+/// A value that represents a truth value.
 pub(crate) trait Truth: Copy {
-    // Whether it is true.
+    // Whether the value is true.
     ghost truth: { Self → Bool };
 
-    /// Whether it is true.
+    /// Returns whether the value is true.
     fn is_true(self) -> bool
         ensures { result ≡ truth self };
 
-    /// The word whose digits are the truth of 64 values.
+    /// Returns the word whose digits are the truth of 64 values.
     fn word(values: &[Self]) -> u64
         requires { length values.now ≡ 64 }
         ensures { digits result 0 64 ≡ map truth values.now };
@@ -54,11 +54,11 @@ impl Truth for u8 {
     }
 }
 
-/// Packs the truth of the values into the first bytes of `bytes`, eight to a byte, least
-/// significant bit first. The bits of the last written byte behind them are false.
+/// Packs the truth of the values into the first bytes of `bytes`, eight per byte, least significant
+/// bit first. Clears the bits after them in the last byte that it writes.
 ///
-/// From 64 values on each is packed by a word: the last eight bytes are made of the last 64 values,
-/// where those behind the full words begin before them.
+/// If there are at least 64 values, it packs all of them by words: the last eight bytes are one
+/// word, which may overlap the full words before it.
 #[inline(always)]
 pub(crate) fn pack_values<T: Truth>(bytes: &mut [u8], values: &[T])
     requires { length values.now ≤ 8 * length bytes.old }
@@ -76,7 +76,7 @@ pub(crate) fn pack_values<T: Truth>(bytes: &mut [u8], values: &[T])
     }
 }
 
-/// [`pack_values`] of the full words of 64 alone.
+/// [`pack_values`] of the full words of 64 values only.
 #[inline(always)]
 fn pack_words<T: Truth>(bytes: &mut [u8], values: &[T])
     requires { length values.now ≤ 8 * length bytes.old }
@@ -88,8 +88,8 @@ fn pack_words<T: Truth>(bytes: &mut [u8], values: &[T])
     }
 }
 
-/// The word whose lowest digits are the truth of the last values, at least one and at most 64, of
-/// at least 64.
+/// Returns the word whose lowest digits are the truth of the last `rest` values, 1 to 64, of at
+/// least 64 values.
 #[inline(always)]
 fn last_word<T: Truth>(values: &[T], rest: usize) -> u64
     requires enough { 64 ≤ length values.now }
@@ -102,7 +102,7 @@ fn last_word<T: Truth>(values: &[T], rest: usize) -> u64
     T::word(&values[values.len() - 64..]) >> (64 - rest)
 }
 
-/// The word whose lowest digits are the truth of fewer than 64 values.
+/// Returns the word whose lowest digits are the truth of fewer than 64 values.
 #[inline(always)]
 fn few_word<T: Truth>(values: &[T]) -> u64
     requires in_word { length values.now < 64 }

@@ -1,4 +1,4 @@
-//! The answers of a closure as words of 64 digits.
+//! Packs the results of a closure into words of 64 digits.
 ghost use Rattle.std.specs.Prelude.{◌≡◌, ℕ, ◌+◌, ◌-◌, ◌*◌, ◌/◌, ◌%◌, ◌^◌, ◌<◌, ◌≤◌, ◌⊎◌, false};
 ghost use Rattle.std.specs.Prelude.{length};
 ghost use Rattle.vb_pack.specs.Asked.{Answers, CanAsk, span};
@@ -8,11 +8,12 @@ ghost use Rattle.vb_pack.specs.WordBits.{WritesWords, filled_to, word_bit, word_
 use crate::collect::{collect_full, collect_part};
 use crate::pack::{Lanes, Multiply, Pack};
 
-/// Calls `f` with each number below `len`, in ascending order, and packs the answers into the first
-/// words, 64 to a word, least significant bit first. `words` has to have room for `len` bits. The
-/// bits of the last written word behind the answers are 0; later words keep their values.
+/// Calls `f` with each number below `len`, in ascending order, and packs the results into the first
+/// words, 64 per word, least significant bit first. Clears the bits after them in the last word
+/// that it writes; later words are unchanged. The caller must prove that `words` has at least `len`
+/// bits and that `f` can be called with these numbers.
 ///
-/// Full words are packed by multiplies, the rest bit by bit.
+/// It packs full words by multiplication, and the rest bit by bit.
 pub fn collect_bool_words<F: FnMut(usize) -> bool>(words: &mut [u64], len: usize, f: &mut F)
     requires room { len ≤ 64 * length words.old }
     requires callable { CanAsk (F.pre) (F.step) f.old (span 0 len) }
@@ -23,12 +24,13 @@ pub fn collect_bool_words<F: FnMut(usize) -> bool>(words: &mut [u64], len: usize
     collect_words::<Multiply, F>(words, len, f);
 }
 
-/// Calls `f` with each number below `len`, in ascending order, and packs the answers into the first
-/// words, 64 to a word, least significant bit first. `words` has to have room for `len` bits. The
-/// bits of the last written word behind the answers are 0; later words keep their values.
+/// Calls `f` with each number below `len`, in ascending order, and packs the results into the first
+/// words, 64 per word, least significant bit first. Clears the bits after them in the last word
+/// that it writes; later words are unchanged. The caller must prove that `words` has at least `len`
+/// bits and that `f` can be called with these numbers.
 ///
-/// Full words are packed by vectors of bytes. Despite the name, no version is chosen at run time:
-/// the call is compiled for the processor level of the build.
+/// It packs full words by vectors of bytes. Despite the name, it chooses no version at run time: it
+/// is compiled for the processor level of the build.
 pub fn collect_bool_words_multiversioned<F: FnMut(usize) -> bool>(
     words: &mut [u64],
     len: usize,
@@ -65,8 +67,8 @@ fn collect_words<P: Pack, F: FnMut(usize) -> bool>(words: &mut [u64], len: usize
 /// Writes the 64 bits of `word` to the 64 bits of `words` from bit `at` on. Bit `i` of `words` is
 /// bit `i % 64` of word `i / 64`, least significant first. No other bit changes.
 ///
-/// Bit `at` has to lie in `words`. All bits of `words` from bit `at` on have to be 0 before the
-/// call. The bits of `word` that would lie past the last word have to be 0 too.
+/// The caller must prove that bit `at` is in bounds, that all bits of `words` from bit `at` on are
+/// 0, and that the bits of `word` past the last word are 0.
 #[inline]
 pub fn splice_word_at_bit(words: &mut [u64], at: usize, word: u64)
     requires place { at / 64 < length words.old }
@@ -82,14 +84,15 @@ pub fn splice_word_at_bit(words: &mut [u64], at: usize, word: u64)
     }
 }
 
-/// Calls `f` with each number below `len`, in ascending order, and writes answer `k` to bit
+/// Calls `f` with each number below `len`, in ascending order, and writes result `k` to bit
 /// `at + k` of `words`. Bit `i` of `words` is bit `i % 64` of word `i / 64`, least significant
 /// first. No other bit changes.
 ///
-/// The `len` bits from bit `at` on have to lie in `words`, and `at + len` has to fit in a `usize`.
-/// All bits of `words` from bit `at` on have to be 0 before the call.
+/// The caller must prove that the `len` bits from bit `at` on are in bounds, that `at + len` fits
+/// in a `usize`, that all bits of `words` from bit `at` on are 0, and that `f` can be called with
+/// these numbers.
 ///
-/// Full words of answers go by multiplies, the rest bit by bit.
+/// It packs full words of results by multiplication, and the rest bit by bit.
 pub fn pack_bools_into_words<F: FnMut(usize) -> bool>(
     words: &mut [u64],
     at: usize,
