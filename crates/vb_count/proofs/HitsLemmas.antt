@@ -1,4 +1,4 @@
--- The values that are v.
+-- The values that equal v.
 use Rattle.std.proofs.Common.{◌≡◌, ℕ, ◌+◌, ◌-◌, ◌*◌, ◌≤◌, Bool, true, false, not, List, ◌++◌}
 use Rattle.std.proofs.Common.{length, refl, sym, ap, ◌∙◌, arith}
 use Rattle.std.proofs.lemmas.List.{length-map, map-append}
@@ -7,7 +7,7 @@ use Rattle.vb_count.specs.Hits.{hits}
 use Rattle.vb_bits.proofs.BitsLemmas.{bits-add, length-bits, count-append, count-le}
 use Rattle.vb_bits.proofs.BitsLemmas.{count-bits_none, count-complement, count-complement_none}
 
--- there are as many values
+-- the list keeps its length
 pub length-hits : (v : Bool) (l : List Bool) → length (hits v l) ≡ length l
 length-hits true l = refl
 length-hits false l = length-map l not
@@ -23,13 +23,13 @@ pub hits-bits-add : (v : Bool) (b : List ℕ) (o m n : ℕ)
 hits-bits-add v b o m n =
     ap (hits v) (bits-add b o m n) ∙ hits-append v (bits b o m) (bits b (o + m) n)
 
--- how many they are in a window cut in two
+-- their count in a window cut in two
 pub count-hits-bits-add : (v : Bool) (b : List ℕ) (o m n : ℕ) → count (hits v
     (bits b o (m + n))) ≡ count (hits v (bits b o m)) + count (hits v (bits b (o + m) n))
 count-hits-bits-add v b o m n = ap count (hits-bits-add v b o m n)
     ∙ count-append (hits v (bits b o m)) (hits v (bits b (o + m) n))
 
--- the same, with the place and the length of the second part as the code has them
+-- the same, with the offset and the length of the second part as the code has them
 pub count-hits-bits_split : (v : Bool) (b : List ℕ) (o m z p k : ℕ)
     → p ≡ o + m → z ≡ m + k → count (hits v (bits b o z))
     ≡ count (hits v (bits b o m)) + count (hits v (bits b p k))
@@ -37,7 +37,7 @@ count-hits-bits_split v b o m z p k place end =
     ap (λ n. count (hits v (bits b o n))) end ∙ count-hits-bits-add v b o m k
     ∙ ap (λ x. count (hits v (bits b o m)) + count (hits v (bits b x k))) (sym place)
 
--- how many are v in a window that is longer by a unit of w bytes
+-- their count in a window extended by a unit of w bytes
 pub count_unit_more : (v : Bool) (b xs : List ℕ) (o m z w : ℕ)
     → z ≡ m + 8 * w → bits xs 0 (8 * w) ≡ bits b (o + m) (8 * w)
     → count (hits v (bits b o z))
@@ -51,17 +51,17 @@ pub count-hits-bits_none : (v : Bool) (b : List ℕ) (o : ℕ) → count (hits v
 count-hits-bits_none true b o = count-bits_none b o
 count-hits-bits_none false b o = count-complement_none b o
 
--- the true ones, where true is sought
+-- the list itself, if true is sought
 pub matching_true : (v : Bool) (l : List Bool) → v ≡ true → hits v l ≡ l
 matching_true true l e = refl
 matching_true false l e = cc
 
--- the false ones, where false is sought
+-- its complement, if false is sought
 pub matching_false : (v : Bool) (l : List Bool) → v ≡ false → hits v l ≡ complement l
 matching_false true l e = cc
 matching_false false l e = refl
 
--- no more than the window has bits
+-- at most the number of bits of the window
 pub count-hits-bits-le : (v : Bool) (b : List ℕ) (o n : ℕ) → count (hits v (bits b o n)) ≤ n
 count-hits-bits-le v b o n = omega (
   arith,
@@ -70,12 +70,12 @@ count-hits-bits-le v b o n = omega (
   length-bits b o n,
 )
 
--- how many they are in a window, where true is sought
+-- their count in a window, if true is sought
 pub count-hits-bits_true : (v : Bool) (b : List ℕ) (o n : ℕ)
     → v ≡ true → count (hits v (bits b o n)) ≡ count (bits b o n)
 count-hits-bits_true v b o n e = ap count (matching_true v (bits b o n) e)
 
--- how many they are in a window, where false is sought
+-- their count in a window, if false is sought
 pub count-hits-bits_false : (v : Bool) (b : List ℕ) (o n : ℕ)
     → v ≡ false → count (hits v (bits b o n)) ≡ n - count (bits b o n)
 count-hits-bits_false v b o n e = omega (

@@ -17,7 +17,7 @@ use Rattle.vb_count.specs.Lanes.{EightWords, ones}
 use Rattle.vb_count.proofs.AdderLemmas.{ones-adder}
 
 -- ---- vectors of words
--- an operator that keeps words
+-- an operator whose results are words
 EightWords-zip2 : (f : ℕ → ℕ → ℕ) → ((a b : ℕ) → a < 2 ^ 64 → b < 2 ^ 64 → f a b < 2 ^ 64)
     → (xs ys : List ℕ) → EightWords xs → EightWords ys → EightWords (zip2 f xs ys)
 EightWords-zip2 f keeps xs ys v w = (
@@ -71,12 +71,12 @@ EightWords-counts xs v =
     each [] h = tt
     each (x ∷ xs) h = (omega (arith, ones_le_self x, h.0), each xs h.1)
 
--- and their sum is how many digits of all lanes are 1
+-- and their sum is the number of set digits of all lanes
 pub sum-counts : (xs : List ℕ) → sum_l (map (λ n. n) (map count_ones xs)) ≡ ones xs
 sum-counts [] = refl
 sum-counts (x ∷ xs) = ap (λ n. count_ones x + n) (sum-counts xs)
 
--- sums that wrap, but where none does
+-- sums modulo 2 ^ 64, if none wraps
 pub sum-wrapped : (xs ys : List ℕ) → length xs ≡ length ys → sum_l xs + sum_l ys
     < 2 ^ 64 → sum_l (zip2 (λ a b. (a + b) % 2 ^ 64) xs ys) ≡ sum_l xs + sum_l ys
 sum-wrapped [] [] e h = refl
@@ -112,7 +112,7 @@ ones-digits_l k (suc n) x h =
       ap count_ones (shr_split x k),
     )
 
--- bytes as one number, which has their digits
+-- bytes as one number
 number_l-lt : (xs : List ℕ) → Each1 (λ x. x < 256) xs → number_l 256 xs < 256 ^ length xs
 number_l-lt [] h = omega arith
 number_l-lt (x ∷ xs) h = omega (arith, h.0, number_l-lt xs h.1, pow-suc 256 (length xs))

@@ -19,14 +19,14 @@ bits_of_byte_at b x a n read within =
     ap (λ s. bits (x ∷ []) s n) place
     ∙ bits_of_read_byte b x (8 * a) n (read ∙ ap (λ j. get_or b j 0) byte) (omega arith)
 
--- how many bits of byte a are true
+-- the number of set bits in byte a
 pub ones_of_byte : (b : List ℕ) (x a : ℕ)
     → x ≡ get_or b a 0 → x < 256 → count_ones x ≡ count (bits b (8 * a) 8)
 ones_of_byte b x a read small =
     sym (count-digits_below x 8 small) ∙ ap count
     (sym (bits_of_byte x 0 8 (omega arith)) ∙ bits_of_byte_at b x a 8 read (omega arith))
 
--- how many are from bit o on to the end of its byte
+-- the number of set bits from bit o on to the end of its byte
 pub ones_of_head : (b : List ℕ) (x o : ℕ)
     → x ≡ get_or b (o / 8) 0 → x < 256 → count_ones (x / 2 ^ (o % 8)) ≡ count (bits b o (8 - o % 8))
 ones_of_head b x o read small =

@@ -1,4 +1,4 @@
--- The values of a list that are the one that is sought.
+-- The values of a list that equal the sought one.
 use Rattle.std.specs.Prelude.{Bool, true, false, List}
 use Rattle.vb_bits.specs.Bits.{complement}
 

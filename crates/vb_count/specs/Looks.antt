@@ -4,22 +4,22 @@ use Rattle.std.specs.Prelude.{◌≡◌, ◌⊎◌, ℕ, List, ◌+◌, ◌-◌,
 use Rattle.std.specs.Prelude.{Bool, IsTrue}
 use Rattle.vb_bits.specs.Bits.{at}
 
--- bytes, and how many looks they have had
+-- bytes, and the number of looks at them
 pub record CountedBytes : Type 0 where
   pub bytes : List ℕ
   pub looks : ℕ
 
--- the bytes are the same, and had exactly n looks more
+-- the bytes are unchanged, with exactly n more looks
 pub record LooksExactly (n : ℕ) (before after : CountedBytes) : Type 0 where
   pub same : after.bytes ≡ before.bytes
   pub looks : after.looks ≡ before.looks + n
 
--- the bytes are the same, and had at most n looks more
+-- the bytes are unchanged, with at most n more looks
 pub record LooksAtMost (n : ℕ) (before after : CountedBytes) : Type 0 where
   pub same : after.bytes ≡ before.bytes
   pub looks : after.looks ≤ before.looks + n
 
--- the looks that n bits from bit o on take: h bits up to the next whole byte, m whole bytes by
+-- the looks of a count of n bits from bit o on: h bits up to the next whole byte, m whole bytes by
 -- chunks, words and bytes, and t bits after them
 abbrev pub looks : ℕ → ℕ → ℕ
 looks o n =
@@ -28,7 +28,7 @@ looks o n =
     let t = (n - h) % 8 in
     min h 1 + m / 64 + m % 64 / 8 + m % 8 + min t 1
 
--- the looks that n bits from a whole byte on take without chunks: words, bytes and a part of a byte
+-- the looks of n bits from a whole byte on without chunks: words, bytes and a part of a byte
 abbrev pub rest_looks : ℕ → ℕ
 rest_looks n = n / 64 + n % 64 / 8 + min (n % 8) 1
 
@@ -40,20 +40,20 @@ pub record IsLook (a n : ℕ) : Type 0 where
   pub whole : 8 < n → a % 8 ≡ 0
   pub in_byte : n ≤ 8 → a % 8 + n ≤ 8
 
--- n of m bits at a whole byte that one look reads: as many as a chunk, a word or a byte has, or all
+-- n of m bits at a whole byte that one look reads: those of a chunk, a word or a byte, or all
 pub record IsWholeLook (m n : ℕ) : Type 0 where
   pub chunk : 512 ≤ m → n ≡ 512
   pub word : m < 512 → 64 ≤ m → n ≡ 64
   pub byte : m < 64 → n ≡ min m 8
 
--- a search of the values l, which begin at bit o, from place a to the back: if one of them is true,
--- the looks are at most those of a count of the bits from place a up to it, with it
+-- a search of the values l, which start at bit o, from index a to the back: if it finds a true
+-- value, its looks are at most those of a count of the bits from index a up to that value, included
 abbrev pub StopsAtNext : List Bool → ℕ → ℕ → CountedBytes → CountedBytes → Type 0
 StopsAtNext l o a before after =
     (p : ℕ) → a ≤ p → IsTrue (at l p) → LooksAtMost (looks (o + a) (p + 1 - a)) before after
 
--- a search of them to the front, of those before place e: if one of them is true, the looks are at
--- most those of a count of the bits from it on, with it, up to place e
+-- a search of them to the front, from before index e: if it finds a true value, its looks are at
+-- most those of a count of the bits from that value, included, up to index e
 abbrev pub StopsAtPrevious : List Bool → ℕ → ℕ → CountedBytes → CountedBytes → Type 0
 StopsAtPrevious l o e before after =
     (p : ℕ) → p < e → IsTrue (at l p) → LooksAtMost (looks (o + p) (e - p)) before after

@@ -1,9 +1,9 @@
-//! Counts of the true bits of a window.
+//! Counts the set bits of a window.
 //!
-//! The window is cut as Mula, Kurz and Lemire's "Faster Population Counts Using AVX2 Instructions"
-//! cuts it: the first and last bits by words and bytes, which come first here, and whole vectors,
-//! which come last, many of them by carry-save adders. The compiler chooses the count of a word or
-//! vector.
+//! The window is split as in Mula, Kurz and Lemire's "Faster Population Counts Using AVX2
+//! Instructions": the first and last bits by words and bytes, which come first here, and whole
+//! vectors, which come last, many of them by carry-save adders. The compiler chooses how to count a
+//! word or a vector.
 ghost use Rattle.std.specs.Prelude.{◌≡◌, ◌+◌, ◌-◌, ◌*◌, ◌/◌, ◌%◌, ◌^◌, ◌<◌, ◌≤◌, length, min};
 ghost use Rattle.vb_bits.specs.Bits.{bits, count};
 ghost use Rattle.vb_bits.specs.InBytes.{InBytes};
@@ -16,16 +16,17 @@ use crate::lane_sum::LaneSum;
 use crate::rest::add_rest;
 use crate::word::byte_part;
 
-/// From so many chunks of a wide source on, adders count. Where a vector has 32 bytes they are
-/// faster than the counts of words, and already from 32 on; where it has 16, slower in the caches.
+/// From this number of chunks of a wide source on, adders count. With vectors of 32 bytes they are
+/// faster than counts of words, and already from 32 chunks on; with vectors of 16 bytes they are
+/// slower in the caches.
 const MIN_ADDER_CHUNKS: usize = 64;
 
-/// So many chunks, which are 8 MiB, lie past the caches of most machines. Adders then win at each
-/// width, since they read memory at four places.
+/// This number of chunks, 8 MiB, exceeds the caches of most machines. Adders then win at each
+/// width, since they read memory at four addresses.
 const PAST_CACHES: usize = 131_072;
 
-/// How many of the `len` bits from bit `offset` on are true. The window has to lie in the bytes,
-/// and to end below 2^64.
+/// Returns the number of set bits among the `len` bits from bit `offset` on. The caller must prove
+/// that the window is in bounds and that `offset + len` fits in a `usize`.
 pub fn count_ones(bytes: &[u8], offset: usize, len: usize) -> usize
     requires window { InBytes bytes.now offset len }
     ensures { result ≡ count (bits bytes.now offset len) }
@@ -37,8 +38,11 @@ pub fn count_ones(bytes: &[u8], offset: usize, len: usize) -> usize
     }
 }
 
-/// [`count_ones`] for vectors of 32 bytes and more: at x86-64-v3 it counts windows of 32,768 bits
-/// and more faster, since adders count them; at x86-64-v2 that is slower.
+/// Returns the number of set bits among the `len` bits from bit `offset` on. The caller must prove
+/// that the window is in bounds and that `offset + len` fits in a `usize`.
+///
+/// It is for vectors of 32 bytes and more. At x86-64-v3 it is faster than [`count_ones`] for
+/// windows of 32,768 bits and more, since adders count them; at x86-64-v2 it is slower.
 pub fn count_ones_wide(bytes: &[u8], offset: usize, len: usize) -> usize
     requires window { InBytes bytes.now offset len }
     ensures { result ≡ count (bits bytes.now offset len) }
@@ -50,7 +54,8 @@ pub fn count_ones_wide(bytes: &[u8], offset: usize, len: usize) -> usize
     }
 }
 
-/// [`count_ones`], called for long windows, so that a short one needs no source in memory.
+/// [`count_ones`] of more than 512 bits, as a call, so that a shorter window needs no source in
+/// memory.
 #[inline(never)]
 fn count_of_many(bytes: &[u8], offset: usize, len: usize) -> usize
     requires long { 512 < len }
@@ -60,13 +65,13 @@ fn count_of_many(bytes: &[u8], offset: usize, len: usize) -> usize
     count_long(&mut Plain::new(bytes), offset, len)
 }
 
-/// How many bits are true of the window of `src`, which has to lie in its bytes and to end below
-/// 2^64.
+/// Returns the number of set bits in the window of `src`. The caller must prove that the window is
+/// in bounds and that `offset + len` fits in a `usize`.
 ///
-/// It looks once at a partial first byte, once at each 64 whole bytes, once at each eight of those
-/// left, once at each byte then left, and once at a partial last byte; once in all where the window
-/// lies in one byte, and not at all where it is empty. `G.seen` of a source is its bytes, which no
-/// look changes, and how many looks they have had.
+/// It looks once at a partial first byte, once at each 64 whole bytes, once at each eight of the
+/// remaining bytes, once at each byte then left, and once at a partial last byte. It looks only
+/// once if the window is within one byte, and not at all if it is empty. `G.seen` of a source is
+/// its bytes, which no look changes, and the number of looks so far.
 pub fn count_ones_by<G: Glance>(src: &mut G, offset: usize, len: usize) -> usize
     requires window { InBytes (G.seen src.old).bytes offset len }
     ensures value { result ≡ count (bits (G.seen src.old).bytes offset len) }
@@ -115,17 +120,17 @@ fn count_long<G: Glance>(src: &mut G, offset: usize, len: usize) -> usize
     let chunks = (len - head) / 512;
     let rest = (len - head) % 512;
     let ones = count_head(src, offset);
-    // Most long windows end with a chunk, and then the tests of the rest are saved.
+    // Most long windows end with a chunk; they skip the tests of the rest.
     let ones = if rest == 0 {
         ones
     } else {
         add_rest(src, at + 64 * chunks, rest, ones)
     };
-    // The chunks come last, so that nothing has to be kept over the call that counts them.
+    // The chunks come last, so that no value is kept across the call that counts them.
     add_chunks(src, at, chunks, ones)
 }
 
-/// Counts the bits from bit `offset` on up to the first whole byte, which are the rest of a byte.
+/// Counts the bits from bit `offset` on up to the next whole byte.
 fn count_head<G: Glance>(src: &mut G, offset: usize) -> usize
     requires inside { 0 < offset % 8 → offset / 8 < length (G.seen src.old).bytes }
     ensures value { result ≡ count (bits (G.seen src.old).bytes offset ((8 - offset % 8) % 8)) }
@@ -139,7 +144,7 @@ fn count_head<G: Glance>(src: &mut G, offset: usize) -> usize
     (u64::from(src.byte(offset / 8)) >> before).count_ones() as usize
 }
 
-/// Counts `len` bits that lie in one byte, from bit `at` on.
+/// Counts `len` bits within one byte, from bit `at` on.
 #[tactic(auto, using(vb_bits::proofs::BitsLemmas::windows))]
 fn count_part<G: Glance>(src: &mut G, at: usize, len: usize) -> usize
     requires in_byte { 0 < len → at % 8 + len ≤ 8 }
@@ -153,10 +158,13 @@ fn count_part<G: Glance>(src: &mut G, at: usize, len: usize) -> usize
     byte_part(src.byte(at / 8), at % 8, len, true).count_ones() as usize
 }
 
-/// Adds to `ones` the true bits of `n` chunks from byte `at` on.
+/// Returns `ones` plus the number of set bits in the `n` chunks from byte `at` on. The caller must
+/// prove that the chunks are in bounds, and that their end in bits and `ones + 512 * n` fit in a
+/// `usize`.
 ///
-/// Fewer than [`min_adder_chunks`] are counted by their words, more by sixteen, and what is left by
-/// words. It isn't inlined: callers with few chunks then keep nothing over it.
+/// Words count fewer than [`min_adder_chunks`]. From that number on, adders count sixteen chunks at
+/// a time, and words count the rest. It isn't inlined: callers with few chunks then keep no value
+/// across it.
 #[tactic(auto, using(vb_bits::proofs::BitsLemmas::windows))]
 #[inline(never)]
 pub fn add_chunks<G: Glance>(src: &mut G, at: usize, n: usize, ones: usize) -> usize
@@ -169,13 +177,13 @@ pub fn add_chunks<G: Glance>(src: &mut G, at: usize, n: usize, ones: usize) -> u
     if n < min_adder_chunks::<G>() {
         return add_few(src, at, n, ones);
     }
-    // Of memory, quarters that are a power of two apart are read an eighth slower.
+    // Memory is read more slowly if the quarters are a power of two apart.
     let turns = n / 16 - usize::from(PAST_CACHES <= n);
     let rest = add_few(src, at + 1024 * turns, n - 16 * turns, ones);
     rest + count_quarters(src, at, turns)
 }
 
-/// From how many chunks of a source on adders count.
+/// Returns the number of chunks of a source from which on adders count.
 fn min_adder_chunks<G: Glance>() -> usize
     ensures { MIN_ADDER_CHUNKS ≤ result }
 {
@@ -186,11 +194,12 @@ fn min_adder_chunks<G: Glance>() -> usize
     }
 }
 
-/// Adds to `ones` the true bits of `n` chunks from byte `at` on by the counts of their words.
+/// Returns `ones` plus the number of set bits in the `n` chunks from byte `at` on, by the counts of
+/// their words.
 ///
-/// Two chunks a turn, which are summed before their sum is added: a compiler that counts the bits
-/// of bytes then adds those counts as bytes and widens them once a turn. It isn't inlined: among
-/// the sums of other parts the compiler no longer sees its four as the lanes of one vector.
+/// Each turn sums two chunks before it adds their sum: a compiler that counts the bits of bytes
+/// then adds those counts as bytes and widens them once per turn. It isn't inlined: among the sums
+/// of other parts the compiler no longer sees its four sums as the lanes of one vector.
 #[tactic(auto, using(vb_bits::proofs::BitsLemmas::windows))]
 #[inline(never)]
 fn add_few<G: Glance>(src: &mut G, at: usize, n: usize, ones: usize) -> usize
@@ -207,8 +216,9 @@ fn add_few<G: Glance>(src: &mut G, at: usize, n: usize, ones: usize) -> usize
     sum.plus(sum_chunks(src, at + n / 2 * 128, n % 2)).total()
 }
 
-/// Counts the chunks of four quarters, one behind another from byte `at` on, each of `turns` times
-/// four chunks: four of each quarter a turn, so that memory is read ahead at four places.
+/// Counts the chunks of four adjacent quarters from byte `at` on. Each quarter has `4 * turns`
+/// chunks, and each turn counts four of each quarter, so that memory is read ahead at four
+/// addresses.
 #[tactic(auto, using(vb_bits::proofs::BitsLemmas::windows))]
 #[inline(never)]
 fn count_quarters<G: Glance>(src: &mut G, at: usize, turns: usize) -> usize
@@ -226,7 +236,7 @@ fn count_quarters<G: Glance>(src: &mut G, at: usize, turns: usize) -> usize
 
 /// Counts `n` chunks from byte `at` on, one by one.
 ///
-/// A loop also for two, since a compiler that saw one sum would add to the whole one by one.
+/// It is a loop even for two: if the compiler saw one sum, it would add each part to the total.
 #[tactic(auto, using(vb_bits::proofs::BitsLemmas::windows))]
 #[inline(always)]
 fn sum_chunks<G: Glance>(src: &mut G, at: usize, n: usize) -> LaneSum

@@ -1,8 +1,7 @@
-//! Chunks counted sixteen by sixteen, as Harley and Seal do: see Mula, Kurz and Lemire's "Faster
-//! Population Counts Using AVX2 Instructions".
+//! Counts chunks sixteen at a time by the method of Harley and Seal: see Mula, Kurz and Lemire's
+//! "Faster Population Counts Using AVX2 Instructions".
 //!
-//! Adders collect the true bits of sixteen vectors into one, and so the bits of one vector are
-//! counted in the place of sixteen.
+//! Adders collect the set bits of sixteen vectors into one, so that only that one is counted.
 ghost use Rattle.std.specs.Prelude.{◌≡◌, ℕ, ◌+◌, ◌*◌, ◌^◌, ◌<◌, ◌≤◌, length};
 ghost use Rattle.vb_bits.specs.Bits.{bits, count};
 ghost use Rattle.vb_count.specs.Looks.{LooksExactly};
@@ -29,7 +28,7 @@ impl Model for Counter {
 }
 
 impl Counter {
-    /// The count of nothing.
+    /// Returns a count of 0.
     pub(crate) fn zero() -> Counter
         ensures { result ≡ 0 }
     {
@@ -42,7 +41,8 @@ impl Counter {
         }
     }
 
-    /// Adds the true bits of four chunks from each of four bytes on, which lie `apart` bytes apart.
+    /// Adds the set bits of four chunks from byte `at` on, and of four from each of three further
+    /// bytes, each `apart` bytes after the previous one.
     #[inline(always)]
     pub(crate) fn add<G: Glance>(self, src: &mut G, at: usize, apart: usize) -> Counter
         requires inside { at + 3 * apart + 256 ≤ length (G.seen src.old).bytes }
@@ -70,7 +70,7 @@ impl Counter {
         }
     }
 
-    /// The whole count.
+    /// Returns the whole count.
     pub(crate) fn total(self) -> usize
         requires { self < 2 ^ 64 }
         ensures { result ≡ self }
@@ -82,7 +82,7 @@ impl Counter {
     }
 }
 
-/// The bits of the chunk from byte `at` on.
+/// Returns the bits of the chunk from byte `at` on.
 #[inline(always)]
 fn ones_at<G: Glance>(src: &mut G, at: usize) -> Ones
     requires { at + 64 ≤ length (G.seen src.old).bytes }
@@ -92,7 +92,8 @@ fn ones_at<G: Glance>(src: &mut G, at: usize) -> Ones
     Ones::of(&src.chunk(at))
 }
 
-/// Adds the bits of four chunks from byte `at` on, and carries into a vector of fours.
+/// Adds the bits of four chunks from byte `at` on. Returns the ones, the twos and the fours
+/// carried.
 #[inline(always)]
 fn add_four<G: Glance>(ones: Ones, twos: Ones, src: &mut G, at: usize) -> (Ones, Ones, Ones)
     requires inside { at + 256 ≤ length (G.seen src.old).bytes }

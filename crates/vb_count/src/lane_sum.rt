@@ -1,12 +1,12 @@
-//! Sums of the true bits of chunks.
+//! Sums of the set bits of chunks.
 ghost use Rattle.std.specs.Prelude.{◌≡◌, ℕ, ◌+◌, ◌*◌, ◌^◌, ◌<◌, ◌≤◌, length};
 ghost use Rattle.vb_bits.specs.Bits.{bits, count};
 
 use std::marker::Model;
 use vb_bits::word_at;
 
-/// A sum in four parts. They are kept apart, as the lanes of a vector are, so that the counts of a
-/// chunk's words don't wait for one another.
+/// A sum in four parts, separate like the lanes of a vector, so that the counts of a chunk's words
+/// don't wait for one another.
 #[derive(Drop)]
 pub struct LaneSum {
     a: usize,
@@ -24,7 +24,7 @@ impl Model for LaneSum {
 }
 
 impl LaneSum {
-    /// A sum that has come to so much.
+    /// Returns the sum `ones`.
     pub fn of(ones: usize) -> LaneSum
         ensures { result ≡ ones }
     {
@@ -36,7 +36,7 @@ impl LaneSum {
         }
     }
 
-    /// A sum of four parts.
+    /// Returns the sum of four parts. The caller must prove that it fits in a `usize`.
     pub fn of_four(a: usize, b: usize, c: usize, d: usize) -> LaneSum
         requires { a + b + c + d < 2 ^ 64 }
         ensures { result ≡ a + b + c + d }
@@ -44,8 +44,9 @@ impl LaneSum {
         LaneSum { a, b, c, d }
     }
 
-    /// Adds the true bits of a chunk: words 0 and 4 to the first part, 1 and 5 to the second, and
-    /// so on, which is the order that a vector of four words has.
+    /// Returns the sum with the set bits of a chunk added: words 0 and 4 to the first part, 1 and 5
+    /// to the second, and so on, which is the order of a vector of four words. The caller must
+    /// prove that the sum plus 512 fits in a `usize`.
     pub fn add(self, chunk: &[u8; 64]) -> LaneSum
         requires { self + 512 < 2 ^ 64 }
         ensures { result ≡ self + count (bits chunk.now 0 512) }
@@ -58,7 +59,7 @@ impl LaneSum {
         }
     }
 
-    /// Both sums.
+    /// Returns the sum of both. The caller must prove that it fits in a `usize`.
     pub fn plus(self, other: LaneSum) -> LaneSum
         requires { self + other < 2 ^ 64 }
         ensures { result ≡ self + other }
@@ -71,7 +72,7 @@ impl LaneSum {
         }
     }
 
-    /// The whole sum.
+    /// Returns the sum as one number.
     pub fn total(self) -> usize
         ensures { result ≡ self }
     {
@@ -79,7 +80,7 @@ impl LaneSum {
     }
 }
 
-/// How many bits of the eight bytes from `at` on are true.
+/// Returns the number of set bits in the eight bytes from `at` on.
 fn word_ones_at(bytes: &[u8], at: usize) -> usize
     requires { at + 8 ≤ length bytes.now }
     ensures value { result ≡ count (bits bytes.now (8 * at) 64) }

@@ -1,7 +1,8 @@
-//! Counts of the true bits of a window, by looks that are counted.
+//! Counts the set bits of a window, by looks that contracts count.
 //!
-//! A window is the `len` bits from bit `offset` on, least significant first. It has to lie in the
-//! bytes, and its end has to be a `usize`; `vb_bits::window_fits` is the test. Counts are of bits.
+//! A window is the `len` bits from bit `offset` on, least significant first. The caller must prove
+//! that it is in bounds and that `offset + len` fits in a `usize`; `vb_bits::window_fits` tests
+//! both at run time. Counts are of bits. No call allocates.
 //!
 //! Counting reads a [`Glance`], a source of bytes that counts its reads: see [`count_ones_by`] for
 //! the exact number, and [`most_looks`] for a bound on it.

@@ -1,12 +1,13 @@
-//! The looks that a window takes: a bound on them, and which bits each of them reads.
+//! The looks at a window: a bound on their number, and the bits that each look reads.
 ghost use Rattle.std.specs.Prelude.{◌≡◌, ℕ, ◌+◌, ◌-◌, ◌/◌, ◌%◌, ◌^◌, ◌<◌, ◌≤◌, min};
 ghost use Rattle.vb_count.specs.Looks.{looks, IsLook, IsWholeLook};
 
-/// `len / 512 + 16`: an upper bound on the looks that [`count_ones_by`](crate::count_ones_by),
-/// `bit_select_by` or `bit_select_unset_by` takes over `len` bits, at any offset. A look is one
-/// read of a chunk of 64 bytes, of a word of eight, or of a byte.
+/// Returns `len / 512 + 16`, an upper bound on the looks that
+/// [`count_ones_by`](crate::count_ones_by), `bit_select_by` or `bit_select_unset_by` makes over
+/// `len` bits, at any offset. A look is one read of a chunk of 64 bytes, of a word of eight, or of
+/// a byte.
 ///
-/// The bits hold at most `len / 512` whole chunks. Beside these are at most seven words, seven
+/// The bits hold at most `len / 512` whole chunks, and outside of these at most seven words, seven
 /// bytes, and a partial first and last byte. Up to 512 bits take at most 16 looks.
 pub fn most_looks(len: usize) -> usize
     ensures value { result ≡ len / 512 + 16 }
@@ -16,11 +17,12 @@ pub fn most_looks(len: usize) -> usize
     len / 512 + 16
 }
 
-/// Returns how many of the `len` bits from bit `at` on the first look reads, if they are read from
-/// front to back: those of a partial first byte, else the bits of a chunk, a word or a byte,
-/// whichever is the largest that they fill, else all of them.
+/// Returns the number of bits that the first look reads, if the `len` bits from bit `at` on are
+/// read from front to back. The look reads the bits of a partial first byte. At a whole byte it
+/// reads the largest of a chunk, a word or a byte that the bits fill, or all of them if they fill
+/// none. The caller must prove that `len` isn't 0.
 ///
-/// A count that looks so at one part after the other takes the looks of
+/// A count by such looks, one part after another, makes the looks of
 /// [`count_ones_by`](crate::count_ones_by).
 pub fn first_look(at: usize, len: usize) -> usize
     requires some { 0 < len }
@@ -39,8 +41,9 @@ pub fn first_look(at: usize, len: usize) -> usize
     }
 }
 
-/// Returns how many of the `len` bits from bit `offset` on the first look reads, if they are read
-/// from back to front: those of a partial last byte, and else as [`first_look`] does.
+/// Returns the number of bits that the first look reads, if the `len` bits from bit `offset` on are
+/// read from back to front: those of a partial last byte, else as [`first_look`] at a whole byte.
+/// The caller must prove that `len` isn't 0 and that `offset + len` fits in a `usize`.
 pub fn last_look(offset: usize, len: usize) -> usize
     requires some { 0 < len }
     requires fits { offset + len < 2 ^ 64 }
@@ -57,7 +60,7 @@ pub fn last_look(offset: usize, len: usize) -> usize
     }
 }
 
-/// How many of `len` bits at a whole byte one look reads.
+/// Returns the number of bits that one look at a whole byte reads, of `len` bits.
 fn whole_look(len: usize) -> usize
     ensures { IsWholeLook len result }
 {

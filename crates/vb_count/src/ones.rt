@@ -1,4 +1,4 @@
-//! The bits of eight words, and the adder of such vectors.
+//! The bits of eight words, and the full adder of such vectors.
 ghost use Rattle.std.specs.Prelude.{◌≡◌, ℕ, ◌+◌, ◌*◌, length};
 ghost use Rattle.vb_bits.specs.Bits.{bits, count};
 ghost use Rattle.vb_count.specs.Lanes.{EightWords, ones};
@@ -7,7 +7,7 @@ use crate::sums::Sums;
 use std::marker::Model;
 use std::simd::prelude::*;
 
-/// Eight words. Its value is how many of its bits are true.
+/// Eight words. Contracts see the number of their set bits.
 #[derive(Drop)]
 pub(crate) struct Ones {
     lanes: u64x8,
@@ -22,7 +22,7 @@ impl Model for Ones {
 }
 
 impl Ones {
-    /// No bit is true.
+    /// Returns words without a set bit.
     pub(crate) fn zero() -> Ones
         ensures { result ≡ 0 }
     {
@@ -31,9 +31,9 @@ impl Ones {
         }
     }
 
-    /// The bits of a chunk.
+    /// Returns the bits of a chunk.
     ///
-    /// It is taken as a slice, since a proof knows of a slice's bytes, and not of an array's, that
+    /// The chunk is a slice, since a proof knows of a slice's bytes, but not of an array's, that
     /// they are below 256.
     pub(crate) fn of(chunk: &[u8]) -> Ones
         requires { length chunk.now ≡ 64 }
@@ -44,7 +44,7 @@ impl Ones {
         }
     }
 
-    /// How many bits of each word are true.
+    /// Returns the number of set bits of each word.
     pub(crate) fn sums(self) -> Sums
         ensures { result ≡ self }
     {
@@ -54,7 +54,7 @@ impl Ones {
     }
 }
 
-/// The full adder: in each place the sum of three bits, and what it carries into the next place.
+/// The full adder: returns the sum of three bits at each index, and the carry to the next index.
 #[inline(always)]
 pub(crate) fn full_add(a: Ones, b: Ones, c: Ones) -> (Ones, Ones)
     ensures { result.0 + 2 * result.1 ≡ a + b + c }

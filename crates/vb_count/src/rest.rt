@@ -1,7 +1,7 @@
-//! Counts of fewer than 64 bytes, by words and bytes.
+//! Counts the set bits of fewer than 64 bytes, by words and bytes.
 //!
-//! No part is a loop: of so few looks the tests of a loop take longer than the counts. Bytes that
-//! lie side by side are put together as one number, which the compiler loads at once.
+//! No part is a loop: for so few looks the tests of a loop take longer than the counts. Adjacent
+//! bytes are combined into one number, which the compiler loads at once.
 ghost use Rattle.std.specs.Prelude.{◌≡◌, ◌+◌, ◌-◌, ◌*◌, ◌/◌, ◌%◌, ◌^◌, ◌<◌, ◌≤◌, length, min};
 ghost use Rattle.vb_bits.specs.Bits.{bits, count};
 ghost use Rattle.vb_bits.specs.InBytes.{InBytes};
@@ -11,7 +11,7 @@ ghost use Rattle.vb_count.specs.Looks.{rest_looks};
 use crate::glance::Glance;
 use crate::word::byte_part;
 
-/// Adds to `ones` the true bits of `len` bits, fewer than a chunk has, from byte `at` on.
+/// Adds to `ones` the set bits of `len` bits, fewer than 512, from byte `at` on.
 #[tactic(auto, using(vb_bits::proofs::BitsLemmas::windows))]
 #[inline(always)]
 pub(crate) fn add_rest<G: Glance>(src: &mut G, at: usize, len: usize, ones: usize) -> usize
@@ -26,7 +26,7 @@ pub(crate) fn add_rest<G: Glance>(src: &mut G, at: usize, len: usize, ones: usiz
     add_tail(src, at + len / 8, len % 8, bytes)
 }
 
-/// Adds to `ones` the true bits of `n` words, at most seven, from byte `at` on.
+/// Adds to `ones` the set bits of `n` words, at most seven, from byte `at` on.
 #[tactic(auto, using(vb_bits::proofs::BitsLemmas::windows))]
 fn add_words<G: Glance>(src: &mut G, at: usize, n: usize, ones: usize) -> usize
     requires few { n < 8 }
@@ -46,11 +46,11 @@ fn add_words<G: Glance>(src: &mut G, at: usize, n: usize, ones: usize) -> usize
     }
 }
 
-/// Adds to `ones` the true bits of pair `k` of so many pairs of words from byte `at` on, where
+/// Adds to `ones` the set bits of pair `k` of the `pairs` pairs of words from byte `at` on, if
 /// there is one.
 ///
-/// Two words at once and no more: four side by side would be counted as a vector, which takes
-/// longer.
+/// It counts two words at once and no more: four adjacent ones would be counted as a vector, which
+/// takes longer.
 fn add_pair<G: Glance>(src: &mut G, at: usize, pairs: usize, k: usize, ones: usize) -> usize
     requires inside { at + 16 * pairs ≤ length (G.seen src.old).bytes }
     requires fits { at + 16 * pairs < 2 ^ 64 }
@@ -68,7 +68,7 @@ fn add_pair<G: Glance>(src: &mut G, at: usize, pairs: usize, k: usize, ones: usi
     ones + (first + second)
 }
 
-/// Adds to `ones` the true bits of `n` bytes, at most seven, from byte `at` on.
+/// Adds to `ones` the set bits of `n` bytes, at most seven, from byte `at` on.
 #[tactic(auto, using(vb_bits::proofs::BitsLemmas::windows))]
 fn add_bytes<G: Glance>(src: &mut G, at: usize, n: usize, ones: usize) -> usize
     requires few { n < 8 }
@@ -87,7 +87,7 @@ fn add_bytes<G: Glance>(src: &mut G, at: usize, n: usize, ones: usize) -> usize
     }
 }
 
-/// Adds to `ones` the true bits of four bytes from `at` on, where `n` is not below that.
+/// Adds to `ones` the set bits of the four bytes from `at` on, if `n` is at least four.
 fn add_four_bytes<G: Glance>(src: &mut G, at: usize, n: usize, ones: usize) -> usize
     requires few { n < 8 }
     requires inside { at + n ≤ length (G.seen src.old).bytes }
@@ -108,7 +108,7 @@ fn add_four_bytes<G: Glance>(src: &mut G, at: usize, n: usize, ones: usize) -> u
     ones + u32::from_le_bytes(bytes).count_ones() as usize
 }
 
-/// Adds to `ones` the true bits of two bytes from `at` on, where `n` is not below that.
+/// Adds to `ones` the set bits of the two bytes from `at` on, if `n` is at least two.
 fn add_two_bytes<G: Glance>(src: &mut G, at: usize, n: usize, ones: usize) -> usize
     requires few { n < 4 }
     requires inside { at + n ≤ length (G.seen src.old).bytes }
@@ -124,7 +124,7 @@ fn add_two_bytes<G: Glance>(src: &mut G, at: usize, n: usize, ones: usize) -> us
     ones + u16::from_le_bytes(bytes).count_ones() as usize
 }
 
-/// Adds to `ones` the true bits among the first `len` of byte `at`.
+/// Adds to `ones` the set bits among the first `len` of byte `at`.
 fn add_tail<G: Glance>(src: &mut G, at: usize, len: usize, ones: usize) -> usize
     requires few { len < 8 }
     requires inside { 8 * at + len ≤ 8 * length (G.seen src.old).bytes }
@@ -138,7 +138,7 @@ fn add_tail<G: Glance>(src: &mut G, at: usize, len: usize, ones: usize) -> usize
     ones + byte_part(src.byte(at), 0, len, true).count_ones() as usize
 }
 
-/// How many bits of the word at byte `at` are true.
+/// Returns the number of set bits in the word at byte `at`.
 fn count_word<G: Glance>(src: &mut G, at: usize) -> usize
     requires inside { at + 8 ≤ length (G.seen src.old).bytes }
     ensures value { result ≡ count (bits (G.seen src.old).bytes (8 * at) 64) }

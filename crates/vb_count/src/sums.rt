@@ -1,4 +1,4 @@
-//! Eight sums that are added at once.
+//! Eight sums, added at once.
 ghost use Rattle.std.specs.Prelude.{◌≡◌, ℕ, ◌+◌, ◌*◌, ◌<◌, ◌^◌};
 ghost use Rattle.std.specs.Simd.Lanes.{sum_l};
 ghost use Rattle.vb_count.specs.Lanes.{EightWords};
@@ -6,7 +6,7 @@ ghost use Rattle.vb_count.specs.Lanes.{EightWords};
 use std::marker::Model;
 use std::simd::prelude::*;
 
-/// Eight sums. Its value is their sum.
+/// Eight sums. Contracts see their total.
 #[derive(Drop)]
 pub(crate) struct Sums {
     pub(crate) lanes: u64x8,
@@ -21,7 +21,7 @@ impl Model for Sums {
 }
 
 impl Sums {
-    /// The sum of nothing.
+    /// Returns sums of 0.
     pub(crate) fn zero() -> Sums
         ensures { result ≡ 0 }
     {
@@ -30,7 +30,7 @@ impl Sums {
         }
     }
 
-    /// Both sums.
+    /// Returns the sums of both.
     pub(crate) fn plus(self, other: Sums) -> Sums
         requires { self + other < 2 ^ 64 }
         ensures { result ≡ self + other }
@@ -40,7 +40,7 @@ impl Sums {
         }
     }
 
-    /// Twice the sum.
+    /// Returns twice the sums.
     pub(crate) fn twice(self) -> Sums
         requires { 2 * self < 2 ^ 64 }
         ensures { result ≡ 2 * self }
@@ -50,7 +50,7 @@ impl Sums {
         }
     }
 
-    /// The whole sum.
+    /// Returns the total.
     pub(crate) fn total(self) -> usize
         requires { self < 2 ^ 64 }
         ensures { result ≡ self }

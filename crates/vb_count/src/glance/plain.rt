@@ -7,8 +7,8 @@ use crate::glance::Glance;
 use std::marker::Model;
 use vb_bits::{chunk_at, word_at};
 
-/// The bytes of a slice. Its looks are counted in contracts alone: the value is no more than the
-/// slice, and no instruction counts.
+/// The bytes of a slice. Only contracts count its looks: the value is no more than the slice, and
+/// no instruction counts.
 #[derive(Drop)]
 pub struct Plain<'a> {
     data: &'a [u8],
@@ -22,7 +22,7 @@ impl<'a> Model for Plain<'a> {
 }
 
 impl<'a> Plain<'a> {
-    /// The bytes of `bytes`, with no look so far.
+    /// Returns a source with these bytes and no look so far.
     pub fn new(bytes: &'a [u8]) -> Self
         ensures bytes { result.bytes ≡ bytes.now }
         ensures unseen { result.looks ≡ 0 }

@@ -1,4 +1,4 @@
-//! A source whose looks are counted when the program runs.
+//! A source whose looks are counted at run time.
 ghost use Rattle.std.specs.Prelude.{◌≡◌, min};
 ghost use Rattle.std.below.core.specs.declared.int.u64.TheConstants.{MAX};
 ghost use Rattle.vb_count.specs.Looks.{CountedBytes, LooksExactly};
@@ -8,7 +8,7 @@ use crate::glance::Glance;
 use std::marker::Model;
 use vb_bits::{chunk_at, word_at};
 
-/// The bytes of a slice, and a count of the looks at them.
+/// The bytes of a slice, and the number of looks at them.
 #[derive(Drop)]
 pub struct Tally<'a> {
     data: &'a [u8],
@@ -21,12 +21,12 @@ impl<'a> Model for Tally<'a> {
 
     ghost view = { λ s. record { bytes = s.data.now; looks = s.count.count } };
 
-    // The counter stops at `u64::MAX`; the count of contracts does not.
+    // The counter stops at `u64::MAX`; the count in contracts doesn't.
     ghost invariant = { λ s. s.seen ≡ min s.count.count MAX };
 }
 
 impl<'a> Tally<'a> {
-    /// The bytes of `bytes`, with no look so far.
+    /// Returns a source with these bytes and no look so far.
     pub fn new(bytes: &'a [u8]) -> Self
         ensures bytes { result.bytes ≡ bytes.now }
         ensures unseen { result.looks ≡ 0 }
@@ -38,7 +38,7 @@ impl<'a> Tally<'a> {
         }
     }
 
-    /// How many looks there were, or `u64::MAX` where there were more.
+    /// Returns the number of looks, or `u64::MAX` if there were more.
     pub fn looks(&self) -> u64
         ensures { result ≡ min self.now.looks u64.MAX }
     {

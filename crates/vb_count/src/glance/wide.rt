@@ -5,7 +5,7 @@ ghost use Rattle.vb_count.specs.Looks.{CountedBytes};
 use crate::glance::Glance;
 use std::marker::Model;
 
-/// The bytes of another source, by the same looks; adders count many chunks of them
+/// The bytes of another source, with the same looks. Adders count its chunks, if there are many
 /// ([`IS_WIDE`](Glance::IS_WIDE)).
 #[derive(Drop)]
 pub struct Wide<G: Glance> {
@@ -19,7 +19,7 @@ impl<G: Glance> Model for Wide<G> {
 }
 
 impl<G: Glance> Wide<G> {
-    /// The bytes of `source`, with its looks so far.
+    /// Returns a source with the bytes of `source` and its looks so far.
     pub fn new(source: G) -> Self
         ensures { result ≡ G.seen source }
     {

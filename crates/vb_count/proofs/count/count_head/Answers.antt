@@ -13,7 +13,7 @@ returns-then-before-eq0-clause-value g c =
     let none : (8 - o % 8) % 8 ≡ 0 = omega arith in
     sym (ap (λ m. count (bits b o m)) none ∙ count-bits_none b o)
 
--- the part that was counted
+-- the counted part
 counted : (g : Over) (c : After-from g)
     → count_ones (c.from.result / 2 ^ (c.args.offset % 8)) ≡ count
     (bits (g.G.Glance.seen c.args.src.now).bytes c.args.offset ((8 - c.args.offset % 8) % 8))

@@ -13,7 +13,7 @@ returns-then-len-eq0-clause-value g c =
     let b : List ℕ = (g.G.Glance.seen c.args.src.now).bytes in let o : ℕ = 8 * c.args.at in
     omega (arith, ap (λ m. count (bits b o m)) c.if-len-eq0.true, count-bits_none b o)
 
--- the part that was counted
+-- the counted part
 counted : (g : Over) (c : After-byte_part g) → count_ones c.byte_part.result
     ≡ count (bits (g.G.Glance.seen c.args.src.now).bytes (8 * c.args.at) c.args.len)
 counted g c =
