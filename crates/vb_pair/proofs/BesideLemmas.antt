@@ -1,4 +1,4 @@
--- Units of bytes that were read beside each other, and the looks that they took.
+-- Units of bytes read alongside each other, and the looks at them.
 use Rattle.std.proofs.Common.{◌≡◌, ℕ, ◌+◌, ◌-◌, ◌*◌, ◌/◌, ◌%◌, ◌<◌, ◌≤◌, Bool, false, List, []}
 use Rattle.std.proofs.Common.{◌∷◌, length, get_or, take, drop, min, inl, inr, refl, sym, subst, ap}
 use Rattle.std.proofs.Common.{◌∙◌, arith, zero-add}
@@ -15,12 +15,12 @@ use Rattle.vb_bits.proofs.BytesLemmas.{bits_of_read_byte}
 use Rattle.vb_pair.proofs.MergedLemmas.{merged_ones-le, merged_ones_none, merged_ones_split}
 
 -- ---- looks
--- of parts that take no more each, and one beside them
+-- parts with at most as many looks, and one more look
 parts_le : (a b c d e u v w n : ℕ) → a ≤ n → b ≤ d → c ≤ e
     → a + b + u + v + w + c ≤ d + u + v + w + e + n
 parts_le a b c d e u v w n first head tail = omega arith
 
--- at most one more than at the other window, and none for no bits
+-- at most one more look than at the other window, and no look for no bits
 pub looks_beside-le : (o p n : ℕ) → looks_beside o p n ≤ looks o n + min n 1
 looks_beside-le o p n =
     let h : ℕ = min n ((8 - o % 8) % 8) in
@@ -33,18 +33,18 @@ looks_beside-le o p n =
 pub looks_beside-most : (o p n : ℕ) → looks_beside o p n ≤ n / 512 + 16
 looks_beside-most o p n = omega arith
 
--- of few bits
+-- the bound for few bits
 pub looks_beside-short : (o p n : ℕ) → n ≤ 512 → looks_beside o p n ≤ 16
 looks_beside-short o p n few = omega arith
 
--- ---- windows of what was read
--- of other sources that have the same bytes
+-- ---- windows that were read
+-- in other sources with the same bytes
 pub merged_ones_same : (f : Bool → Bool → Bool) (a b c d : List ℕ) (o p n : ℕ)
     → c ≡ a → d ≡ b → merged_ones f c o d p n ≡ merged_ones f a o b p n
 merged_ones_same f a b c d o p n left right =
     ap (λ x. merged_ones f x o d p n) left ∙ ap (λ x. merged_ones f a o x p n) right
 
--- of windows that have the same bits
+-- in windows with the same bits
 merged_ones_windows : (f : Bool → Bool → Bool) (a b c d : List ℕ) (o p q r n : ℕ)
     → bits a o n ≡ bits c q n → bits b p n ≡ bits d r n
     → merged_ones f a o b p n ≡ merged_ones f c q d r n
@@ -62,7 +62,7 @@ part_of_read b xs a k s n o whole place within =
     ∙ ap (λ l. get_or l (s + i) false) whole ∙ at-bits b (8 * a) (8 * k) (s + i) false inside
     ∙ ap (bit_of b) there)
 
--- of windows that have the same bits, if they have any
+-- in windows with the same bits, if they have any
 merged_ones_if_any : (f : Bool → Bool → Bool) (a b c d : List ℕ) (o p q r n : ℕ)
     → (0 < n → bits a o n ≡ bits c q n) → (0 < n → bits b p n ≡ bits d r n)
     → merged_ones f a o b p n ≡ merged_ones f c q d r n
@@ -74,8 +74,8 @@ merged_ones_if_any f a b c d o p q r n left right = elim (cases_lt 0 n) [
       ∙ sym (ap (λ z. merged_ones f c q d r z) none ∙ merged_ones_none f c d q r)
 ]
 
--- n bits of a unit of k bytes that was read, beside those of the held byte y and of k bytes that
--- were read behind it, from byte j on
+-- n bits of a unit of k bytes that was read, combined with those of the held byte y and of the k
+-- bytes read after it, from byte j on
 pub merged_ones_of_unit : (f : Bool → Bool → Bool) (a b xs ys : List ℕ) (y i j k x n o p : ℕ)
     → bits xs 0 (8 * k) ≡ bits a (8 * i) (8 * k)
     → (0 < n - bits_held p → bits ys 0 (8 * k) ≡ bits b (8 * j) (8 * k)) → IsHeld b p y
@@ -110,7 +110,7 @@ merged_ones_of_whole f a b xs ys y l p j k left right held next =
     (omega arith) next (omega arith)
 
 -- ---- the held byte
--- the last of k bytes that were read from byte j on
+-- after whole bytes: the last of k bytes read from byte j on
 pub held_behind_whole : (b ys : List ℕ) (y p j k n : ℕ) → y ≡ get_or ys (length ys - 1) 0
     → ys ≡ slice_range b j (j + k) → length ys ≡ k → 0 < k → 8 * j ≡ p + bits_held p
     → n ≡ p + 8 * k → IsHeld b n y
@@ -125,7 +125,7 @@ held_behind_whole b ys y p j k n last read long some next end = record {
       ∙ ap (λ i. get_or b i 0) byte;
 }
 
--- behind n bits: the byte that was read if they go on in it, else the one before
+-- after n bits: the byte that was read if they continue in it, else the previous one
 pub held_behind_part : (b : List ℕ) (y z p j n : ℕ) → IsHeld b p y
     → (0 < n - bits_held p → z ≡ get_or b j 0) → (n - bits_held p ≡ 0 → z ≡ y)
     → 8 * j ≡ p + bits_held p → 0 < n → n ≤ 8 → IsHeld b (p + n) z
@@ -140,14 +140,14 @@ held_behind_part b y z p j n held read kept next some few = record {
   ];
 }
 
--- the same byte in other bytes that are the same, at the same bit
+-- the same byte in equal bytes, at the same bit
 pub is_held_in : {b c : List ℕ} {p q y : ℕ} → c ≡ b → p ≡ q → IsHeld c p y → IsHeld b q y
 is_held_in {b} {c} {p} {q} {y} same place held =
     subst (λ x. IsHeld x q y) same (subst (λ x. IsHeld c x y) place held)
 
 -- ---- units in a row
--- the first k units have n bits: how many of these are true, and the looks that they took; behind
--- them y is held
+-- the first k units have n bits: the number of set ones, and the looks at them; after them y is
+-- held
 pub record UnitsCounted (f : Bool → Bool → Bool) (o p k n ones y : ℕ)
     (left left_now right right_now : CountedBytes) : Type 0 where
   pub value : ones ≡ merged_ones f left.bytes o right.bytes p n
@@ -167,11 +167,11 @@ units_none f o p y left right held = record {
 
 module _ {f : Bool → Bool → Bool} {o p k n ones y : ℕ} {left mid right amid : CountedBytes}
     (so_far : UnitsCounted f o p k n ones y left mid right amid) where
-  -- no more than there are bits
+  -- at most the number of bits
   pub units-le : ones ≤ n
   units-le = omega (arith, so_far.value, merged_ones-le f left.bytes right.bytes o p n)
 
-  -- one more, of u bits, of which x are true
+  -- one more unit, of u bits, of which x are set
   pub units_more : {new anew : CountedBytes} → (at from u m x z : ℕ)
       → x ≡ merged_ones f mid.bytes at amid.bytes from u → LooksExactly 1 mid new
       → LooksExactly 1 amid anew → IsHeld amid.bytes (from + u) z

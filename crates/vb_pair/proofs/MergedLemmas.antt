@@ -1,4 +1,4 @@
--- Counts of two windows that are combined.
+-- Counts of two combined windows.
 use Rattle.std.proofs.Common.{◌≡◌, ℕ, ◌+◌, ◌*◌, ◌/◌, ◌%◌, ◌<◌, ◌≤◌, Bool, List, ◌++◌, map, get_or}
 use Rattle.std.proofs.Common.{sym, ap, ◌∙◌, arith, zero-add}
 use Rattle.std.proofs.lemmas.List.FromFn.{length-map-range_with_len}
@@ -12,7 +12,7 @@ use Rattle.vb_bits.proofs.OperatorsLemmas.{length-merged_bits, merged_by-append,
 use Rattle.vb_bits.proofs.RangeLemmas.{map-range_with_len-add, same_map-range_with_len}
 
 -- ---- windows
--- no more than there are bits
+-- at most the number of bits
 pub merged_ones-le : (f : Bool → Bool → Bool) (a b : List ℕ) (o p n : ℕ)
     → merged_ones f a o b p n ≤ n
 merged_ones-le f a b o p n = omega (
@@ -21,7 +21,7 @@ merged_ones-le f a b o p n = omega (
   length-merged_bits f a b o p n,
 )
 
--- none of no bits
+-- no set bit in no bits
 pub merged_ones_none : (f : Bool → Bool → Bool) (a b : List ℕ) (o p : ℕ)
     → merged_ones f a o b p 0 ≡ 0
 merged_ones_none f a b o p = omega (arith, merged_ones-le f a b o p 0)
@@ -38,7 +38,7 @@ merged_ones-add f a b o p m n =
     ∙ count-append (merged_by f (bits a o m) (bits b p m))
     (merged_by f (bits a (o + m) n) (bits b (p + m) n))
 
--- the same, with places and lengths as the code has them
+-- the same, with offsets and lengths as the code has them
 pub merged_ones_split : (f : Bool → Bool → Bool) (a b : List ℕ) (o p m z q r k : ℕ)
     → q ≡ o + m → r ≡ p + m → z ≡ m + k
     → merged_ones f a o b p z ≡ merged_ones f a o b p m + merged_ones f a q b r k
@@ -48,7 +48,7 @@ merged_ones_split f a b o p m z q r k left right end =
     ∙ ap (λ x. merged_ones f a o b p m + merged_ones f a q b x k) (sym right)
 
 -- ---- words
--- a number that is combined digit by digit of two whose digits are windows
+-- a number whose digits combine those of two numbers, whose digits are windows
 pub ones_of_merged : (f : Bool → Bool → Bool) (a b : List ℕ) (o p n w x y : ℕ) → n ≤ 64
     → digits x 0 n ≡ bits a o n → digits y 0 n ≡ bits b p n
     → ((i : ℕ) → i < 64 → has_bit w i ≡ f (has_bit x i) (has_bit y i))
@@ -69,11 +69,11 @@ digits_of_lane ws k =
     ap (λ j. has_bit (get_or ws j 0) ((64 * k + i) % 64)) word
     ∙ ap (has_bit (get_or ws k 0)) place)
 
--- how many digits of the first n are 1
+-- the number of set digits among the first n
 abbrev front_ones : List ℕ → ℕ → ℕ
 front_ones ws n = count (map (lane_bit ws) (range_with_len 0 n))
 
--- none of none
+-- no set digit in no digits
 front_ones_none : (ws : List ℕ) → front_ones ws 0 ≡ 0
 front_ones_none ws = omega (
   arith,

@@ -1,4 +1,4 @@
--- A search of two windows that goes on from one look to the next, and stops at what it finds.
+-- A search of two windows, which continues from one look to the next and stops at its result.
 use Rattle.std.proofs.Common.{◌≡◌, ◌≢◌, ℕ, ◌+◌, ◌-◌, ◌*◌, ◌/◌, ◌%◌, ◌<◌, ◌≤◌, Bool, List, min}
 use Rattle.std.proofs.Common.{inl, inr, true, false, refl, sym, ap, ◌∙◌, arith}
 use Rattle.std.specs.Prelude.{IsTrue}
@@ -12,8 +12,8 @@ use Rattle.vb_pair.specs.Merged.{merged_ones}
 use Rattle.vb_bits.proofs.BitsLemmas.{length-bits, at-bits, count-take-lt}
 use Rattle.vb_bits.proofs.OperatorsLemmas.{length-merged_bits, at-merged_by}
 
--- ---- what is found
--- a value of two windows that are combined
+-- ---- the result
+-- a value of two combined windows
 at-merged : (f : Bool → Bool → Bool) (a b : List ℕ) (o p n i : ℕ) → i < n
     → at (merged_by f (bits a o n) (bits b p n)) i ≡ f (bit_of a (o + i)) (bit_of b (p + i))
 at-merged f a b o p n i l =
@@ -22,7 +22,7 @@ at-merged f a b o p n i l =
     ∙ ap (λ x. f x (at (bits b p n) i)) (at-bits a o n i false l)
     ∙ ap (f (bit_of a (o + i))) (at-bits b p n i false l)
 
--- there is none behind the windows
+-- no value is true after the windows
 pub merged_within : (f : Bool → Bool → Bool) (a b : List ℕ) (o p n i : ℕ)
     → IsTrue (at (merged_by f (bits a o n) (bits b p n)) i) → i < n
 merged_within f a b o p n i on = elim (cases_lt i n) [
@@ -33,7 +33,7 @@ merged_within f a b o p n i on = elim (cases_lt i n) [
       absurd (let e = sym off ∙ on in cc)
 ]
 
--- none is true before place m, so one that is true is behind it
+-- if no value is true before index m, each true value is at m or after
 pub merged_behind : (f : Bool → Bool → Bool) (a b : List ℕ) (o p n m i : ℕ)
     → m ≤ n → merged_ones f a o b p m ≡ 0
     → IsTrue (at (merged_by f (bits a o n) (bits b p n)) i) → m ≤ i
@@ -49,7 +49,7 @@ merged_behind f a b o p n m i within none on = elim (cases_lt i m) [
       ))
 ]
 
--- none is true in all, and so none at any place
+-- if no value is true in all, none is true at any index
 pub merged_nowhere : (f : Bool → Bool → Bool) (a b c : List ℕ) (o p n m i : ℕ)
     → c ≡ b → m ≡ n → merged_ones f a o c p m ≡ 0
     → at (merged_by f (bits a o n) (bits b p n)) i ≢ true
@@ -63,21 +63,21 @@ merged_nowhere f a b c o p n m i same end none on =
     )
 
 -- ---- looks at the right window
--- the looks of so many whole bytes
+-- the looks at m whole bytes
 abbrev unit_looks : ℕ → ℕ
 unit_looks m = m / 64 + m % 64 / 8 + m % 8
 
--- the looks of n bits from bit p on, behind h of them that end a byte of the left window
+-- the looks at n bits from bit p on, after the h of them that end a byte of the left window
 abbrev looks_behind : ℕ → ℕ → ℕ → ℕ
 looks_behind h p n =
     part_looks p h + (n - h) / 8 / 64 + (n - h) / 8 % 64 / 8 + (n - h) / 8 % 8
     + part_looks (p + h + 8 * ((n - h) / 8)) ((n - h) % 8)
 
--- the looks of n bits from bit p on beside n bits from bit o on, once the byte of bit p is held
+-- the looks at n bits from bit p on alongside n bits from bit o on, after the byte of bit p is held
 abbrev pub looks_held : ℕ → ℕ → ℕ → ℕ
 looks_held o p n = looks_behind (min n ((8 - o % 8) % 8)) p n
 
--- with the look at that byte they are all
+-- with the look at that byte, these are all looks
 pub looks_beside_held : (o p n : ℕ) → looks_beside o p n ≡ min (min n (p % 8)) 1 + looks_held o p n
 looks_beside_held o p n =
     let h : ℕ = min n ((8 - o % 8) % 8) in
@@ -88,7 +88,7 @@ looks_beside_held o p n =
     five : (a b c d e f : ℕ) → a + b + c + d + e + f ≡ a + (b + c + d + e + f)
     five a b c d e f = omega arith
 
--- those of n bits beside bits that begin at a whole byte
+-- the looks at n bits alongside bits that start at a whole byte
 abbrev looks_whole : ℕ → ℕ → ℕ
 looks_whole p n = unit_looks (n / 8) + part_looks (p + 8 * (n / 8)) (n % 8)
 
@@ -113,7 +113,7 @@ looks_held_whole o p n whole =
     ] in
     looks_none (min n ((8 - o % 8) % 8)) p n none
 
--- those of no bits
+-- the looks at no bits
 looks_held_none : (o p n : ℕ) → n ≡ 0 → looks_held o p n ≡ 0
 looks_held_none o p n none =
     looks_held_whole o p n (λ h. absurd (omega arith))
@@ -122,7 +122,7 @@ looks_held_none o p n none =
     both : (a b : ℕ) → a ≡ 0 → b ≡ 0 → a + b ≡ 0
     both a b left right = omega arith
 
--- behind the first n bits, which end the byte of bit o
+-- after the first n bits, which end the byte of bit o
 looks_head : (o p m n : ℕ) → 0 < o % 8 → n ≡ min m (8 - o % 8)
     → looks_held o p m ≡ part_looks p n + looks_held (o + n) (p + n) (m - n)
 looks_head o p m n part is =
@@ -136,7 +136,7 @@ looks_head o p m n part is =
     five : (a b c d e : ℕ) → a + b + c + d + e ≡ a + (b + c + d + e)
     five a b c d e = omega arith
 
--- behind the first n bits, which are u whole bytes that one look reads
+-- after the first n bits, which are u whole bytes that one look reads
 looks_unit : (o p m n u : ℕ) → o % 8 ≡ 0 → n ≡ 8 * u → 0 < u → n ≤ m
     → unit_looks (m / 8) ≡ 1 + unit_looks ((m - n) / 8)
     → looks_held o p m ≡ part_looks p n + looks_held (o + n) (p + n) (m - n)
@@ -154,7 +154,7 @@ looks_unit o p m n u whole is some within units =
     three : (a b c d e : ℕ) → a ≡ 1 + b → c ≡ d → e ≡ 1 → a + c ≡ e + (b + d)
     three a b c d e one same unit = omega arith
 
--- behind the last n bits, fewer than a byte
+-- after the last n bits, fewer than a byte has
 looks_last : (o p m n : ℕ) → o % 8 ≡ 0 → m < 8 → n ≡ m
     → looks_held o p m ≡ part_looks p n + looks_held (o + n) (p + n) (m - n)
 looks_last o p m n whole few is =
@@ -179,7 +179,7 @@ units_word q few = omega arith
 units_byte : (q : ℕ) → 1 + q < 8 → unit_looks (1 + q) ≡ 1 + unit_looks q
 units_byte q few = omega arith
 
--- behind the first n of m bits, which one look reads
+-- after the first n of m bits, which one look reads
 pub looks_held_on : (o p m n : ℕ) → 0 < m → (0 < o % 8 → n ≡ min m (8 - o % 8))
     → (o % 8 ≡ 0 → IsWholeLook m n)
     → looks_held o p m ≡ part_looks p n + looks_held (o + n) (p + n) (m - n)

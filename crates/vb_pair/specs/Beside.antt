@@ -1,10 +1,10 @@
--- Looks at a window that is read beside another one.
+-- Looks at a window that is read alongside another one.
 use Rattle.std.specs.Prelude.{◌≡◌, ℕ, ◌+◌, ◌-◌, ◌*◌, ◌/◌, ◌%◌, ◌<◌, List, get_or, min}
 use Rattle.std.specs.Prelude.{Bool, IsTrue}
 use Rattle.vb_bits.specs.Bits.{at}
 use Rattle.vb_count.specs.Looks.{looks, LooksAtMost, CountedBytes}
 
--- how many bits from bit p on are in the byte that is held: none if bit p is the first of its byte
+-- the number of bits from bit p on in the held byte: 0 if bit p is the first of its byte
 abbrev pub bits_held : ℕ → ℕ
 bits_held p = (8 - p % 8) % 8
 
@@ -12,13 +12,14 @@ bits_held p = (8 - p % 8) % 8
 pub record IsHeld (bytes : List ℕ) (p y : ℕ) : Type 0 where
   pub held : 0 < p % 8 → y ≡ get_or bytes (p / 8) 0
 
--- the looks that at most eight bits from bit p on take: one at the next byte if they continue in it
+-- the looks at no more than eight bits from bit p on: one at the next byte if they continue in it
 abbrev pub part_looks : ℕ → ℕ → ℕ
 part_looks p n = min (n - bits_held p) 1
 
--- the looks that n bits from bit p on take beside n bits from bit o on: one at the byte of bit p if
--- that isn't its first bit, and then as those from bit o on are cut: h bits up to the next whole
--- byte, m whole bytes by chunks, words and bytes with one look each, and t bits after them
+-- the looks at n bits from bit p on, read alongside n bits from bit o on: one at the byte of bit p
+-- if bit p isn't its first bit, and then those of the parts of the n bits from bit o on: h bits up
+-- to the next whole byte, m whole bytes by chunks, words and bytes with one look each, and t bits
+-- after them
 abbrev pub looks_beside : ℕ → ℕ → ℕ → ℕ
 looks_beside o p n =
     let h = min n ((8 - o % 8) % 8) in
@@ -27,8 +28,9 @@ looks_beside o p n =
     min (min n (p % 8)) 1 + part_looks p h + m / 64 + m % 64 / 8 + m % 8
     + part_looks (p + h + 8 * m) t
 
--- a search of the values l, which begin at bit o of the other source, to the back: if one of them
--- is true, the looks are at most one more than those of a count of the bits up to it, with it
+-- a search of the values l, which start at bit o of the other source, to the back: if it finds a
+-- true value, its looks are at most one more than those of a count of the bits up to that value,
+-- included
 abbrev pub StopsBeside : List Bool → ℕ → CountedBytes → CountedBytes → Type 0
 StopsBeside l o before after =
     (p : ℕ) → IsTrue (at l p) → LooksAtMost (looks o (p + 1) + 1) before after

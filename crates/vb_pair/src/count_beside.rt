@@ -1,9 +1,9 @@
-//! Counts of two windows that are combined, by looks that are counted.
+//! Counts the set bits of two combined windows, by looks that contracts count.
 //!
 //! The left window is read as `vb_count::count_ones_by` reads one, and the right one unit by unit
-//! beside it. If a unit of the right window begins within a byte, that byte was read before and is
-//! held, and the unit is read from the next byte on. Its last byte is held in turn for the next
-//! unit, so no byte is read twice.
+//! alongside. If a unit of the right window starts within a byte, that byte was read before and is
+//! held, and the unit is read from the next byte on. Its last byte is then held for the next unit,
+//! so no byte is read twice.
 ghost use Rattle.std.specs.Prelude.{◌≡◌, ◌+◌, ◌-◌, ◌*◌, ◌/◌, ◌%◌, ◌^◌, ◌<◌, ◌≤◌, [], ◌∷◌, length};
 ghost use Rattle.std.specs.Prelude.{min, slice_index};
 ghost use Rattle.vb_bits.specs.InBytes.{InBytes};
@@ -52,8 +52,8 @@ pub(crate) fn count_beside<M: Merge, L: Glance, R: Glance>(
     first + by_chunks + by_words + by_bytes + last
 }
 
-/// Counts `n` chunks from byte `l` and bit `r` on. If bit `r` isn't the first of its byte, that
-/// byte is held, and afterwards the one behind the chunks.
+/// Counts `n` chunks from byte `l` and bit `r` on. Before, the byte of bit `r` is held if that
+/// isn't its first bit; afterwards the byte of the first bit after the chunks is held likewise.
 fn count_chunks<M: Merge, L: Glance, R: Glance>(
     left: &mut L,
     l: usize,
@@ -79,7 +79,7 @@ fn count_chunks<M: Merge, L: Glance, R: Glance>(
     ones
 }
 
-/// Counts the chunk at byte `l` with that at bit `r`.
+/// Counts the chunk at byte `l`, combined with the one at bit `r`.
 fn count_chunk<M: Merge, L: Glance, R: Glance>(
     left: &mut L,
     l: usize,
@@ -128,7 +128,7 @@ fn count_words<M: Merge, L: Glance, R: Glance>(
     ones
 }
 
-/// Counts the word at byte `l` with that at bit `r`.
+/// Counts the word at byte `l`, combined with the one at bit `r`.
 fn count_word<M: Merge, L: Glance, R: Glance>(
     left: &mut L,
     l: usize,
@@ -177,7 +177,7 @@ fn count_bytes<M: Merge, L: Glance, R: Glance>(
     ones
 }
 
-/// Counts the byte at byte `l` with that at bit `r`.
+/// Counts the byte at byte `l`, combined with the one at bit `r`.
 fn count_byte<M: Merge, L: Glance, R: Glance>(
     left: &mut L,
     l: usize,
@@ -200,7 +200,7 @@ fn count_byte<M: Merge, L: Glance, R: Glance>(
     unit_ones::<M>(&unit, 0, held, r % 8, &other, 8)
 }
 
-/// Counts at most eight bits that lie in one byte of `left`.
+/// Counts at most eight bits within one byte of `left`.
 fn count_part<M: Merge, L: Glance, R: Glance>(
     left: &mut L,
     l: usize,
@@ -230,7 +230,7 @@ fn count_part<M: Merge, L: Glance, R: Glance>(
     unit_ones::<M>(&unit, l % 8, held, r % 8, &other, len)
 }
 
-/// Counts `n` bits from bit `l` and bit `r` on, which one look at `left` reads.
+/// Counts the `n` bits from bit `l` and bit `r` on that one look at `left` reads.
 pub(crate) fn count_look<M: Merge, L: Glance, R: Glance>(
     left: &mut L,
     l: usize,
@@ -269,7 +269,7 @@ pub(crate) fn next_byte<G: Glance>(src: &mut G, at: usize, bits: usize, held: u8
 }
 
 /// Counts `n` bits of `unit` from bit `from` on, combined with `n` bits of the right window. These
-/// begin at bit `shift` of the held byte, or at bit 0 of `other` if `shift` is 0, and continue in
+/// start at bit `shift` of the held byte, or at bit 0 of `other` if `shift` is 0, and continue in
 /// `other`. Afterwards the last byte of `other` is held.
 fn unit_ones<M: Merge>(
     unit: &[u8],

@@ -1,7 +1,7 @@
-//! Counts of the true bits of two windows that are combined.
+//! Counts the set bits of two combined windows.
 //!
-//! The left window is read by whole bytes behind its first bits, and the right one alone is
-//! shifted. Nothing is made of what is counted.
+//! The left window is read by whole bytes after its first bits, and only the right one is shifted.
+//! The combined bits aren't stored.
 ghost use Rattle.std.specs.Prelude.{◌≡◌, ◌+◌, ◌*◌, ◌^◌, ◌<◌, ◌≤◌, length};
 ghost use Rattle.vb_bits.specs.InBytes.{InBytes};
 ghost use Rattle.vb_pair.specs.Merged.{merged_ones};
@@ -9,8 +9,8 @@ ghost use Rattle.vb_pair.specs.Merged.{merged_ones};
 use vb_bits::{Merge, full_word, low_digits, read_bits, shifted_words, word_at, words_at};
 use vb_count::{LaneSum, digit_ones};
 
-/// How many bits are true once the `len` bits of `left` from bit `l` on are combined with those of
-/// `right` from bit `r` on.
+/// Returns the number of set bits after combining the `len` bits of `left` from bit `l` on with
+/// those of `right` from bit `r` on.
 pub(crate) fn count_merged<M: Merge>(
     left: &[u8],
     l: usize,
@@ -29,7 +29,7 @@ pub(crate) fn count_merged<M: Merge>(
     }
 }
 
-/// [`count_merged`] by words from wherever they begin.
+/// [`count_merged`] by words, at any offset.
 #[inline(always)]
 pub(crate) fn count_short<M: Merge>(
     left: &[u8],
@@ -50,8 +50,8 @@ pub(crate) fn count_short<M: Merge>(
     ones + few_ones::<M>(left, l + done, right, r + done, len % 64)
 }
 
-/// [`count_merged`] of many bits: those of a partial first byte of `left`, those behind it by
-/// blocks of 32 bytes, and what is left by words.
+/// [`count_merged`] of many bits: the bits of a partial first byte of `left`, then blocks of 32
+/// bytes, then the rest by words.
 #[inline(never)]
 fn count_long<M: Merge>(left: &[u8], l: usize, right: &[u8], r: usize, len: usize) -> usize
     requires long { 8 ≤ len }
@@ -80,7 +80,7 @@ fn count_blocks<M: Merge>(left: &[u8], l: usize, right: &[u8], r: usize, n: usiz
     }
 }
 
-/// [`count_blocks`] where those of `right` begin with byte `r`.
+/// [`count_blocks`] if the blocks of `right` start at byte `r`.
 fn sum_blocks<M: Merge>(left: &[u8], l: usize, right: &[u8], r: usize, n: usize) -> LaneSum
     requires left { InBytes left.now (8 * l) (256 * n) }
     requires right { InBytes right.now (8 * r) (256 * n) }
@@ -93,7 +93,7 @@ fn sum_blocks<M: Merge>(left: &[u8], l: usize, right: &[u8], r: usize, n: usize)
     sum
 }
 
-/// [`count_blocks`] where those of `right` begin at bit `shift` of byte `r`.
+/// [`count_blocks`] if the blocks of `right` start at bit `shift` of byte `r`.
 fn sum_shifted_blocks<M: Merge>(
     left: &[u8],
     l: usize,
@@ -130,8 +130,8 @@ fn block<M: Merge>(left: &[u8], l: usize, right: &[u8], r: usize) -> LaneSum
     )
 }
 
-/// Counts a block whose bits of `right` begin at bit `shift` of byte `r`. Its words are shifted
-/// and combined as a vector, and counted one by one.
+/// Counts a block whose bits of `right` start at bit `shift` of byte `r`. Its words are shifted and
+/// combined as a vector, and counted one by one.
 #[inline(always)]
 fn shifted_block<M: Merge>(left: &[u8], l: usize, right: &[u8], r: usize, shift: usize) -> LaneSum
     requires part { 0 < shift }

@@ -1,9 +1,10 @@
-//! Two windows at once: counts of what an operator makes of them, and whether they have any bit in
-//! common, or one has all of the other's.
+//! Combines two windows: counts of the set bits, and whether the windows have a common bit or one
+//! has all of the other's.
 //!
-//! A window is the `len` bits from bit `l` of the left bytes or bit `r` of the right ones on. Both
-//! have to lie in their bytes, and their ends have to be a `usize`; `vb_bits::window_fits` is the
-//! test. No call takes memory or writes.
+//! The left window is the `len` bits from bit `l` of the left bytes on, the right one those from
+//! bit `r` of the right bytes on. The caller must prove that both are in bounds and that `l + len`
+//! and `r + len` fit in a `usize`; `vb_bits::window_fits` tests both at run time. No call allocates
+//! or writes.
 #![tactic(auto)]
 
 mod count_beside;

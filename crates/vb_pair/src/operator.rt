@@ -1,4 +1,4 @@
-//! Counts of two windows that are combined by an operator.
+//! Counts of two windows that an operator combines.
 ghost use Rattle.std.specs.Prelude.{◌≡◌, ◌+◌, ◌/◌, ◌≤◌, min};
 ghost use Rattle.vb_bits.specs.Bits.{bits, count};
 ghost use Rattle.vb_bits.specs.InBytes.{InBytes};
@@ -12,12 +12,12 @@ use crate::count_merged::count_merged;
 use vb_bits::{And as Both, AndNot as LeftAlone, Or as Either, Xor as OneAlone};
 use vb_count::Glance;
 
-/// For how many `i` below `len` bit `l + i` of `left` and bit `r + i` of `right` are true.
+/// Returns the number of `i` below `len` for which bit `l + i` of `left` and bit `r + i` of `right`
+/// are true.
 ///
-/// These are the bits that `BitOp::And` makes true of the two windows, which lie at any offsets.
-/// Each has to lie in its bytes, and its end has to be a `usize`; `vb_bits::window_fits` is the
-/// test. It goes by words of 64 bits, four at a time past 512 bits, takes no memory and writes
-/// nothing.
+/// `BitOp::And` sets these bits. The caller must prove that both windows are in bounds and that
+/// their ends fit in a `usize`; `vb_bits::window_fits` tests this at run time. It processes words
+/// of 64 bits, four at a time past 512 bits, at any two offsets. Does not allocate.
 pub fn and_count(left: &[u8], l: usize, right: &[u8], r: usize, len: usize) -> usize
     requires left { InBytes left.now l len }
     requires right { InBytes right.now r len }
@@ -26,12 +26,12 @@ pub fn and_count(left: &[u8], l: usize, right: &[u8], r: usize, len: usize) -> u
     count_merged::<Both>(left, l, right, r, len)
 }
 
-/// For how many `i` below `len` bit `l + i` of `left` or bit `r + i` of `right` is true.
+/// Returns the number of `i` below `len` for which bit `l + i` of `left` or bit `r + i` of `right`
+/// is true.
 ///
-/// These are the bits that `BitOp::Or` makes true of the two windows, which lie at any offsets.
-/// Each has to lie in its bytes, and its end has to be a `usize`; `vb_bits::window_fits` is the
-/// test. It goes by words of 64 bits, four at a time past 512 bits, takes no memory and writes
-/// nothing.
+/// `BitOp::Or` sets these bits. The caller must prove that both windows are in bounds and that
+/// their ends fit in a `usize`; `vb_bits::window_fits` tests this at run time. It processes words
+/// of 64 bits, four at a time past 512 bits, at any two offsets. Does not allocate.
 pub fn or_count(left: &[u8], l: usize, right: &[u8], r: usize, len: usize) -> usize
     requires left { InBytes left.now l len }
     requires right { InBytes right.now r len }
@@ -40,12 +40,12 @@ pub fn or_count(left: &[u8], l: usize, right: &[u8], r: usize, len: usize) -> us
     count_merged::<Either>(left, l, right, r, len)
 }
 
-/// For how many `i` below `len` bit `l + i` of `left` differs from bit `r + i` of `right`.
+/// Returns the number of `i` below `len` for which bit `l + i` of `left` differs from bit `r + i`
+/// of `right`.
 ///
-/// These are the bits that `BitOp::Xor` makes true of the two windows, which lie at any offsets.
-/// Each has to lie in its bytes, and its end has to be a `usize`; `vb_bits::window_fits` is the
-/// test. It goes by words of 64 bits, four at a time past 512 bits, takes no memory and writes
-/// nothing.
+/// `BitOp::Xor` sets these bits. The caller must prove that both windows are in bounds and that
+/// their ends fit in a `usize`; `vb_bits::window_fits` tests this at run time. It processes words
+/// of 64 bits, four at a time past 512 bits, at any two offsets. Does not allocate.
 pub fn xor_count(left: &[u8], l: usize, right: &[u8], r: usize, len: usize) -> usize
     requires left { InBytes left.now l len }
     requires right { InBytes right.now r len }
@@ -54,12 +54,12 @@ pub fn xor_count(left: &[u8], l: usize, right: &[u8], r: usize, len: usize) -> u
     count_merged::<OneAlone>(left, l, right, r, len)
 }
 
-/// For how many `i` below `len` bit `l + i` of `left` is true and bit `r + i` of `right` isn't.
+/// Returns the number of `i` below `len` for which bit `l + i` of `left` is true and bit `r + i` of
+/// `right` isn't.
 ///
-/// These are the bits that `BitOp::AndNot` makes true of the two windows, which lie at any offsets.
-/// Each has to lie in its bytes, and its end has to be a `usize`; `vb_bits::window_fits` is the
-/// test. It goes by words of 64 bits, four at a time past 512 bits, takes no memory and writes
-/// nothing.
+/// `BitOp::AndNot` sets these bits. The caller must prove that both windows are in bounds and that
+/// their ends fit in a `usize`; `vb_bits::window_fits` tests this at run time. It processes words
+/// of 64 bits, four at a time past 512 bits, at any two offsets. Does not allocate.
 pub fn andnot_count(left: &[u8], l: usize, right: &[u8], r: usize, len: usize) -> usize
     requires left { InBytes left.now l len }
     requires right { InBytes right.now r len }
@@ -68,16 +68,19 @@ pub fn andnot_count(left: &[u8], l: usize, right: &[u8], r: usize, len: usize) -
     count_merged::<LeftAlone>(left, l, right, r, len)
 }
 
-/// [`and_count`] of two counted sources: for how many `i` below `len` bit `l + i` of `left` and bit
-/// `r + i` of `right` are true.
+/// [`and_count`] of two counted sources.
+///
+/// Returns the number of `i` below `len` for which bit `l + i` of `left` and bit `r + i` of `right`
+/// are true.
 ///
 /// It looks at `left` as `vb_count::count_ones_by` does over the same bits: once at a partial first
-/// byte, at each 64 whole bytes, at each eight of those left, at each byte then left, and at a
-/// partial last byte. It looks at `right` at most once more than at `left`; clause `beside` has the
-/// exact number. Each source gets at most `len / 512 + 16` looks, and at most 16 if `len` is at
-/// most 512.
+/// byte, at each 64 whole bytes, at each eight of the remaining bytes, at each byte then left, and
+/// at a partial last byte. It looks at `right` at most once more than at `left`; clause `beside`
+/// has the exact number. It looks at each source at most `len / 512 + 16` times, and at most 16
+/// times if `len` is at most 512.
 ///
-/// Does not allocate. Both windows must fit in their sources, and end below 2^64.
+/// Does not allocate. The caller must prove that both windows are in bounds of their sources and
+/// that their ends fit in a `usize`.
 pub fn and_count_by<L: Glance, R: Glance>(
     left: &mut L,
     l: usize,
@@ -98,16 +101,19 @@ pub fn and_count_by<L: Glance, R: Glance>(
     count_beside::<Both, L, R>(left, l, right, r, len)
 }
 
-/// [`or_count`] of two counted sources: for how many `i` below `len` bit `l + i` of `left` or bit
-/// `r + i` of `right` is true.
+/// [`or_count`] of two counted sources.
+///
+/// Returns the number of `i` below `len` for which bit `l + i` of `left` or bit `r + i` of `right`
+/// is true.
 ///
 /// It looks at `left` as `vb_count::count_ones_by` does over the same bits: once at a partial first
-/// byte, at each 64 whole bytes, at each eight of those left, at each byte then left, and at a
-/// partial last byte. It looks at `right` at most once more than at `left`; clause `beside` has the
-/// exact number. Each source gets at most `len / 512 + 16` looks, and at most 16 if `len` is at
-/// most 512.
+/// byte, at each 64 whole bytes, at each eight of the remaining bytes, at each byte then left, and
+/// at a partial last byte. It looks at `right` at most once more than at `left`; clause `beside`
+/// has the exact number. It looks at each source at most `len / 512 + 16` times, and at most 16
+/// times if `len` is at most 512.
 ///
-/// Does not allocate. Both windows must fit in their sources, and end below 2^64.
+/// Does not allocate. The caller must prove that both windows are in bounds of their sources and
+/// that their ends fit in a `usize`.
 pub fn or_count_by<L: Glance, R: Glance>(
     left: &mut L,
     l: usize,
@@ -128,16 +134,19 @@ pub fn or_count_by<L: Glance, R: Glance>(
     count_beside::<Either, L, R>(left, l, right, r, len)
 }
 
-/// [`xor_count`] of two counted sources: for how many `i` below `len` bit `l + i` of `left` differs
-/// from bit `r + i` of `right`.
+/// [`xor_count`] of two counted sources.
+///
+/// Returns the number of `i` below `len` for which bit `l + i` of `left` differs from bit `r + i`
+/// of `right`.
 ///
 /// It looks at `left` as `vb_count::count_ones_by` does over the same bits: once at a partial first
-/// byte, at each 64 whole bytes, at each eight of those left, at each byte then left, and at a
-/// partial last byte. It looks at `right` at most once more than at `left`; clause `beside` has the
-/// exact number. Each source gets at most `len / 512 + 16` looks, and at most 16 if `len` is at
-/// most 512.
+/// byte, at each 64 whole bytes, at each eight of the remaining bytes, at each byte then left, and
+/// at a partial last byte. It looks at `right` at most once more than at `left`; clause `beside`
+/// has the exact number. It looks at each source at most `len / 512 + 16` times, and at most 16
+/// times if `len` is at most 512.
 ///
-/// Does not allocate. Both windows must fit in their sources, and end below 2^64.
+/// Does not allocate. The caller must prove that both windows are in bounds of their sources and
+/// that their ends fit in a `usize`.
 pub fn xor_count_by<L: Glance, R: Glance>(
     left: &mut L,
     l: usize,
@@ -158,16 +167,19 @@ pub fn xor_count_by<L: Glance, R: Glance>(
     count_beside::<OneAlone, L, R>(left, l, right, r, len)
 }
 
-/// [`andnot_count`] of two counted sources: for how many `i` below `len` bit `l + i` of `left` is
-/// true and bit `r + i` of `right` isn't.
+/// [`andnot_count`] of two counted sources.
+///
+/// Returns the number of `i` below `len` for which bit `l + i` of `left` is true and bit `r + i` of
+/// `right` isn't.
 ///
 /// It looks at `left` as `vb_count::count_ones_by` does over the same bits: once at a partial first
-/// byte, at each 64 whole bytes, at each eight of those left, at each byte then left, and at a
-/// partial last byte. It looks at `right` at most once more than at `left`; clause `beside` has the
-/// exact number. Each source gets at most `len / 512 + 16` looks, and at most 16 if `len` is at
-/// most 512.
+/// byte, at each 64 whole bytes, at each eight of the remaining bytes, at each byte then left, and
+/// at a partial last byte. It looks at `right` at most once more than at `left`; clause `beside`
+/// has the exact number. It looks at each source at most `len / 512 + 16` times, and at most 16
+/// times if `len` is at most 512.
 ///
-/// Does not allocate. Both windows must fit in their sources, and end below 2^64.
+/// Does not allocate. The caller must prove that both windows are in bounds of their sources and
+/// that their ends fit in a `usize`.
 pub fn andnot_count_by<L: Glance, R: Glance>(
     left: &mut L,
     l: usize,

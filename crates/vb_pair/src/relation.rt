@@ -1,4 +1,4 @@
-//! Whether two windows have any bit in common, or one has all of the other's.
+//! Whether two windows have a common bit, or one has all of the other's.
 ghost use Rattle.std.specs.Prelude.{◌≡◌, ◌↔◌, ◌+◌, ◌*◌, ◌/◌, ◌^◌, ◌<◌, ◌≤◌, length, IsTrue};
 ghost use Rattle.vb_bits.specs.Bits.{bits, count};
 ghost use Rattle.vb_bits.specs.InBytes.{InBytes};
@@ -13,12 +13,12 @@ use crate::count_merged::{few_ones, merged_word_ones};
 use vb_bits::{And as Both, AndNot as LeftAlone, Merge};
 use vb_count::{Glance, first_look};
 
-/// Whether no bit is true in both windows, as it is of windows of no bits: bit `i` of the window is
-/// bit `l + i` of `left`, and bit `r + i` of `right`.
+/// Returns whether no bit is set in both windows, which is true for windows of no bits. Bit `i` of
+/// the windows is bit `l + i` of `left` and bit `r + i` of `right`.
 ///
-/// Each window has to lie in its bytes, and its end has to be a `usize`; `vb_bits::window_fits` is
-/// the test. It goes by words of 64 bits from the front, up to the first one in which a bit is true
-/// in both, takes no memory and writes nothing.
+/// The caller must prove that both windows are in bounds and that `l + len` and `r + len` fit in a
+/// `usize`; `vb_bits::window_fits` tests both at run time. It processes words of 64 bits from the
+/// front, and stops at the first word with a bit that is set in both. Does not allocate.
 pub fn is_disjoint(left: &[u8], l: usize, right: &[u8], r: usize, len: usize) -> bool
     requires left { InBytes left.now l len }
     requires right { InBytes right.now r len }
@@ -28,12 +28,13 @@ pub fn is_disjoint(left: &[u8], l: usize, right: &[u8], r: usize, len: usize) ->
     is_none_merged::<Both>(left, l, right, r, len)
 }
 
-/// Whether each bit that is true in the left window is true in the right one, as it is of windows
-/// of no bits: bit `i` of the window is bit `l + i` of `left`, and bit `r + i` of `right`.
+/// Returns whether each set bit of the left window is also set in the right one, which is true for
+/// windows of no bits. Bit `i` of the windows is bit `l + i` of `left` and bit `r + i` of `right`.
 ///
-/// Each window has to lie in its bytes, and its end has to be a `usize`; `vb_bits::window_fits` is
-/// the test. It goes by words of 64 bits from the front, up to the first one in which a bit is true
-/// in the left window alone, takes no memory and writes nothing.
+/// The caller must prove that both windows are in bounds and that `l + len` and `r + len` fit in a
+/// `usize`; `vb_bits::window_fits` tests both at run time. It processes words of 64 bits from the
+/// front, and stops at the first word with a bit that is set in the left window only. Does not
+/// allocate.
 pub fn is_subset(left: &[u8], l: usize, right: &[u8], r: usize, len: usize) -> bool
     requires left { InBytes left.now l len }
     requires right { InBytes right.now r len }
@@ -43,14 +44,16 @@ pub fn is_subset(left: &[u8], l: usize, right: &[u8], r: usize, len: usize) -> b
     is_none_merged::<LeftAlone>(left, l, right, r, len)
 }
 
-/// [`is_disjoint`] of two counted sources: whether no bit is true in both windows.
+/// [`is_disjoint`] of two counted sources: returns whether no bit is set in both windows.
 ///
-/// It takes at most the looks at `left` of `vb_count::count_ones_by` over the bits up to the first
-/// one that is true in both, with it (clause `stops`); if there is none, over all (clause `looks`).
-/// It looks at `right` at most once more than that, at most `len / 512 + 16` times in all, and at
-/// most 16 times if `len` is at most 512.
+/// If a bit is set in both, the looks at `left` are at most those of `vb_count::count_ones_by` over
+/// the bits up to the first such bit, included (clause `stops`), and the looks at `right` at most
+/// one more (clause `stops_beside`). If there is none, the looks at `left` are at most those over
+/// all bits (clause `looks`), and clause `beside` bounds those at `right`. It looks at each source
+/// at most `len / 512 + 16` times, and at most 16 times if `len` is at most 512.
 ///
-/// Does not allocate. Both windows must fit in their sources, and end below 2^64.
+/// Does not allocate. The caller must prove that both windows are in bounds of their sources and
+/// that `l + len` and `r + len` fit in a `usize`.
 pub fn is_disjoint_by<L: Glance, R: Glance>(
     left: &mut L,
     l: usize,
@@ -74,16 +77,18 @@ pub fn is_disjoint_by<L: Glance, R: Glance>(
     is_none_beside::<Both, L, R>(left, l, right, r, len)
 }
 
-/// [`is_subset`] of two counted sources: whether each bit that is true in the left
-/// window is true in the right one.
+/// [`is_subset`] of two counted sources: returns whether each set bit of the left window is also
+/// set in the right one.
 ///
-/// It takes at most the looks at `left` of `vb_count::count_ones_by` over the bits up to the first
-/// one that is true in the left window alone, with it (clause `stops`); if there is none, over all
-/// (clause `looks`).
-/// It looks at `right` at most once more than that, at most `len / 512 + 16` times in all, and at
-/// most 16 times if `len` is at most 512.
+/// If a bit is set in the left window only, the looks at `left` are at most those of
+/// `vb_count::count_ones_by` over the bits up to the first such bit, included (clause `stops`), and
+/// the looks at `right` at most one more (clause `stops_beside`). If there is none, the looks at
+/// `left` are at most those over all bits (clause `looks`), and clause `beside` bounds those at
+/// `right`. It looks at each source at most `len / 512 + 16` times, and at most 16 times if `len`
+/// is at most 512.
 ///
-/// Does not allocate. Both windows must fit in their sources, and end below 2^64.
+/// Does not allocate. The caller must prove that both windows are in bounds of their sources and
+/// that `l + len` and `r + len` fit in a `usize`.
 pub fn is_subset_by<L: Glance, R: Glance>(
     left: &mut L,
     l: usize,
@@ -107,7 +112,7 @@ pub fn is_subset_by<L: Glance, R: Glance>(
     is_none_beside::<LeftAlone, L, R>(left, l, right, r, len)
 }
 
-/// Whether no bit is true once the windows are combined.
+/// Returns whether no bit of the combined windows is set.
 fn is_none_merged<M: Merge>(left: &[u8], l: usize, right: &[u8], r: usize, len: usize) -> bool
     requires left { InBytes left.now l len }
     requires right { InBytes right.now r len }
@@ -122,7 +127,7 @@ fn is_none_merged<M: Merge>(left: &[u8], l: usize, right: &[u8], r: usize, len: 
     few_ones::<M>(left, l + done, right, r + done, len % 64) == 0
 }
 
-/// Whether no bit is true once the windows of two sources are combined.
+/// Returns whether no bit of the combined windows of two sources is set.
 fn is_none_beside<M: Merge, L: Glance, R: Glance>(
     left: &mut L,
     l: usize,

@@ -17,7 +17,7 @@ returns-then-len-eq0-clause-value g c =
       merged_ones_none f a b c.args.l c.args.r,
     )
 
--- the digits that were counted
+-- the counted digits
 counted : (g : Over) (c : After-low_digits g) → count_ones c.low_digits.result
     ≡ merged_ones g.M.Merge.bit c.args.left.now c.args.l c.args.right.now c.args.r c.args.len
 counted g c =

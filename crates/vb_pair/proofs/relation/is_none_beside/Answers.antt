@@ -15,12 +15,12 @@ use Rattle.vb_pair.proofs.StopsLemmas.{merged_within, merged_behind, merged_nowh
 use Rattle.vb_pair.proofs.relation.is_none_beside.Given.{Over}
 use Rattle.vb_pair.proofs.relation.is_none_beside.Goals as goal
 
--- looks at the same bits, said in another way
+-- looks at the same bits
 held_same : (o p x y m n : ℕ) → o ≡ p → x ≡ y → m ≡ n → looks_held o x m ≡ looks_held p y n
 held_same o p x y m n left right size =
     ap (λ z. looks_held z x m) left ∙ ap (λ z. looks_held p z m) right ∙ ap (looks_held p y) size
 
--- k looks less to come, and k more that were had
+-- k fewer looks to come, and k more made
 beside_on : (was now more most a b k : ℕ)
     → now + a ≤ was + most → a ≡ k + b → more ≡ now + k → more + b ≤ was + most
 beside_on was now more most a b k before part look = omega arith
@@ -84,7 +84,7 @@ loop-done-preserved g c =
       no_more = omega (arith, inv.no_more, one.looks.looks, one.beside.looks);
     }
 
--- the looks of the left source, if what was found is at place p
+-- the looks at the left source, if the search finds index p
 stopped : (g : Over) (c : goal.Then-count_look-gt0 g) (p : ℕ) → IsTrue (at (merged_by g.M.Merge.bit
     (bits (g.L.Glance.seen c.args.left.now).bytes c.args.l c.args.len)
     (bits (g.R.Glance.seen c.args.right.now).bytes c.args.r c.args.len)) p)
