@@ -1,4 +1,4 @@
--- The last true place, and the last bit that is v before a place.
+-- The last true value, and the last bit that is v before an index.
 use Rattle.std.proofs.Common.{◌≡◌, inl, inr, ℕ, zero, suc, ◌+◌, ◌-◌, ◌*◌, ◌^◌, ◌<◌, ◌≤◌, Bool, true}
 use Rattle.std.proofs.Common.{false, cond, eqb, List, [], ◌∷◌, ◌++◌, length, min, filter, Option}
 use Rattle.std.proofs.Common.{Some, None, refl, sym, ap, ◌∙◌, arith, subst}
@@ -26,7 +26,7 @@ last_or_push : (o : Option ℕ) (xs : List ℕ) (x : ℕ) → last_or o (xs ++ x
 last_or_push o [] x = refl
 last_or_push o (y ∷ ys) x = last_or_push (Some y) ys x
 
--- a test that is false on a range keeps none of it
+-- a test that is false on a range selects none of it
 filter_none : (t : ℕ → Bool) (a n : ℕ)
     → ((i : ℕ) → a ≤ i → i < a + n → t i ≡ false) → filter t (range_with_len a n) ≡ []
 filter_none t a zero h = refl
@@ -35,7 +35,7 @@ filter_none t a (suc n) h =
     (h a (omega arith) (omega arith))
     ∙ filter_none t (a + 1) n (λ i lo hi. h i (omega arith) (omega arith))
 
--- a true place, behind which none is
+-- an index of a true value after which no value is true
 last_place_some : (l : List Bool) (p : ℕ) → p < length l
     → at l p ≡ true → ((i : ℕ) → p < i → i < length l → at l i ≡ false) → last_place l ≡ Some p
 unfolding places
@@ -55,20 +55,20 @@ last_place_some l p inside on off =
     z : 0 + p ≡ p = omega arith in z) ∙ ap (λ xs. filter t (range_with_len 0 p) ++ xs) here in
     ap (last_or None) all ∙ last_or_push None (filter t (range_with_len 0 p)) p
 
--- no true place
+-- no value is true
 last_place_none : (l : List Bool) → ((i : ℕ) → i < length l → at l i ≡ false) → last_place l ≡ None
 unfolding places
 last_place_none l off =
     ap (last_or None) (filter_none (at l) 0 (length l) (λ i lo hi. off i (omega arith)))
 
--- the last true place
+-- the index of the last true value
 pub IsPrevious-last : (l : List Bool) (n : ℕ) (r : Option ℕ)
     → length l ≡ n → IsPrevious l n r → r ≡ last_place l
 IsPrevious-last l n None e p = sym (last_place_none l (λ i h. p i (omega arith)))
 IsPrevious-last l n (Some j) e p =
     sym (last_place_some l j p.1 p.2 (λ i lo hi. p.3 i lo (omega arith)))
 
--- the highest 1 of a number
+-- the highest set digit of a number
 highest_one : (w k : ℕ) → 0 < w → w < 2 ^ k → (j : ℕ) × (count_leading_zeros k w + suc j ≡ k)
     × (has_bit w j ≡ true) × ((i : ℕ) → j < i → has_bit w i ≡ false)
 highest_one w k some small =
@@ -86,7 +86,7 @@ highest_one w k some small =
     )
 
 -- ---- windows
--- behind the word that shows the k bits from place a on, no bit is v
+-- after the word that shows the k bits from index a on, no bit is v
 pub IsPrevious-word : (v : Bool) (b : List ℕ) (o n a k w : ℕ) → Shows v b o a k w
     → 0 < w → w < 2 ^ k → k ≤ 64 → a + k ≤ n
     → ((i : ℕ) → a + k ≤ i → i < n → at (hits v (bits b o n)) i ≡ false)
@@ -114,7 +114,7 @@ IsPrevious-word v b o n a k w shows some small few within off =
       ],
     )
 
--- the last one of a window's front is the previous one in the window
+-- the last one in a front of the window is the previous one in the window
 pub IsPrevious_longer : (v : Bool) (b : List ℕ) (o n m before : ℕ) (r : Option ℕ)
     → m ≡ min n before → IsPrevious (hits v (bits b o m)) m r
     → IsPrevious (hits v (bits b o n)) before r

@@ -1,4 +1,4 @@
--- The nearest bit that is v, from a place on and before one.
+-- The nearest bit that is v, from an index on and before one.
 use Rattle.std.proofs.Common.{◌≡◌, inl, inr, ℕ, suc, ◌+◌, ◌-◌, ◌*◌, ◌^◌, ◌<◌, ◌≤◌, Bool}
 use Rattle.std.proofs.Common.{true, false, not, eqb, List, [], ◌∷◌, length, Option, Some, None}
 use Rattle.std.proofs.Common.{◌/◌, refl, sym, ap, ◌∙◌, arith, zero-add, pow_mono}
@@ -32,7 +32,7 @@ pub hit_other : (v x : Bool) → x ≡ not v → hit v x ≡ false
 hit_other true x e = e
 hit_other false x e = ap not e
 
--- what isn't v is the other value
+-- a value that isn't v is the other value
 pub hit_none : (v x : Bool) → hit v x ≡ false → x ≡ not v
 hit_none true x e = e
 hit_none false true e = refl
@@ -45,13 +45,13 @@ at-hits true b o n i l = at-bits b o n i false l
 at-hits false b o n i l = at-complement (bits b o n) i (omega (arith, length-bits b o n))
     ∙ ap not (at-bits b o n i false l)
 
--- there is none behind the window
+-- no hit is after the window
 pub at-hits_past : (v : Bool) (b : List ℕ) (o n i : ℕ)
     → n ≤ i → at (hits v (bits b o n)) i ≡ false
 at-hits_past v b o n i h = get_or_past (hits v (bits b o n)) i false
     (omega (arith, length-hits v (bits b o n), length-bits b o n))
 
--- a digit of a word in which v is 1
+-- a digit of a word with a 1 for each v
 pub has_bit-others : (v : Bool) (w i : ℕ)
     → w < 2 ^ 64 → i < 64 → has_bit (others (not v) w) i ≡ hit v (has_bit w i)
 has_bit-others true w i fits l = refl
@@ -61,7 +61,7 @@ has_bit-others false w i fits l = has_bit-bit_not w64 w i fits l
 abbrev pub Shows : Bool → List ℕ → ℕ → ℕ → ℕ → ℕ → Type 0
 Shows v b o a k w = (i : ℕ) → i < k → has_bit w i ≡ hit v (bit_of b (o + (a + i)))
 
--- a word that was read with a 1 for each v
+-- a word that was read, with a 1 for each v
 pub Shows-matches : (v : Bool) (b : List ℕ) (o a k w : ℕ)
     → digits w 0 k ≡ hits v (bits b (o + a) k) → Shows v b o a k w
 Shows-matches v b o a k w read i l =
@@ -69,7 +69,7 @@ Shows-matches v b o a k w read i l =
     ap (has_bit w) (sym (zero-add i)) ∙ sym (at-digits w 0 k i false l)
     ∙ ap (λ l. at l i) read ∙ at-hits v b (o + a) k i l ∙ ap (λ x. hit v (bit_of b x)) e
 
--- a word of eight bytes without its digits below s
+-- a word of eight bytes, without its digits below s
 pub Shows-shifted : (v : Bool) (b : List ℕ) (o a f s w : ℕ)
     → digits w 0 64 ≡ bits b (8 * f) 64 → w < 2 ^ 64 → o + a ≡ 8 * f + s
     → Shows v b o a (64 - s) (others (not v) w / 2 ^ s)
@@ -87,7 +87,7 @@ Shows-other v b o a at end w other place i l =
     has_bit-others v w.word i other.fits l
     ∙ ap (hit v) (other.read i l ∙ ap (bit_of b) e)
 
--- ---- bits none of which is v
+-- ---- bits that aren't v
 -- bits that are all the other value
 pub off-passed : (v : Bool) (b : List ℕ) (o n x y : ℕ) → AreAll b (not v) x y
     → (i : ℕ) → x ≤ o + i → o + i < y → at (hits v (bits b o n)) i ≡ false
@@ -109,7 +109,7 @@ off-digits v b o n a k w shows none i lo hi = elim (cases_lt i n) [
 ]
 
 -- ---- the next one
--- from a place on behind which none is v
+-- from an index on, after which no bit is v
 pub IsNext_later : (l : List Bool) (a m : ℕ) (r : Option ℕ) → a ≤ m
     → ((i : ℕ) → a ≤ i → i < m → at l i ≡ false) → IsNext l m r → IsNext l a r
 IsNext_later l a m None le off n = λ i h. elim (cases_lt i m) [
@@ -126,7 +126,7 @@ IsNext_later l a m (Some p) le off n = (
   ],
 )
 
--- none in a window that ends
+-- none in a window that ends before
 pub IsNext_none : (v : Bool) (b : List ℕ) (o n a m : ℕ) → n ≤ m
     → ((i : ℕ) → a ≤ i → i < m → at (hits v (bits b o n)) i ≡ false)
     → IsNext (hits v (bits b o n)) a None
@@ -135,7 +135,7 @@ IsNext_none v b o n a m end off = λ i h. elim (cases_lt i m) [
   | inr past ↦ at-hits_past v b o n i (omega arith)
 ]
 
--- the lowest 1 of a number of k digits, which is none of them below it
+-- the lowest set digit of a number of k digits: none below it is set
 pub lowest_one : (w k : ℕ) → 0 < w → w < 2 ^ k → k ≤ 64 → (trailing_zeros w64 w < k)
     × (has_bit w (trailing_zeros w64 w) ≡ true)
     × ((i : ℕ) → i < trailing_zeros w64 w → has_bit w i ≡ false)
@@ -150,7 +150,7 @@ lowest_one w k some small few =
       λ i l. ap (λ x. eqb x 1) (t.2 i l),
     )
 
--- the lowest 1 of a word that shows bits from place a on, where it is in the window
+-- the lowest set digit of a word that shows bits from index a on, if it is in the window
 pub IsNext-word : (v : Bool) (b : List ℕ) (o n a k w : ℕ) → Shows v b o a k w
     → 0 < w → w < 2 ^ k → k ≤ 64 → a + trailing_zeros w64 w < n
     → IsNext (hits v (bits b o n)) a (Some (a + trailing_zeros w64 w))
@@ -163,7 +163,7 @@ IsNext-word v b o n a k w shows some small few within =
       off-digits v b o n a (trailing_zeros w64 w) w (λ j l. shows j (omega (arith, low.0))) low.2,
     )
 
--- where it is behind the window
+-- the same, if it is after the window
 pub IsNext-word_past : (v : Bool) (b : List ℕ) (o n a k w : ℕ) → Shows v b o a k w
     → 0 < w → w < 2 ^ k → k ≤ 64 → n ≤ a + trailing_zeros w64 w
     → IsNext (hits v (bits b o n)) a None
@@ -172,7 +172,7 @@ IsNext-word_past v b o n a k w shows some small few past =
     IsNext_none v b o n a (a + trailing_zeros w64 w) past (off-digits v b o n a
     (trailing_zeros w64 w) w (λ j l. shows j (omega (arith, low.0))) low.2)
 
--- bits that a word shows which is 0
+-- bits shown by a word that is 0
 pub off-zero : (v : Bool) (b : List ℕ) (o n a k w : ℕ) → Shows v b o a k w → w ≡ 0
     → (i : ℕ) → a ≤ i → i < a + k → at (hits v (bits b o n)) i ≡ false
 off-zero v b o n a k w shows e =
@@ -185,7 +185,7 @@ count_none [] off = refl
 count_none (true ∷ l) off = absurd (let e = off 0 in cc)
 count_none (false ∷ l) off = omega (arith, count-cons false l, count_none l (λ i. off (suc i)))
 
--- a next one from the front on is there where one is true
+-- the next true value from the front on exists if any value is true
 pub next_some : (l : List Bool) (r : Option ℕ) → IsNext l 0 r → IsTrue (is_some r) ↔ (0 < count l)
 next_some l None n = (
   λ t. absurd cc,
@@ -193,7 +193,7 @@ next_some l None n = (
 )
 next_some l (Some p) n = (λ t. omega (arith, count-take-lt l p n.1 n.2), λ h. refl)
 
--- no next false one from the front on is there where all are true
+-- the next false value from the front on doesn't exist if all values are true
 pub next_none : (l : List Bool) (n : ℕ) (r : Option ℕ) (t : Bool) → length l ≡ n
     → IsNext (complement l) 0 r → is_some r ≡ not t → IsTrue t ↔ (count l ≡ n)
 next_none l n None true e m is = (

@@ -17,8 +17,8 @@ use Rattle.vb_bits.proofs.DigitsLemmas.{digits-add, count-digits_below}
 use Rattle.vb_bits.proofs.SelectsLemmas.{Selects-append_left, Selects-append_right}
 use Rattle.vb_count.proofs.HitsLemmas.{length-hits, hits-bits-add}
 
--- ---- a place in two lists, one after the other
--- a rank below the first one's count is found there
+-- ---- an index in two lists, one after the other
+-- a rank below the count of the first list is found there
 Selects-left : (k l : List Bool) (n p : ℕ)
     → n < count k → Selects (k ++ l) n (Some p) → Selects k n (Some p)
 Selects-left k l n p low s =
@@ -36,7 +36,7 @@ Selects-left k l n p low s =
     )
 
 -- ---- searches of windows
--- a place that was found is one of the window
+-- an index that is found is in the window
 pub Searched_inside : (v : Bool) (b : List ℕ) (o z n p : ℕ)
     → Searched (hits v (bits b o z)) n (Break p) → p < z
 Searched_inside v b o z n p s =
@@ -53,7 +53,7 @@ Searched_longer v b o m z n p within s =
     subst (λ x. Searched (hits v (bits b o x)) n (Break p)) e
     (subst (λ l. Searched l n (Break p)) (sym (hits-bits-add v b o m (z - m))) t)
 
--- searched in a front of the window, which holds what is sought unless it is the whole
+-- searched in a front of the window, which holds the sought bit unless it is the whole window
 pub Searched_front : (v : Bool) (b : List ℕ) (o m z n : ℕ) (r : ControlFlow ℕ ℕ)
     → m ≤ z → (m < z → n < count (hits v (bits b o m)))
     → Searched (hits v (bits b o m)) n r → Searched (hits v (bits b o z)) n r
@@ -63,7 +63,7 @@ Searched_front v b o m z n (Continue left) within held s =
     (λ (past : z ≤ m). omega arith) (cases_lt m z) in
     subst (λ x. Searched (hits v (bits b o x)) n (Continue left)) whole s
 
--- a window whose front was passed by is searched in what comes after it
+-- a window whose front was passed is searched in the bits after it
 pub Searched_after : (v : Bool) (b : List ℕ) (o m k n left p : ℕ)
     → n ≡ left + count (hits v (bits b o m)) → Searched (hits v (bits b (o + m) k)) left
     (Break p) → Searched (hits v (bits b o (m + k))) n (Break (m + p))
@@ -76,8 +76,8 @@ Searched_after v b o m k n left p passed s =
     (subst (λ l. Searched l n (Break (length (hits v (bits b o m)) + p)))
     (sym (hits-bits-add v b o m k)) t)
 
--- a search of the part from place a to place y, of a source that stayed as it was, goes on with the
--- search of the window
+-- the search of the part from index a to index y of an unchanged source continues the search of the
+-- window
 pub Searched_on : (v : Bool) (b c : List ℕ) (o a y z n left : ℕ) (r : ControlFlow ℕ ℕ)
     → c ≡ b → y ≡ z → n ≡ left + count (hits v (bits b o a))
     → Searched (hits v (bits c o y)) (left + count (hits v (bits c o a))) r
@@ -89,19 +89,19 @@ Searched_on v b c o a y z n left r same end passed s =
     subst (λ x. Searched (hits v (bits b o x)) n r) end
     (subst (λ m. Searched (hits v (bits b o y)) m r) (sym passed) here)
 
--- the place that a whole search gives
+-- the index that a whole search returns
 pub Searched-Selects : (l : List Bool) (n : ℕ) (r : ControlFlow ℕ ℕ)
     → Searched l n r → Selects l n (break_value r)
 Searched-Selects l n (Break p) s = s
 Searched-Selects l n (Continue left) s = omega (arith, s)
 
--- below the count there is a place
+-- below the count there is an index
 pub IsSome-Selects : (l : List Bool) (n : ℕ) (o : Option ℕ) → n < count l → Selects l n o → IsSome o
 IsSome-Selects l n None low s = absurd (omega arith)
 IsSome-Selects l n (Some p) low s = refl
 
 -- ---- searches of words
--- a digit above those that a number has is no answer
+-- a digit above those of a number is no result
 pub Selects-digits_below : (w k m n p : ℕ)
     → k ≤ m → w < 2 ^ k → Selects (digits w 0 m) n (Some p) → Selects (digits w 0 k) n (Some p)
 Selects-digits_below w k m n p within small s =

@@ -1,4 +1,4 @@
--- Searches that go on from one look to the next, and stop at what they find.
+-- Searches that continue from one look to the next, and stop at their result.
 use Rattle.std.proofs.Common.{◌≡◌, ◌≢◌, inl, inr, ℕ, ◌+◌, ◌-◌, ◌<◌, ◌≤◌, Bool, true, false, List}
 use Rattle.std.proofs.Common.{length, Option, None, Some, IsTrue, refl, sym, ap, ◌∙◌}
 use Rattle.std.proofs.Common.{arith, subst}
@@ -15,13 +15,13 @@ use Rattle.vb_bits.proofs.BitsLemmas.{count-take-le, count-take-mono}
 use Rattle.vb_count.proofs.HitsLemmas.{length-hits}
 use Rattle.vb_select.proofs.NearestLemmas.{hit, at-hits, at-hits_past, IsNext_later}
 
--- ---- what has the first or the last rank
+-- ---- the values of the first and the last rank
 -- a value that can't be true
 when_false : (x : Bool) → x ≢ true → x ≡ false
 when_false true h = absurd (h refl)
 when_false false h = refl
 
--- a value at a place that can't be one of a true value
+-- a value at an index that can't be that of a true value
 off_unless : (l : List Bool) (i : ℕ) → (i < length l → at l i ≢ true) → at l i ≡ false
 off_unless l i h = elim (cases_lt i (length l)) [
   | inl within ↦ when_false (at l i) (h within)
@@ -40,7 +40,7 @@ Selects-first l (Some p) s = (
       omega (arith, s.2, count-take_more l i w t, count-take-mono l (i + 1) p (omega arith))),
 )
 
--- the last one
+-- the last true value
 pub Selects-last : (l : List Bool) (r : Option ℕ)
     → Selects l (count l - 1) r → IsPrevious l (length l) r
 Selects-last l None s =
@@ -68,7 +68,7 @@ in_window v b o n a k j l within =
     at-hits v b o n (a + j) (omega arith) ∙ ap (λ x. hit v (bit_of b x)) e
     ∙ sym (at-hits v b (o + a) k j l)
 
--- those that aren't v
+-- the bits that aren't v
 pub off_in_window : (v : Bool) (b : List ℕ) (o n a k x y : ℕ) → a + k ≤ n → y ≤ k
     → ((j : ℕ) → x ≤ j → j < y → at (hits v (bits b (o + a) k)) j ≡ false)
     → (i : ℕ) → a + x ≤ i → i < a + y → at (hits v (bits b o n)) i ≡ false
@@ -77,11 +77,11 @@ off_in_window v b o n a k x y within few off i lo hi =
     subst (λ z. at (hits v (bits b o n)) z ≡ false) e
     (in_window v b o n a k (i - a) (omega arith) within ∙ off (i - a) (omega arith) (omega arith))
 
--- how many there are
+-- their number
 pub long : (v : Bool) (b : List ℕ) (o n : ℕ) → length (hits v (bits b o n)) ≡ n
 long v b o n = length-hits v (bits b o n) ∙ length-bits b o n
 
--- the next one
+-- the next one in the window
 pub next_in_window : (v : Bool) (b : List ℕ) (o n a k p : ℕ) → a + k ≤ n
     → IsNext (hits v (bits b (o + a) k)) 0 (Some p)
     → IsNext (hits v (bits b o n)) a (Some (a + p))
@@ -93,7 +93,7 @@ next_in_window v b o n a k p within found =
       λ i lo hi. off_in_window v b o n a k 0 p within (omega arith) found.3 i (omega arith) hi,
     )
 
--- the previous one, if none behind the look is v
+-- the previous one in the window, if no bit after the look is v
 pub previous_in_window : (v : Bool) (b : List ℕ) (o n a k p : ℕ) → a + k ≤ n
     → IsPrevious (hits v (bits b (o + a) k)) (length (hits v (bits b (o + a) k))) (Some p)
     → ((i : ℕ) → a + k ≤ i → i < n → at (hits v (bits b o n)) i ≡ false)
@@ -112,18 +112,18 @@ previous_in_window v b o n a k p within found off =
     )
 
 -- ---- from look to look
--- a true value isn't among those that aren't
+-- a true value isn't a false one
 pub not_off : (l : List Bool) (p : ℕ) → at l p ≡ false → at l p ≢ true
 not_off l p off on = let e = sym off ∙ on in cc
 
--- what is v is in the window
+-- a hit is in the window
 pub hit_within : (v : Bool) (b : List ℕ) (o n p : ℕ) → IsTrue (at (hits v (bits b o n)) p) → p < n
 hit_within v b o n p on = elim (cases_lt p n) [
   | inl l ↦ l
   | inr past ↦ absurd (not_off (hits v (bits b o n)) p (at-hits_past v b o n p past) on)
 ]
 
--- and from where a search to the back stands on
+-- a hit is at or after the index from which a search to the back continues
 pub hit_behind : (l : List Bool) (a m p : ℕ) → ((i : ℕ) → a ≤ i → i < m → at l i ≡ false)
     → a ≤ p → IsTrue (at l p) → m ≤ p
 hit_behind l a m p off from on = elim (cases_lt p m) [
@@ -131,7 +131,7 @@ hit_behind l a m p off from on = elim (cases_lt p m) [
   | inr here ↦ here
 ]
 
--- or before where one to the front stands
+-- a hit is before the index before which a search to the front continues
 pub hit_before : (l : List Bool) (m n p : ℕ) → ((i : ℕ) → m ≤ i → i < n → at l i ≡ false)
     → p < n → IsTrue (at l p) → p < m
 hit_before l m n p off to on = elim (cases_lt p m) [
@@ -139,7 +139,7 @@ hit_before l m n p off to on = elim (cases_lt p m) [
   | inr past ↦ absurd (not_off l p (off p past to) on)
 ]
 
--- the next one, found by a look at k bits from place m on, of a source that stayed as it was
+-- the next one, found by a look at k bits from index m on, in an unchanged source
 pub next_found : (v : Bool) (b c : List ℕ) (o n a m k p : ℕ) → c ≡ b → a ≤ m → m + k ≤ n
     → ((i : ℕ) → a ≤ i → i < m → at (hits v (bits b o n)) i ≡ false)
     → Selects (hits v (bits c (o + m) k)) 0 (Some p) → IsNext (hits v (bits b o n)) a (Some (m + p))
@@ -148,7 +148,7 @@ next_found v b c o n a m k p same from within off s =
     IsNext_later (hits v (bits b o n)) a m (Some (m + p)) from off
     (next_in_window v b o n m k p within (Selects-first (hits v (bits b (o + m) k)) (Some p) here))
 
--- none is there
+-- the look finds none
 pub next_passed : (v : Bool) (b c : List ℕ) (o n a m k : ℕ) → c ≡ b → m + k ≤ n
     → ((i : ℕ) → a ≤ i → i < m → at (hits v (bits b o n)) i ≡ false)
     → Selects (hits v (bits c (o + m) k)) 0 None
@@ -162,7 +162,7 @@ next_passed v b c o n a m k same within off s i lo hi = elim (cases_lt i m) [
       i (omega arith) hi
 ]
 
--- the previous one, found by a look at the k bits from place m on
+-- the previous one, found by a look at the k bits from index m on
 pub previous_found : (v : Bool) (b c : List ℕ) (o n m k p : ℕ) → c ≡ b → m + k ≤ n
     → ((i : ℕ) → m + k ≤ i → i < n → at (hits v (bits b o n)) i ≡ false)
     → Selects (hits v (bits c (o + m) k)) (count (hits v (bits c (o + m) k)) - 1) (Some p)
@@ -172,7 +172,7 @@ previous_found v b c o n m k p same within off s =
     let here = subst (λ x. Selects (l x) (count (l x) - 1) (Some p)) same s in
     previous_in_window v b o n m k p within (Selects-last (l b) (Some p) here) off
 
--- none is there
+-- the look finds none
 pub previous_passed : (v : Bool) (b c : List ℕ) (o n m k : ℕ) → c ≡ b → m + k ≤ n
     → ((i : ℕ) → m + k ≤ i → i < n → at (hits v (bits b o n)) i ≡ false)
     → Selects (hits v (bits c (o + m) k)) (count (hits v (bits c (o + m) k)) - 1) None
@@ -187,22 +187,22 @@ previous_passed v b c o n m k same within off s i lo hi = elim (cases_lt i (m + 
   | inr past ↦ off i past hi
 ]
 
--- what is v in a window is v in a front of it
+-- a hit in a window, below m, is a hit in its front of m bits
 pub hit_in_front : (v : Bool) (b : List ℕ) (o n m p : ℕ) → m ≤ n → p < m
     → IsTrue (at (hits v (bits b o n)) p) → IsTrue (at (hits v (bits b o m)) p)
 hit_in_front v b o n m p within l on =
     at-hits v b o m p l ∙ sym (at-hits v b o n p (omega arith)) ∙ on
 
--- the rank of the nearest of some values is one of theirs
+-- the rank of the nearest of some values is below their number
 pub rank_below : (which : Nearest) (n : ℕ) → 0 < n → rank_of which n < n
 rank_below First n some = some
 rank_below Last n some = omega arith
 
--- of no values
+-- the nearest of no values
 pub nearest_none : (which : Nearest) (l : List Bool) → count l ≡ 0 → SelectsNearest which l None
 nearest_none which l none = omega arith
 
--- the one that was selected, of values that are said in another way
+-- the nearest value, selected from an equal list
 pub nearest_some : (which : Nearest) (k l : List Bool) (n r p : ℕ) → k ≡ l → n ≡ count k
     → r ≡ rank_of which n → Selects k r (Some p) → SelectsNearest which l (Some p)
 nearest_some which k l n r p same size rank s =

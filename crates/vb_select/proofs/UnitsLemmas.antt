@@ -10,7 +10,7 @@ use Rattle.vb_select.specs.Searches.{Searched}
 use Rattle.vb_bits.proofs.BytesLemmas.{bits_of_read}
 use Rattle.vb_select.proofs.SearchesLemmas.{Searched_after, Searched_longer}
 
--- no unit has bits
+-- no units have no bits
 pub units_none : (w : ℕ) → 8 * (w * 0) ≡ 0
 units_none w = ap (λ x. 8 * x) (mul-zero w)
 
@@ -18,18 +18,18 @@ units_none w = ap (λ x. 8 * x) (mul-zero w)
 pub units_more : (w k : ℕ) → 8 * (w * (k + 1)) ≡ 8 * (w * k) + 8 * w
 units_more w k = omega (arith, mul-add w k 1, mul-one w)
 
--- one more unit is within the units that are there
+-- one more unit is within the existing units
 pub units_within : (w k n : ℕ) → k < n → 8 * (w * k) + 8 * w ≤ 8 * (w * n)
 units_within w k n h = omega (arith, column_fits w k w n h (omega arith))
 
--- the bits of unit k, which was read with s for its size
+-- the bits of unit k, read with size s
 pub bits_of_unit : (b c xs : List ℕ) (o p w s k : ℕ)
     → c ≡ b → s ≡ w → o % 8 ≡ 0 → p ≡ o + 8 * (w * k)
     → xs ≡ slice_range c (o / 8 + s * k) (o / 8 + s * k + w) → bits xs 0 (8 * w) ≡ bits b p (8 * w)
 bits_of_unit b c xs o p w s k same size aligned place read =
     bits_of_read b c xs (o / 8 + s * k) w p same read (omega (arith, ap (λ x. x * k) size))
 
--- found in the unit at place m of a window
+-- found in the unit at index m of a window
 pub found_in_unit : (v : Bool) (b xs : List ℕ) (o m z w n left p : ℕ)
     → m + 8 * w ≤ z → bits xs 0 (8 * w) ≡ bits b (o + m) (8 * w)
     → n ≡ left + count (hits v (bits b o m)) → Searched (hits v (bits xs 0 (8 * w))) left

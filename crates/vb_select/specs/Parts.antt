@@ -1,10 +1,10 @@
--- How a window is cut for reading.
+-- The parts of a window that are read separately.
 use Rattle.std.specs.Prelude.{◌≡◌, ℕ, ◌+◌, ◌*◌, ◌%◌, ◌<◌, ◌≤◌, min}
 use Rattle.vb_select.specs.declared.parts.Parts.{Parts}
 use Rattle.vb_count.specs.Looks.{looks, rest_looks}
 
--- the parts of the window of n bits from bit o on: the head is of one byte, what follows begins at
--- a whole byte
+-- the parts of the window of n bits from bit o on: the head is within one byte, and the bits after
+-- it start at a whole byte
 pub record IsCutOf (o n : ℕ) (p : Parts) : Type 0 where
   pub whole : p.head + 512 * p.chunks + p.rest ≡ n
   pub short : p.rest < 512

@@ -1,4 +1,4 @@
-//! Selecting within a chunk of 64 bytes.
+//! Select within a chunk of 64 bytes.
 ghost use Rattle.std.specs.Prelude.{◌≡◌, ℕ, ◌+◌, ◌*◌, ◌^◌, ◌<◌, ◌≤◌, Some, length};
 ghost use Rattle.vb_bits.specs.Bits.{bits, count, Selects};
 ghost use Rattle.vb_count.specs.Hits.{hits};
@@ -10,10 +10,10 @@ use std::ops::ControlFlow;
 use std::simd::prelude::*;
 use vb_count::{Glance, Plain, chunk_ones};
 
-/// The place of the `n`-th bit of the chunk that is `value`.
+/// Returns the index of the `n`-th bit of the chunk that is `value`.
 ///
-/// It is called once a search, and takes the chunk as a vector, which is passed in registers: so no
-/// chunk that is only counted is copied to memory.
+/// A search calls it once. It takes the chunk as a vector, which is passed in registers, so a chunk
+/// that is only counted isn't copied to memory.
 #[inline(never)]
 pub(crate) fn select_in_chunk(chunk: u8x64, n: usize, value: bool) -> usize
     requires { n < count (hits value (bits chunk 0 512)) }
@@ -49,7 +49,7 @@ impl Unit for [u8; 64] {
         src.chunk(at)
     }
 
-    // The words are counted as they are, and not negated one by one.
+    // It counts the words as they are, without negating each of them.
     fn count(self, value: bool) -> usize {
         let ones = chunk_ones(&self);
         if value { ones } else { 512 - ones }

@@ -1,4 +1,4 @@
-//! The last bit that is sought, and the last one before a place.
+//! The last bit with a given value, and the last one before an index.
 ghost use Rattle.std.specs.Prelude.{ℕ, ◌≡◌, ◌+◌, ◌*◌, ◌%◌, ◌^◌, ◌<◌, ◌≤◌, not, length, min};
 ghost use Rattle.vb_bits.specs.Bits.{bit_of, bits, complement};
 ghost use Rattle.vb_bits.specs.InBytes.{InBytes};
@@ -13,14 +13,15 @@ use vb_bits::word_at;
 use vb_count::{Glance, last_look};
 use vb_walk::others;
 
-/// How many words are looked at together, so that one test serves all of them.
+/// The number of words that one test passes together.
 const PASSED_WORDS: usize = 8;
 
-/// The place, relative to the window of `len` bits from bit `offset` on, of its last true bit;
-/// `None` where it has none. The window has to lie in the bytes, and to end below 2^64.
+/// Returns the index of the last set bit of the window, or `None` if no bit is set. The index is
+/// relative to the window of `len` bits from bit `offset` on. The caller must prove that the window
+/// is in bounds and that `offset + len` fits in a `usize`.
 ///
-/// Words are read from the end to the front. Those that have no true bit are passed by blocks of
-/// eight, and then one by one.
+/// It reads words from the end to the front. It passes words without a set bit in blocks of eight,
+/// and then one by one.
 pub fn last_set_index(bytes: &[u8], offset: usize, len: usize) -> Option<usize>
     requires window { InBytes bytes.now offset len }
     ensures { result ≡ last_place (bits bytes.now offset len) }
@@ -28,11 +29,11 @@ pub fn last_set_index(bytes: &[u8], offset: usize, len: usize) -> Option<usize>
     last_match(bytes, offset, len, true)
 }
 
-/// The last true bit before place `before`, as its place in the window; `None` where there is none.
-/// From the end on each place has the bits of the window before it. The window has to lie in the
-/// bytes, and to end below 2^64.
+/// Returns the index of the last set bit below index `before`, or `None` if there is none. Indices
+/// are relative to the window; any `before` from `len` on includes the whole window. The caller
+/// must prove that the window is in bounds and that `offset + len` fits in a `usize`.
 ///
-/// It reads as [`last_set_index`] does, from place `before` to the front.
+/// It reads as [`last_set_index`] does, from index `before` to the front.
 pub fn previous_set(bytes: &[u8], offset: usize, len: usize, before: usize) -> Option<usize>
     requires window { InBytes bytes.now offset len }
     ensures { IsPrevious (bits bytes.now offset len) before result }
@@ -40,8 +41,11 @@ pub fn previous_set(bytes: &[u8], offset: usize, len: usize, before: usize) -> O
     last_match(bytes, offset, len.min(before), true)
 }
 
-/// The last false bit before place `before`, as its place in the window; `None` where there is
-/// none. Of the window and what is read [`previous_set`] says all.
+/// Returns the index of the last unset bit below index `before`, or `None` if there is none.
+/// Indices are relative to the window; any `before` from `len` on includes the whole window. The
+/// caller must prove that the window is in bounds and that `offset + len` fits in a `usize`.
+///
+/// It reads as [`last_set_index`] does, from index `before` to the front.
 pub fn previous_unset(bytes: &[u8], offset: usize, len: usize, before: usize) -> Option<usize>
     requires window { InBytes bytes.now offset len }
     ensures { IsPrevious (complement (bits bytes.now offset len)) before result }
@@ -49,13 +53,14 @@ pub fn previous_unset(bytes: &[u8], offset: usize, len: usize, before: usize) ->
     last_match(bytes, offset, len.min(before), false)
 }
 
-/// [`last_set_index`] of a counted source: the place of the last true bit of the window; `None` if
-/// it has none.
+/// [`last_set_index`] of a counted source: returns the index of the last set bit of the window, or
+/// `None` if no bit is set.
 ///
-/// It takes at most the looks of `vb_count::count_ones_by` over the bits from its answer on, with
-/// it, up to the end (clause `stops`); if there is none, over all of them (clause `looks`).
-/// `vb_count::most_looks` bounds both. Does not allocate. The window must fit in the source, and
-/// end below 2^64.
+/// If it finds a bit, its looks are at most those of `vb_count::count_ones_by` over the bits from
+/// that bit, included, up to the end (clause `stops`). If it finds none, they are at most those
+/// over all bits (clause `looks`). `vb_count::most_looks` bounds both. Does not allocate. The
+/// caller must prove that the window is in bounds of the source and that `offset + len` fits in a
+/// `usize`.
 pub fn last_set_index_by<G: Glance>(src: &mut G, offset: usize, len: usize) -> Option<usize>
     requires window { InBytes (G.seen src.old).bytes offset len }
     ensures value { result ≡ last_place (bits (G.seen src.old).bytes offset len) }
@@ -66,13 +71,14 @@ pub fn last_set_index_by<G: Glance>(src: &mut G, offset: usize, len: usize) -> O
     last_match_by(src, offset, len, true)
 }
 
-/// [`previous_set`] of a counted source: the last true bit before place `before`, as its place in
-/// the window; `None` if there is none.
+/// [`previous_set`] of a counted source: returns the index of the last set bit below index
+/// `before`, or `None` if there is none. Indices are relative to the window.
 ///
-/// It takes at most the looks of `vb_count::count_ones_by` over the bits from its answer on, with
-/// it, up to place `before` (clause `stops`); if there is none, over all before it (clause
-/// `looks`). `vb_count::most_looks` bounds both. Does not allocate. The window must fit in the
-/// source, and end below 2^64.
+/// If it finds a bit, its looks are at most those of `vb_count::count_ones_by` over the bits from
+/// that bit, included, up to index `before` (clause `stops`). If it finds none, they are at most
+/// those over all bits before that index (clause `looks`). `vb_count::most_looks` bounds both. Does
+/// not allocate. The caller must prove that the window is in bounds of the source and that
+/// `offset + len` fits in a `usize`.
 pub fn previous_set_by<G: Glance>(
     src: &mut G,
     offset: usize,
@@ -88,13 +94,14 @@ pub fn previous_set_by<G: Glance>(
     last_match_by(src, offset, len.min(before), true)
 }
 
-/// [`previous_unset`] of a counted source: the last false bit before place `before`, as its place
-/// in the window; `None` if there is none.
+/// [`previous_unset`] of a counted source: returns the index of the last unset bit below index
+/// `before`, or `None` if there is none. Indices are relative to the window.
 ///
-/// It takes at most the looks of `vb_count::count_ones_by` over the bits from its answer on, with
-/// it, up to place `before` (clause `stops`); if there is none, over all before it (clause
-/// `looks`). `vb_count::most_looks` bounds both. Does not allocate. The window must fit in the
-/// source, and end below 2^64.
+/// If it finds a bit, its looks are at most those of `vb_count::count_ones_by` over the bits from
+/// that bit, included, up to index `before` (clause `stops`). If it finds none, they are at most
+/// those over all bits before that index (clause `looks`). `vb_count::most_looks` bounds both. Does
+/// not allocate. The caller must prove that the window is in bounds of the source and that
+/// `offset + len` fits in a `usize`.
 pub fn previous_unset_by<G: Glance>(
     src: &mut G,
     offset: usize,
@@ -110,9 +117,9 @@ pub fn previous_unset_by<G: Glance>(
     last_match_by(src, offset, len.min(before), false)
 }
 
-/// The place of the last bit that is `value`.
+/// Returns the index of the last bit that is `value`.
 ///
-/// Inlined, so that the search for true bits and that for false bits have loops of their own.
+/// It is inlined, so that the searches for set and for unset bits each have their own loops.
 #[inline(always)]
 fn last_match_by<G: Glance>(src: &mut G, offset: usize, len: usize, value: bool) -> Option<usize>
     requires window { InBytes (G.seen src.old).bytes offset len }
@@ -133,9 +140,9 @@ fn last_match_by<G: Glance>(src: &mut G, offset: usize, len: usize, value: bool)
     None
 }
 
-/// The place of the last bit that is `value`.
+/// Returns the index of the last bit that is `value`.
 ///
-/// Inlined, so that the search for true bits and that for false bits have loops of their own.
+/// It is inlined, so that the searches for set and for unset bits each have their own loops.
 #[inline(always)]
 fn last_match(bytes: &[u8], offset: usize, len: usize, value: bool) -> Option<usize>
     requires window { InBytes bytes.now offset len }
@@ -155,8 +162,8 @@ fn last_match(bytes: &[u8], offset: usize, len: usize, value: bool) -> Option<us
     None
 }
 
-/// How many bits are left of `len`, which end with a byte, once those of the whole words at the end
-/// are passed, `n` words at a time, as long as none of these bits is `value`.
+/// Returns the number of bits left of `len`, which end at a whole byte, after passing whole words
+/// at the end, `n` at a time, while none of their bits is `value`.
 #[inline(always)]
 fn pass_words(bytes: &[u8], offset: usize, len: usize, n: usize, value: bool) -> usize
     requires some { 0 < n }
@@ -177,7 +184,8 @@ fn pass_words(bytes: &[u8], offset: usize, len: usize, n: usize, value: bool) ->
     left
 }
 
-/// The digits that are `value` in one of the `n` words from byte `at` on.
+/// Returns a word that is 0 only if no bit of the `n` words from byte `at` on is `value`: it has a
+/// 1 for each digit that is `value` in some word.
 #[inline(always)]
 fn digits_of_any(bytes: &[u8], at: usize, n: usize, value: bool) -> u64
     requires { at + 8 * n ≤ length bytes.now }

@@ -1,13 +1,14 @@
-//! Selects of the bits of a window by looks that are counted, and the nearest bit from a place on
-//! and before one.
+//! Selects bits of a window by rank, by looks that contracts count, and finds the nearest bit from
+//! an index on or before one.
 //!
-//! A window is the `len` bits from bit `offset` on, least significant first. It has to lie in the
-//! bytes, and its end has to be a `usize`: `vb_bits::window_fits` tests both. Places and counts are
-//! of bits, relative to the window.
+//! A window is the `len` bits from bit `offset` on, least significant first. The caller must prove
+//! that it is in bounds and that `offset + len` fits in a `usize`; `vb_bits::window_fits` tests
+//! both at run time. Indices and counts are of bits, and indices are relative to the window. No
+//! call allocates.
 //!
-//! The calls that end in `_by` read a `Glance`, a source of bytes that counts its reads:
-//! `vb_count::most_looks` is a bound on them. Those that search stop at what they find: they take
-//! at most the looks of a count of the bits up to it.
+//! The calls whose names end in `_by` read a `Glance`, a source of bytes that counts its reads;
+//! `vb_count::most_looks` bounds these. Apart from the selects, they stop at the bit that decides:
+//! their looks are at most those of a count of the bits up to it.
 #![tactic(auto)]
 
 mod chunk;

@@ -1,4 +1,4 @@
-//! The nearest bit that is sought among those that one look reads.
+//! The nearest bit with a given value, among the bits that one look reads.
 ghost use Rattle.std.specs.Prelude.{◌≡◌, ◌+◌, ◌*◌, ◌%◌, ◌<◌, ◌≤◌, length};
 ghost use Rattle.vb_bits.specs.Bits.{bits};
 ghost use Rattle.vb_count.specs.Hits.{hits};
@@ -9,17 +9,17 @@ use crate::unit::Unit;
 use vb_bits::select_in_byte;
 use vb_count::{Glance, byte_part};
 
-/// Which of the bits that are sought is the nearest one.
+/// Which of several bits with the given value is the nearest one.
 #[derive(Clone, Copy)]
 pub(crate) enum Nearest {
-    /// The first one, for a search to the back.
+    /// The first one, for a search towards the back.
     First,
-    /// The last one, for a search to the front.
+    /// The last one, for a search towards the front.
     Last,
 }
 
 impl Nearest {
-    /// Its rank among `n` bits that are sought.
+    /// Returns its rank among `n` bits with the given value.
     fn rank(self, n: usize) -> usize
         requires { 0 < n }
         ensures { result ≡ rank_of self n }
@@ -31,8 +31,8 @@ impl Nearest {
     }
 }
 
-/// The nearest bit that is `value` among the `len` bits from bit `at` on, which one look reads;
-/// `None` if none of them is. Its place is relative to bit `at`.
+/// Returns the index of the nearest bit that is `value` among the `len` bits from bit `at` on,
+/// which one look reads, or `None` if no bit is `value`. The index is relative to bit `at`.
 #[inline(always)]
 pub(crate) fn nearest_in_look<G: Glance>(
     src: &mut G,
@@ -77,7 +77,7 @@ fn nearest_in_unit<U: Unit, G: Glance>(
     Some(unit.select(which.rank(here), value))
 }
 
-/// [`nearest_in_look`] of at most eight bits, all of one byte.
+/// [`nearest_in_look`] of at most eight bits within one byte.
 #[inline(always)]
 fn nearest_in_byte<G: Glance>(
     src: &mut G,

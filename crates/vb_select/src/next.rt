@@ -1,4 +1,4 @@
-//! The next bit that is sought, from a place on.
+//! The next bit with a given value, from an index on.
 ghost use Rattle.std.specs.Prelude.{◌≡◌, ◌+◌, ◌-◌, ◌*◌, ◌%◌, ◌^◌, ◌<◌, ◌≤◌, ◌↔◌, length, IsTrue};
 ghost use Rattle.vb_bits.specs.Bits.{bits, count, complement};
 ghost use Rattle.vb_bits.specs.Digits.{digits};
@@ -12,12 +12,12 @@ use vb_bits::{low_digits, read_bits, word_at};
 use vb_count::{Glance, first_look};
 use vb_walk::{first_other, others};
 
-/// The first true bit from place `from` on, as its place in the window; `None` where there is
-/// none, as there is none from the end on. The window has to lie in the bytes, and to end below
-/// 2^64.
+/// Returns the index of the first set bit from index `from` on, or `None` if there is none; from
+/// `len` on there is none. Indices are relative to the window. The caller must prove that the
+/// window is in bounds and that `offset + len` fits in a `usize`.
 ///
-/// It reads the eight bytes from that of place `from` on, then the next eight, and then words four
-/// at once, to those of which one has the bit.
+/// It reads the eight bytes from the byte of index `from` on, then the next eight, and then four
+/// words at a time, up to the four that contain the bit.
 pub fn next_set(bytes: &[u8], offset: usize, len: usize, from: usize) -> Option<usize>
     requires window { InBytes bytes.now offset len }
     ensures { IsNext (bits bytes.now offset len) from result }
@@ -25,8 +25,11 @@ pub fn next_set(bytes: &[u8], offset: usize, len: usize, from: usize) -> Option<
     next_match(bytes, offset, len, from, true)
 }
 
-/// The first false bit from place `from` on, as its place in the window; `None` where there is
-/// none, as there is none from the end on. Of the window and what is read [`next_set`] says all.
+/// Returns the index of the first unset bit from index `from` on, or `None` if there is none; from
+/// `len` on there is none. Indices are relative to the window. The caller must prove that the
+/// window is in bounds and that `offset + len` fits in a `usize`.
+///
+/// It reads as [`next_set`] does.
 pub fn next_unset(bytes: &[u8], offset: usize, len: usize, from: usize) -> Option<usize>
     requires window { InBytes bytes.now offset len }
     ensures { IsNext (complement (bits bytes.now offset len)) from result }
@@ -34,8 +37,9 @@ pub fn next_unset(bytes: &[u8], offset: usize, len: usize, from: usize) -> Optio
     next_match(bytes, offset, len, from, false)
 }
 
-/// Whether a bit of the window is true, as none is of a window of no bits. The window has to lie in
-/// the bytes, and to end below 2^64. It reads as [`next_set`] does, up to the first true bit.
+/// Returns whether any bit of the window is set, which is false for a window of no bits. The caller
+/// must prove that the window is in bounds and that `offset + len` fits in a `usize`. It reads as
+/// [`next_set`] does, up to the first set bit.
 pub fn any_set(bytes: &[u8], offset: usize, len: usize) -> bool
     requires window { InBytes bytes.now offset len }
     ensures { IsTrue result ↔ (0 < count (bits bytes.now offset len)) }
@@ -43,8 +47,9 @@ pub fn any_set(bytes: &[u8], offset: usize, len: usize) -> bool
     next_set(bytes, offset, len, 0).is_some()
 }
 
-/// Whether each bit of the window is true, as of a window of no bits. The window has to lie in the
-/// bytes, and to end below 2^64. It reads as [`next_set`] does, up to the first false bit.
+/// Returns whether all bits of the window are set, which is true for a window of no bits. The
+/// caller must prove that the window is in bounds and that `offset + len` fits in a `usize`. It
+/// reads as [`next_set`] does, up to the first unset bit.
 pub fn all_set(bytes: &[u8], offset: usize, len: usize) -> bool
     requires window { InBytes bytes.now offset len }
     ensures { IsTrue result ↔ (count (bits bytes.now offset len) ≡ len) }
@@ -52,13 +57,14 @@ pub fn all_set(bytes: &[u8], offset: usize, len: usize) -> bool
     next_unset(bytes, offset, len, 0).is_none()
 }
 
-/// [`next_set`] of a counted source: the first true bit from place `from` on, as its place in the
-/// window; `None` if there is none.
+/// [`next_set`] of a counted source: returns the index of the first set bit from index `from` on,
+/// or `None` if there is none. Indices are relative to the window.
 ///
-/// It takes at most the looks of `vb_count::count_ones_by` over the bits from place `from` up to
-/// its answer, with it (clause `stops`); if there is none, over all from place `from` on (clause
-/// `looks`). `vb_count::most_looks` bounds both. Does not allocate. The window must fit in the
-/// source, and end below 2^64.
+/// If it finds a bit, its looks are at most those of `vb_count::count_ones_by` over the bits from
+/// index `from` up to that bit, included (clause `stops`). If it finds none, they are at most those
+/// over all bits from index `from` on (clause `looks`). `vb_count::most_looks` bounds both. Does
+/// not allocate. The caller must prove that the window is in bounds of the source and that
+/// `offset + len` fits in a `usize`.
 pub fn next_set_by<G: Glance>(src: &mut G, offset: usize, len: usize, from: usize) -> Option<usize>
     requires window { InBytes (G.seen src.old).bytes offset len }
     ensures value { IsNext (bits (G.seen src.old).bytes offset len) from result }
@@ -70,13 +76,14 @@ pub fn next_set_by<G: Glance>(src: &mut G, offset: usize, len: usize, from: usiz
     next_match_by(src, offset, len, from, true)
 }
 
-/// [`next_unset`] of a counted source: the first false bit from place `from` on, as its place in
-/// the window; `None` if there is none.
+/// [`next_unset`] of a counted source: returns the index of the first unset bit from index `from`
+/// on, or `None` if there is none. Indices are relative to the window.
 ///
-/// It takes at most the looks of `vb_count::count_ones_by` over the bits from place `from` up to
-/// its answer, with it (clause `stops`); if there is none, over all from place `from` on (clause
-/// `looks`). `vb_count::most_looks` bounds both. Does not allocate. The window must fit in the
-/// source, and end below 2^64.
+/// If it finds a bit, its looks are at most those of `vb_count::count_ones_by` over the bits from
+/// index `from` up to that bit, included (clause `stops`). If it finds none, they are at most those
+/// over all bits from index `from` on (clause `looks`). `vb_count::most_looks` bounds both. Does
+/// not allocate. The caller must prove that the window is in bounds of the source and that
+/// `offset + len` fits in a `usize`.
 pub fn next_unset_by<G: Glance>(
     src: &mut G,
     offset: usize,
@@ -93,11 +100,12 @@ pub fn next_unset_by<G: Glance>(
     next_match_by(src, offset, len, from, false)
 }
 
-/// [`any_set`] of a counted source: whether a bit of the window is true.
+/// [`any_set`] of a counted source: returns whether any bit of the window is set.
 ///
-/// It takes at most the looks of `vb_count::count_ones_by` over the bits up to the first true one,
-/// with it (clause `stops`); if there is none, over all (clause `looks`). `vb_count::most_looks`
-/// bounds both. Does not allocate. The window must fit in the source, and end below 2^64.
+/// If it finds a set bit, its looks are at most those of `vb_count::count_ones_by` over the bits up
+/// to that bit, included (clause `stops`). If it finds none, they are at most those over all bits
+/// (clause `looks`). `vb_count::most_looks` bounds both. Does not allocate. The caller must prove
+/// that the window is in bounds of the source and that `offset + len` fits in a `usize`.
 pub fn any_set_by<G: Glance>(src: &mut G, offset: usize, len: usize) -> bool
     requires window { InBytes (G.seen src.old).bytes offset len }
     ensures value { IsTrue result ↔ (0 < count (bits (G.seen src.old).bytes offset len)) }
@@ -108,11 +116,12 @@ pub fn any_set_by<G: Glance>(src: &mut G, offset: usize, len: usize) -> bool
     next_set_by(src, offset, len, 0).is_some()
 }
 
-/// [`all_set`] of a counted source: whether each bit of the window is true.
+/// [`all_set`] of a counted source: returns whether all bits of the window are set.
 ///
-/// It takes at most the looks of `vb_count::count_ones_by` over the bits up to the first false one,
-/// with it (clause `stops`); if there is none, over all (clause `looks`). `vb_count::most_looks`
-/// bounds both. Does not allocate. The window must fit in the source, and end below 2^64.
+/// If it finds an unset bit, its looks are at most those of `vb_count::count_ones_by` over the bits
+/// up to that bit, included (clause `stops`). If it finds none, they are at most those over all
+/// bits (clause `looks`). `vb_count::most_looks` bounds both. Does not allocate. The caller must
+/// prove that the window is in bounds of the source and that `offset + len` fits in a `usize`.
 pub fn all_set_by<G: Glance>(src: &mut G, offset: usize, len: usize) -> bool
     requires window { InBytes (G.seen src.old).bytes offset len }
     ensures value { IsTrue result ↔ (count (bits (G.seen src.old).bytes offset len) ≡ len) }
@@ -123,9 +132,9 @@ pub fn all_set_by<G: Glance>(src: &mut G, offset: usize, len: usize) -> bool
     next_unset_by(src, offset, len, 0).is_none()
 }
 
-/// The first bit from place `from` on that is `value`.
+/// Returns the index of the first bit from index `from` on that is `value`.
 ///
-/// Inlined, so that the search for true bits and that for false bits have code of their own.
+/// It is inlined, so that the searches for set and for unset bits each have their own code.
 #[inline(always)]
 fn next_match_by<G: Glance>(
     src: &mut G,
@@ -152,9 +161,9 @@ fn next_match_by<G: Glance>(
     None
 }
 
-/// The first bit from place `from` on that is `value`.
+/// Returns the index of the first bit from index `from` on that is `value`.
 ///
-/// Inlined, so that the search for true bits and that for false bits have code of their own.
+/// It is inlined, so that the searches for set and for unset bits each have their own code.
 #[inline(always)]
 fn next_match(bytes: &[u8], offset: usize, len: usize, from: usize, value: bool) -> Option<usize>
     requires window { InBytes bytes.now offset len }
@@ -183,7 +192,7 @@ fn next_match(bytes: &[u8], offset: usize, len: usize, from: usize, value: bool)
     }
 }
 
-/// [`next_match`] from a place on that begins a byte: by whole words, and then in what is left.
+/// [`next_match`] from an index that starts a byte: by whole words, and then in the rest.
 #[inline(always)]
 fn next_in_words(bytes: &[u8], offset: usize, len: usize, from: usize, value: bool) -> Option<usize>
     requires window { InBytes bytes.now offset len }
@@ -202,7 +211,7 @@ fn next_in_words(bytes: &[u8], offset: usize, len: usize, from: usize, value: bo
     }
 }
 
-/// [`next_match`] where at most 64 bits are left.
+/// [`next_match`] if at most 64 bits are left.
 #[inline(always)]
 fn next_in_rest(bytes: &[u8], offset: usize, len: usize, from: usize, value: bool) -> Option<usize>
     requires window { InBytes bytes.now offset len }
@@ -217,8 +226,8 @@ fn next_in_rest(bytes: &[u8], offset: usize, len: usize, from: usize, value: boo
     Some(from + word.trailing_zeros() as usize)
 }
 
-/// The window of `count` bits from bit `at` on, at most 64, as one number, with a 1 for each bit
-/// that is `value`; its digits from `count` on are 0.
+/// Returns the window of `count` bits from bit `at` on, at most 64, as one number, with a 1 for
+/// each bit that is `value`. Its digits from `count` on are 0.
 #[inline(always)]
 pub(crate) fn read_matches(bytes: &[u8], at: usize, count: usize, value: bool) -> u64
     requires in_word { count ≤ 64 }

@@ -1,20 +1,20 @@
-//! How a window is cut for reading.
+//! The parts of a window that are read separately.
 
-/// What a window is made of, from its front to its end.
+/// The parts of a window, from front to end.
 #[derive(Clone, Copy)]
 pub(crate) struct Parts {
-    /// The bits up to the first whole byte, all of one byte.
+    /// The number of bits up to the first whole byte, all within one byte.
     pub(crate) head: usize,
-    /// The whole bytes by 64.
+    /// The number of whole chunks of 64 bytes.
     pub(crate) chunks: usize,
-    /// The bits after the chunks, fewer than a chunk has.
+    /// The number of bits after the chunks, fewer than 512.
     pub(crate) rest: usize,
 }
 
 impl Parts {
     ghost use Rattle.vb_select.specs.Parts.{IsCutOf};
 
-    /// The parts of the window of `len` bits from bit `offset` on.
+    /// Returns the parts of the window of `len` bits from bit `offset` on.
     pub(crate) fn of(offset: usize, len: usize) -> Parts
         ensures { IsCutOf offset len result }
     {

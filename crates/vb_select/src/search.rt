@@ -1,4 +1,4 @@
-//! Searches of parts of a window for a bit by its rank.
+//! Searches parts of a window for a bit by its rank.
 ghost use Rattle.std.specs.Prelude.{◌≡◌, ◌+◌, ◌*◌, ◌/◌, ◌%◌, ◌<◌, ◌≤◌, min};
 ghost use Rattle.vb_select.specs.Searches.{IsWithin, SearchAnswers};
 ghost use Rattle.vb_count.specs.Looks.{rest_looks};
@@ -9,13 +9,12 @@ use std::ops::ControlFlow;
 use vb_bits::select_in_byte;
 use vb_count::{Glance, byte_part};
 
-/// Where a search of a window stands, and what it seeks: of the bits from place `from` on that are
-/// `value`, the `n`-th.
+/// The state of a search: it seeks the `n`-th of the bits from index `from` on that are `value`.
 #[derive(Clone, Copy)]
 pub(crate) struct Search {
-    /// The bit at which the window begins.
+    /// The first bit of the window.
     pub(crate) offset: usize,
-    /// A place, relative to the window.
+    /// An index relative to the window.
     pub(crate) from: usize,
     pub(crate) n: usize,
     pub(crate) value: bool,
@@ -23,7 +22,7 @@ pub(crate) struct Search {
 
 /// Searches `len` bits by words and bytes.
 ///
-/// Inlined, so that the search isn't passed in memory.
+/// It is inlined, so that the search isn't passed in memory.
 #[inline(always)]
 pub(crate) fn find_in_rest<G: Glance>(
     src: &mut G,
@@ -44,7 +43,7 @@ pub(crate) fn find_in_rest<G: Glance>(
     find_in_part(src, search, len % 8)
 }
 
-/// Searches `len` bits, all of one byte.
+/// Searches `len` bits within one byte.
 pub(crate) fn find_in_part<G: Glance>(
     src: &mut G,
     search: Search,
@@ -68,7 +67,7 @@ pub(crate) fn find_in_part<G: Glance>(
     }
 }
 
-/// Searches so many units, one by one.
+/// Searches this number of units, one by one.
 #[inline(always)]
 pub(crate) fn find_in_units<U: Unit, G: Glance>(
     src: &mut G,

@@ -1,4 +1,4 @@
-//! The place of a bit by its rank.
+//! The index of a bit by its rank.
 ghost use Rattle.std.specs.Prelude.{◌≡◌, ◌+◌, ◌-◌, ◌*◌, ◌/◌, ◌%◌, ◌^◌, ◌<◌, ◌≤◌, length};
 ghost use Rattle.vb_bits.specs.Bits.{bits, count, complement, Selects, InvertsCount};
 ghost use Rattle.vb_bits.specs.InBytes.{InBytes};
@@ -12,35 +12,37 @@ use crate::search::{Search, find_in_part, find_in_rest, find_in_units};
 use std::ops::ControlFlow;
 use vb_count::{Glance, Plain, Wide, add_chunks};
 
-/// Fewer chunks than these are searched by their words at once, which takes no longer than to count
+/// Runs of fewer chunks are searched directly by their words, which takes no longer than counting
 /// them first.
 const MIN_COUNTED_CHUNKS: usize = 4;
 
-/// So many chunks are searched before any is counted where the rank is low: they have the bit, but
-/// where few bits are set.
+/// For a low rank this number of chunks is searched before any is counted: they have the bit unless
+/// few bits are set.
 const FIRST_CHUNKS: usize = 16;
 
-/// Among so many chunks none is counted that may hold the bit: they are too few to gain by it.
+/// In a run of at most this number of chunks none that may hold the bit is counted: the run is too
+/// short to gain by it.
 const SHORT_RUN_CHUNKS: usize = 64;
 
-/// Some of the chunks of a window, in which a bit is sought.
+/// Consecutive chunks of a window, in which a bit is sought.
 #[derive(Clone, Copy)]
 struct Stretch {
-    /// How many chunks were passed before it.
+    /// The number of chunks passed before it.
     passed: usize,
-    /// How many it has.
+    /// The number of its chunks.
     chunks: usize,
-    /// What is left of the rank where it begins.
+    /// The rank that is left at its start.
     left: usize,
 }
 
 impl Stretch {
-    /// How many of its chunks to count next, where the `n`-th bit is sought.
+    /// Returns the number of its chunks to count next, if the `n`-th bit is sought.
     ///
-    /// `left / 512` chunks have at most `left` bits, so the bit surely comes after them. Where few
-    /// bits are set those are few, and more are counted if the bit comes after them at the rate of
-    /// the chunks that were passed, but no more than those. At most half of the stretch is: should
-    /// they hold the bit, they are looked at again, and as many behind them never.
+    /// `left / 512` chunks have at most `left` bits, so the bit must come after them. If few bits
+    /// are set, this number is small. It then counts more chunks if the bit is after them at the
+    /// density of the chunks already passed, but no more than it has passed. Of chunks that may
+    /// hold the bit it counts at most half of the stretch: if they do, they are looked at again,
+    /// and the same number of chunks after them never.
     fn block(self, n: usize) -> usize
         requires { self.left ≤ n }
         ensures within { result ≤ self.chunks }
@@ -49,7 +51,7 @@ impl Stretch {
         let sure = (self.left / 512).min(self.chunks);
         let seen = self.passed.max(searched_first(n));
         let mut unsure = seen.min(self.chunks / 2);
-        // No product is so large in truth that it would saturate.
+        // In practice no product is large enough to saturate.
         while sure.max(FIRST_CHUNKS) <= unsure {
             if (n - self.left).saturating_mul(unsure) <= self.left.saturating_mul(seen) {
                 return unsure;
@@ -60,7 +62,7 @@ impl Stretch {
     }
 }
 
-/// How many chunks are searched before any is counted, where the `n`-th bit is sought.
+/// Returns the number of chunks to search before any is counted, if the `n`-th bit is sought.
 fn searched_first(n: usize) -> usize {
     if n < 512 * MIN_COUNTED_CHUNKS {
         FIRST_CHUNKS
@@ -69,10 +71,12 @@ fn searched_first(n: usize) -> usize {
     }
 }
 
-/// The place, relative to the window of `len` bits from bit `offset` on, of its `n`-th true bit,
-/// counted from 0; `None` where the window has at most `n`. The window has to lie in the bytes, and
-/// to end below 2^64. Clause `place` says what the answer is, and `each` that every true bit with
-/// `n` true ones before it is the answer.
+/// Returns the index of the `n`-th set bit, counted from 0, of the `len` bits from bit `offset` on,
+/// or `None` if at most `n` bits are set. The index is relative to bit `offset`. The caller must
+/// prove that the window is in bounds and that `offset + len` fits in a `usize`.
+///
+/// Clause `place` states the result, and clause `each` that every set bit with `n` set bits before
+/// it is the result.
 pub fn bit_select(bytes: &[u8], offset: usize, len: usize, n: usize) -> Option<usize>
     requires window { InBytes bytes.now offset len }
     ensures place { Selects (bits bytes.now offset len) n result }
@@ -81,10 +85,12 @@ pub fn bit_select(bytes: &[u8], offset: usize, len: usize, n: usize) -> Option<u
     bit_select_by(&mut Plain::new(bytes), offset, len, n)
 }
 
-/// The place, relative to the window of `len` bits from bit `offset` on, of its `n`-th false bit,
-/// counted from 0; `None` where the window has at most `n`. The window has to lie in the bytes, and
-/// to end below 2^64. Clause `place` says what the answer is, and `each` that every false bit with
-/// `n` false ones before it is the answer.
+/// Returns the index of the `n`-th unset bit, counted from 0, of the `len` bits from bit `offset`
+/// on, or `None` if at most `n` bits are unset. The index is relative to bit `offset`. The caller
+/// must prove that the window is in bounds and that `offset + len` fits in a `usize`.
+///
+/// Clause `place` states the result, and clause `each` that every unset bit with `n` unset bits
+/// before it is the result.
 pub fn bit_select_unset(bytes: &[u8], offset: usize, len: usize, n: usize) -> Option<usize>
     requires window { InBytes bytes.now offset len }
     ensures place { Selects (complement (bits bytes.now offset len)) n result }
@@ -94,7 +100,7 @@ pub fn bit_select_unset(bytes: &[u8], offset: usize, len: usize, n: usize) -> Op
 }
 
 /// [`bit_select`] for vectors of 32 bytes and more: at x86-64-v3 it passes long windows faster,
-/// since it counts 64 chunks of 64 bytes and more by adders; at x86-64-v2 that is slower.
+/// since adders count runs of 64 chunks of 64 bytes and more; at x86-64-v2 it is slower.
 pub fn bit_select_wide(bytes: &[u8], offset: usize, len: usize, n: usize) -> Option<usize>
     requires window { InBytes bytes.now offset len }
     ensures place { Selects (bits bytes.now offset len) n result }
@@ -104,7 +110,7 @@ pub fn bit_select_wide(bytes: &[u8], offset: usize, len: usize, n: usize) -> Opt
 }
 
 /// [`bit_select_unset`] for vectors of 32 bytes and more: at x86-64-v3 it passes long windows
-/// faster, since it counts 64 chunks of 64 bytes and more by adders; at x86-64-v2 that is slower.
+/// faster, since adders count runs of 64 chunks of 64 bytes and more; at x86-64-v2 it is slower.
 pub fn bit_select_unset_wide(bytes: &[u8], offset: usize, len: usize, n: usize) -> Option<usize>
     requires window { InBytes bytes.now offset len }
     ensures place { Selects (complement (bits bytes.now offset len)) n result }
@@ -113,15 +119,17 @@ pub fn bit_select_unset_wide(bytes: &[u8], offset: usize, len: usize, n: usize) 
     bit_select_unset_by(&mut Wide::new(Plain::new(bytes)), offset, len, n)
 }
 
-/// The place of the `n`-th true bit, counted from 0, of the `len` bits of `src` from bit `offset`
-/// on; `None` where at most `n` of them are true. The place is relative to bit `offset`. The window
-/// has to lie in the bytes, and to end below 2^64. Clause `place` says what the answer is, and
-/// `each` that every true bit with `n` true ones before it is the answer.
+/// Returns the index of the `n`-th set bit, counted from 0, of the `len` bits of `src` from bit
+/// `offset` on, or `None` if at most `n` bits are set. The index is relative to bit `offset`. The
+/// caller must prove that the window is in bounds and that `offset + len` fits in a `usize`.
 ///
-/// The search takes at most the looks of `vb_count::count_ones_by` of the same bits, and so at most
+/// Clause `place` states the result, and clause `each` that every set bit with `n` set bits before
+/// it is the result.
+///
+/// Its looks are at most those of `vb_count::count_ones_by` over the same bits, and so at most
 /// `vb_count::most_looks` of `len`. A look is one read of a chunk of 64 bytes, of a word of eight,
-/// or of a byte; `G.seen` of a source is its bytes, which no look changes, and how many looks they
-/// have had.
+/// or of a byte. `G.seen` of a source is its bytes, which no look changes, and the number of looks
+/// so far.
 pub fn bit_select_by<G: Glance>(src: &mut G, offset: usize, len: usize, n: usize) -> Option<usize>
     requires window { InBytes (G.seen src.old).bytes offset len }
     ensures place { Selects (bits (G.seen src.old).bytes offset len) n result }
@@ -131,15 +139,17 @@ pub fn bit_select_by<G: Glance>(src: &mut G, offset: usize, len: usize, n: usize
     find(src, offset, len, n, true).break_value()
 }
 
-/// The place of the `n`-th false bit, counted from 0, of the `len` bits of `src` from bit `offset`
-/// on; `None` where at most `n` of them are false. The place is relative to bit `offset`. The
-/// window has to lie in the bytes, and to end below 2^64. Clause `place` says what the answer is,
-/// and `each` that every false bit with `n` false ones before it is the answer.
+/// Returns the index of the `n`-th unset bit, counted from 0, of the `len` bits of `src` from bit
+/// `offset` on, or `None` if at most `n` bits are unset. The index is relative to bit `offset`. The
+/// caller must prove that the window is in bounds and that `offset + len` fits in a `usize`.
 ///
-/// The search takes at most the looks of `vb_count::count_ones_by` of the same bits, and so at most
+/// Clause `place` states the result, and clause `each` that every unset bit with `n` unset bits
+/// before it is the result.
+///
+/// Its looks are at most those of `vb_count::count_ones_by` over the same bits, and so at most
 /// `vb_count::most_looks` of `len`. A look is one read of a chunk of 64 bytes, of a word of eight,
-/// or of a byte; `G.seen` of a source is its bytes, which no look changes, and how many looks they
-/// have had.
+/// or of a byte. `G.seen` of a source is its bytes, which no look changes, and the number of looks
+/// so far.
 pub fn bit_select_unset_by<G: Glance>(
     src: &mut G,
     offset: usize,
@@ -156,7 +166,7 @@ pub fn bit_select_unset_by<G: Glance>(
 
 /// Searches the window, part by part, for the `n`-th bit that is `value`.
 ///
-/// Inlined, so that the search for true bits and that for false bits have loops of their own.
+/// It is inlined, so that the searches for set and for unset bits each have their own loops.
 #[inline(always)]
 fn find<G: Glance>(
     src: &mut G,
@@ -183,7 +193,7 @@ fn find<G: Glance>(
     find_in_rest(src, search, parts.rest)
 }
 
-/// Searches so many chunks: few by their words, many by counting them first.
+/// Searches this number of chunks: few by their words, many by counting them first.
 #[inline(always)]
 fn find_in_chunks<G: Glance>(
     src: &mut G,
@@ -212,9 +222,9 @@ fn find_in_chunks<G: Glance>(
     ControlFlow::Continue(left)
 }
 
-/// Searches so many chunks by counting them first.
+/// Searches this number of chunks by counting them first.
 ///
-/// Called, so that the search of a short window saves no registers for it.
+/// It isn't inlined, so that the search of a short window saves no registers for it.
 #[inline(never)]
 fn find_in_many_chunks<G: Glance>(
     src: &mut G,
@@ -233,12 +243,12 @@ fn find_in_many_chunks<G: Glance>(
     find_in_units::<[u8; 64], G>(src, search, chunks - passed)
 }
 
-/// Passes chunks from bit `at` on that can't hold the `n`-th bit that is `value`. Answers how many
-/// of the `chunks` it passed, and what is left of the rank after them.
+/// Passes chunks from bit `at` on that can't hold the `n`-th bit that is `value`. Returns how many
+/// of the `chunks` it passed, and the rank that is left after them.
 ///
-/// `n / 512` chunks have at most `n` bits, so the one that is sought comes after them: they are
-/// counted as fast as [`add_chunks`] does, and none of them is searched. The same then holds of
-/// the rank that is left.
+/// `n / 512` chunks have at most `n` bits, so the sought bit comes after them. It counts them as
+/// fast as [`add_chunks`] does, and searches none of them. It repeats this for the rank that is
+/// left.
 fn pass_chunks<G: Glance>(
     src: &mut G,
     at: usize,
@@ -265,7 +275,7 @@ fn pass_chunks<G: Glance>(
     }
 }
 
-/// Searches more chunks than [`SHORT_RUN_CHUNKS`] by counting also such as may hold the bit.
+/// Searches more chunks than [`SHORT_RUN_CHUNKS`], by counting also chunks that may hold the bit.
 #[inline(never)]
 fn find_in_long_run<G: Glance>(
     src: &mut G,
@@ -287,11 +297,11 @@ fn find_in_long_run<G: Glance>(
     find_in_units::<[u8; 64], G>(src, search, stretch.chunks)
 }
 
-/// Narrows so many chunks from bit `at` on to few, among which the `n`-th bit that is `value` is
-/// still to be sought.
+/// Narrows this number of chunks from bit `at` on down to a few, in which the `n`-th bit that is
+/// `value` is still to be searched for.
 ///
-/// Chunks are counted as fast as [`add_chunks`] does. Those that don't hold the bit are passed;
-/// those that do are narrowed further, and the chunks after them are never looked at.
+/// It counts chunks as fast as [`add_chunks`] does. It passes those that don't hold the bit. It
+/// narrows those that do further, and never looks at the chunks after them.
 fn narrow<G: Glance>(src: &mut G, at: usize, chunks: usize, n: usize, value: bool) -> Stretch
     requires aligned { 0 < chunks → at % 8 ≡ 0 }
     requires window { InBytes (G.seen src.old).bytes at (512 * chunks) }
@@ -323,7 +333,7 @@ fn narrow<G: Glance>(src: &mut G, at: usize, chunks: usize, n: usize, value: boo
     }
 }
 
-/// How many bits of `n` chunks from byte `at` on are `value`.
+/// Returns the number of bits that are `value` in `n` chunks from byte `at` on.
 #[tactic(auto, using(vb_bits::proofs::BitsLemmas::windows))]
 fn count_matching<G: Glance>(src: &mut G, at: usize, n: usize, value: bool) -> usize
     requires inside { at + 64 * n ≤ length (G.seen src.old).bytes }

@@ -1,4 +1,4 @@
-//! What one look reads: a byte, a word of eight bytes or a chunk of 64.
+//! The units that one look reads: a byte, a word of eight bytes or a chunk of 64.
 ghost use Rattle.std.specs.Prelude.{◌≡◌, ℕ, ◌+◌, ◌*◌, ◌<◌, ◌≤◌, List, [], ◌∷◌, Some, length};
 ghost use Rattle.std.specs.Prelude.{slice_range};
 ghost use Rattle.std.specs.Int.{w64, to_le_bytes};
@@ -9,28 +9,28 @@ ghost use Rattle.vb_count.specs.Looks.{LooksExactly};
 use vb_bits::{select_in_byte, select_in_word};
 use vb_count::{Glance, byte_part, matching_word};
 
-/// Bytes that one look reads, and that are then counted and searched without another look.
+/// Bytes that one look reads. They are then counted and searched without another look.
 ///
-/// `value` says which bits are meant, the true ones or the false ones.
+/// `value` says which bits are meant, the set or the unset ones.
 pub(crate) trait Unit: Copy {
     ghost SIZE: { ℕ };
 
     ghost bytes: { Self → List ℕ };
 
-    /// How many bytes it is.
+    /// The number of bytes.
     const SIZE: usize;
 
-    /// The bytes of the source from byte `at` on, by one look.
+    /// Returns the bytes of the source from byte `at` on, by one look.
     fn read<G: Glance>(src: &mut G, at: usize) -> Self
         requires { at + SIZE ≤ length (G.seen src.old).bytes }
         ensures value { bytes result ≡ slice_range (G.seen src.old).bytes at (at + SIZE) }
         ensures look { LooksExactly 1 (G.seen src.old) (G.seen src.new) };
 
-    /// How many bits are `value`.
+    /// Returns the number of bits that are `value`.
     fn count(self, value: bool) -> usize
         ensures { result ≡ count (hits value (bits (bytes self) 0 (8 * SIZE))) };
 
-    /// The place of the `n`-th bit that is `value`.
+    /// Returns the index of the `n`-th bit that is `value`.
     fn select(self, n: usize, value: bool) -> usize
         requires { n < count (hits value (bits (bytes self) 0 (8 * SIZE))) }
         ensures { Selects (hits value (bits (bytes self) 0 (8 * SIZE))) n (Some result) };

@@ -6,7 +6,7 @@ use Rattle.vb_select.proofs.NearestLemmas.{IsNext_none}
 use Rattle.vb_select.proofs.StopsLemmas.{long, next_found, next_passed, hit_within, hit_behind}
 use Rattle.vb_select.proofs.next.next_match_by.Goals as goal
 
--- no look was had
+-- no look was made
 none_had : (was most : ℕ) → was ≤ was + most
 none_had was most = omega arith
 

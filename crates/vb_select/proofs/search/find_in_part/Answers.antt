@@ -23,7 +23,7 @@ select_in_byte-requires g c =
           (omega (arith, wide, c.byte_part-part.ensures.clear)),
     )
 
--- what was found in the byte is what is sought in the window
+-- a hit in the byte is a hit in the window
 found : (g : Over) (c : After-struct_known-then-search-here-1 g)
     → Searched (hits c.args.search.value (bits
     (g.G.Glance.seen c.args.src.now).bytes c.args.search.offset (c.args.search.from + c.args.len)))

@@ -18,7 +18,7 @@ loop-k-init g c = record {
   looks = record { same = refl; looks = omega arith };
 }
 
--- what was found in a unit is what is sought in the window
+-- a hit in a unit is a hit in the window
 found : (g : Over) (c : After-struct_known-then-left-here-1 g)
     → Searched (hits c.args.search.value (bits (g.G.Glance.seen c.args.src.now).bytes
     c.args.search.offset (c.args.search.from + 8 * (g.U.Unit.SIZE * c.args.units))))

@@ -10,7 +10,7 @@ use Rattle.vb_select.proofs.select.find_in_chunks.Given.{Over}
 use Rattle.vb_select.proofs.select.find_in_chunks.Goals as goal
 use Rattle.vb_select.proofs.select.find_in_chunks.Goals.{After-struct_known-in-Break-1}
 
--- what was found in a chunk is what is sought in the window
+-- a hit in a chunk is a hit in the window
 found : (g : Over) (c : After-struct_known-in-Break-1 g)
     → Searched (hits c.args.search.value (bits (g.G.Glance.seen c.args.src.now).bytes
     c.args.search.offset (c.args.search.from + 512 * c.args.chunks)))
