@@ -1,13 +1,14 @@
-//! The calls of `vb_bits`, `vb_pack`, `vb_count`, `vb_pair` and `vb_select` under one name: the
-//! kernels over the bits of a slice.
+//! Re-exports the calls of `vb_bits`, `vb_pack`, `vb_count`, `vb_pair` and `vb_select`: the kernels
+//! over the bits of a slice.
 //!
-//! A window is the `len` bits from bit `offset` on, least significant first. It has to lie in the
-//! bytes, and its end has to be a `usize`; [`window_fits`] is the test. Places and counts are of
-//! bits, relative to the window.
+//! A window is the `len` bits from bit `offset` on, least significant first. The caller must prove
+//! that it is in bounds and that `offset + len` fits in a `usize`; [`window_fits`] tests both at
+//! run time. Indices and counts are of bits, and indices are relative to the window. No call
+//! allocates.
 //!
-//! The calls that end in `_by` read a [`Glance`], a source of bytes that counts its reads: see
-//! [`count_ones_by`] for the exact number, and [`most_looks`] for a bound on it. Those that search
-//! stop at what they find.
+//! The calls whose names end in `_by` read a [`Glance`], a source of bytes that counts its reads:
+//! see [`count_ones_by`] for the exact number, and [`most_looks`] for a bound on it. Those that
+//! search for the nearest bit, or test the bits of a window, stop at the bit that decides.
 #![tactic(auto)]
 
 pub use vb_bits::{
