@@ -1,4 +1,4 @@
--- Windows that lose a bit at either end.
+-- Windows without their first or last bit.
 use Rattle.std.proofs.Common.{◌≡◌, ℕ, suc, ◌+◌, ◌-◌, ◌<◌, ◌≤◌, List, [], ◌∷◌, ◌++◌, ap, ◌∙◌, arith}
 use Rattle.vb_bits.specs.Bits.{bit_of, bits}
 use Rattle.vb_bits.proofs.BitsLemmas.{length-bits, bits_none, bits_more, bits-add}

@@ -1,4 +1,4 @@
--- Words of whole bytes.
+-- Words that start at whole bytes.
 use Rattle.std.proofs.Common.{◌≡◌, ◌≢◌, ℕ, zero, suc, ◌+◌, ◌-◌, ◌*◌, ◌/◌, ◌%◌, ◌^◌, ◌<◌, ◌≤◌, Bool}
 use Rattle.std.proofs.Common.{false, min, List, [], ◌∷◌, ◌++◌, length, map, take, drop, replicate}
 use Rattle.std.proofs.Common.{refl, sym, ap, ◌∙◌, arith, inl, inr, subst, Option, Some, None}
@@ -21,7 +21,7 @@ use Rattle.vb_walk.specs.Cut.{cut_words, word_of, IsCut}
 use Rattle.vb_walk.proofs.WordsLemmas.{number_is, length-words, words_none, words_cons, words_push}
 use Rattle.vb_walk.proofs.WordsLemmas.{words_front, word-bits, word_read, take-window}
 
--- ---- values behind false ones
+-- ---- values after false ones
 -- their number
 bits_number-behind : (s : ℕ) (l : List Bool)
     → bits_number (replicate s false ++ l) ≡ bits_number l * 2 ^ s
@@ -31,7 +31,7 @@ bits_number-behind (suc s) l =
     mul_assoc (bits_number l) (2 ^ s) 2 ∙ ap (λ x. bits_number l * x) (sym (pow-suc 2 s)) in
     omega (arith, bits_number-behind s l)
 
--- the first word of a window behind s false values
+-- the first word of a window after s false values
 pub first_word : (b : List ℕ) (o n s w : ℕ) → s < 8 → digits w 0 (min n (64 - s)) ≡ bits b o
     (min n (64 - s)) → w < 2 ^ min n (64 - s) → word (replicate s false ++ bits b o n) 0 ≡ w * 2 ^ s
 first_word b o n s w small read clear =
@@ -45,7 +45,7 @@ first_word b o n s w small read clear =
     ∙ ap (λ k. bits_number (bits b o k) * 2 ^ s) least
     ∙ ap (λ x. x * 2 ^ s) (number_is w (min n (64 - s)) (bits b o (min n (64 - s))) read clear)
 
--- the words behind the first are those of the window behind them
+-- the words after the first are those of the window after them
 pub word_behind : (b : List ℕ) (o n s k : ℕ) → s ≡ o % 8 → 64 ≤ s + n → word
     (replicate s false ++ bits b o n) (suc k) ≡ word (bits b (8 * (o / 8 + 8)) (s + n - 64)) k
 word_behind b o n s k e long =
@@ -67,7 +67,7 @@ pub word_of_read : (c : List ℕ) (w : ℕ)
     → to_le_bytes w64 w ≡ slice_range c 0 (0 + 8) → w < 2 ^ 64 → word_of c ≡ w
 word_of_read c w read clear = number_is w 64 (bits c 0 64) (digits_of_word c w 0 read) clear
 
--- bits behind the first eight bytes
+-- bits after the first eight bytes
 bits_behind : (xs : List ℕ) (o n : ℕ) → bits (drop 8 xs) o n ≡ bits xs (64 + o) n
 bits_behind xs o n =
     same_bits (drop 8 xs) xs o (64 + o) n
@@ -95,7 +95,7 @@ chunk_words xs (suc k) =
     ∙ ap bits_number (sym (bits_behind xs (0 + 64 * i) (min 64 (64 * k - 64 * i))))
     ∙ sym (word-bits (drop 8 xs) 0 (64 * k) i (omega arith))))
 
--- those of a run of bytes
+-- the chunks of a run of bytes are words of its bits
 chunk_words_of : (b : List ℕ) (start k : ℕ) → map word_of
     (first_chunks 8 k (slice_range b start (start + 8 * k))) ≡ words (bits b (8 * start) (64 * k)) k
 chunk_words_of b start k =
@@ -105,7 +105,7 @@ chunk_words_of b start k =
     ∙ ap (λ l. words l k) (bits-slice_range b start (8 * k))
     ∙ ap (λ n. words (bits b (8 * start) n) k) size
 
--- with the last word apart
+-- with the last word separate
 pub words_apart : (b : List ℕ) (start n k end w : ℕ) (cs : List (List ℕ))
     → 0 < n → k ≡ (n - 1) / 64 → end ≡ start + 8 * k → end ≤ length b
     → cs ≡ first_chunks 8 (length (slice_range b start end) / 8) (slice_range b start end)
@@ -124,13 +124,13 @@ words_apart b start n k end w cs some full at within read rest clear =
     ∙ sym (words_push (bits b (8 * start) n) k) ∙ ap (words (bits b (8 * start) n)) (sym all)
 
 -- ---- all words of a window
--- the words of values are those of a list that is not empty
+-- the words of a list that isn't empty
 cut_some : (s : ℕ) (l : List Bool)
     → length l ≢ 0 → cut_words s l ≡ words (replicate s false ++ l) (div_ceil (s + length l) 64)
 cut_some s [] h = absurd (h refl)
 cut_some s (b ∷ l) h = refl
 
--- none of no values
+-- no values have no words
 cut_none : (s : ℕ) (l : List Bool) → length l ≡ 0 → cut_words s l ≡ []
 cut_none s [] h = refl
 cut_none s (b ∷ l) h = absurd (omega arith)
@@ -158,7 +158,7 @@ words_alone b o n s w small some short read clear =
     ∙ ap (λ ws. word l 0 ∷ ws) (words_none l)
     ∙ ap (λ x. x ∷ []) (first_word b o n s w small read clear)
 
--- and of one that ends behind it
+-- the words of a window that ends after it
 words_many : (b : List ℕ) (o n s w : ℕ) → s ≡ o % 8
     → 64 < s + n → digits w 0 (min n (64 - s)) ≡ bits b o (min n (64 - s)) → w < 2 ^ min n (64 - s)
     → words (replicate s false ++ bits b o n) (div_ceil (s + n) 64)
@@ -172,7 +172,7 @@ words_many b o n s w e long read clear =
     ∙ ap (λ x. x ∷ words m (div_ceil (s + n - 64) 64))
     (first_word b o n s w (omega arith) read clear)
 
--- a first word that is shifted up loses no digit
+-- shifting a first word up loses no digit
 shifted_fits : (w s m : ℕ) → w < 2 ^ m → s + m ≤ 64 → w * 2 ^ s % 2 ^ 64 ≡ w * 2 ^ s
 shifted_fits w s m clear within =
     let small : w * 2 ^ s < 2 ^ (m + s) = shl_lt m s clear in
@@ -181,7 +181,7 @@ shifted_fits w s m clear within =
     let fits : w * 2 ^ s < 2 ^ 64 = omega arith in
     omega arith
 
--- the words of a window, of which the first was read as w, and those behind it are in two parts
+-- the words of a window, of which the first was read as w, and the others are in two parts
 pub IsCut_some : (b : List ℕ) (o n m k w : ℕ) (cs : List ℕ) (r : Option ℕ)
     → n ≢ 0 → m ≡ min n (64 - o % 8) → k ≡ o % 8 + n - 64
     → digits w 0 m ≡ bits b o m → w < 2 ^ m

@@ -25,7 +25,7 @@ cut_at w r k small same =
 
 -- ---- one less, and one more
 module _ (w t : ℕ) (on : bit_at w t ≡ 1) (off : (i : ℕ) → i < t → bit_at w i ≡ 0) where
-  -- above the lowest 1, at place t
+  -- above the lowest 1, at index t
   lowest_split : w ≡ w / 2 ^ suc t * 2 ^ suc t + 2 ^ t
   lowest_split =
       let double : 2 ^ suc t ≡ 2 ^ t * 2 = pow-suc 2 t in
@@ -39,7 +39,7 @@ module _ (w t : ℕ) (on : bit_at w t ≡ 1) (off : (i : ℕ) → i < t → bit_
   less_split : w - 1 ≡ w / 2 ^ suc t * 2 ^ suc t + (2 ^ t - 1)
   less_split = let some : 0 < 2 ^ t = pow_pos t in let e = lowest_split in omega arith
 
-  -- the digits of one less: ones below t, 0 at t, and those of w behind it
+  -- the digits of w - 1: ones below t, 0 at t, and those of w above
   less_below : (i : ℕ) → i < t → bit_at (w - 1) i ≡ 1
   less_below i l = ap (λ x. bit_at x i) less_split
       ∙ bit_at_cat_low (w / 2 ^ suc t) (suc t) (2 ^ t - 1) i (omega arith) ∙ bit_at_ones t i l
@@ -58,7 +58,7 @@ module _ (w t : ℕ) (on : bit_at w t ≡ 1) (off : (i : ℕ) → i < t → bit_
       ∙ sym (ap (λ x. bit_at x i) lowest_split
       ∙ bit_at_cat_high (w / 2 ^ suc t) (suc t) (2 ^ t) i (omega arith) (omega arith))
 
-  -- `w & (w - 1)` has no digit up to the lowest 1, and those of w behind it
+  -- `w & (w - 1)` has no digit up to the lowest 1, and the digits of w above
   pub lowest_off : ((i : ℕ) → i ≤ t → bit_at (bit_and w (w - 1)) i ≡ 0)
       × ((i : ℕ) → t < i → bit_at (bit_and w (w - 1)) i ≡ bit_at w i)
   lowest_off = (
@@ -69,7 +69,7 @@ module _ (w t : ℕ) (on : bit_at w t ≡ 1) (off : (i : ℕ) → i < t → bit_
     λ i l. bit_at_and w (w - 1) i ∙ omega (arith, less_above i l),
   )
 
-  -- `w | (w - 1)` has ones up to the lowest 1, and the digits of w behind it
+  -- `w | (w - 1)` has ones up to the lowest 1, and the digits of w above
   filled_low : (i : ℕ) → i ≤ t → bit_at (bit_or w (w - 1)) i ≡ 1
   filled_low i l = bit_at_or w (w - 1) i ∙ elim (cases_lt i t) [
     | inl below ↦ omega (arith, less_below i below, bit_at-lt w i)
@@ -81,7 +81,7 @@ module _ (w t : ℕ) (on : bit_at w t ≡ 1) (off : (i : ℕ) → i < t → bit_
   filled_high i l = bit_at_or w (w - 1) i ∙ omega (arith, less_above i l)
 
 module _ (f z : ℕ) (ones : (i : ℕ) → i < z → bit_at f i ≡ 1) (off : bit_at f z ≡ 0) where
-  -- above the lowest 0, at place z
+  -- above the lowest 0, at index z
   ones_split : f ≡ f / 2 ^ suc z * 2 ^ suc z + (2 ^ z - 1)
   ones_split =
       let double : 2 ^ suc z ≡ 2 ^ z * 2 = pow-suc 2 z in
@@ -96,7 +96,7 @@ module _ (f z : ℕ) (ones : (i : ℕ) → i < z → bit_at f i ≡ 1) (off : bi
   more_split : f + 1 ≡ f / 2 ^ suc z * 2 ^ suc z + 2 ^ z
   more_split = let some : 0 < 2 ^ z = pow_pos z in let e = ones_split in omega arith
 
-  -- the digits of one more: zeros below z, and those of f behind it
+  -- the digits of f + 1: zeros below z, and those of f above
   more_below : (i : ℕ) → i < z → bit_at (f + 1) i ≡ 0
   more_below i l = ap (λ x. bit_at x i) more_split ∙ bit_at_cat_low (f / 2 ^ suc z)
       (suc z) (2 ^ z) i (omega arith) ∙ bit_at-pow_other z i (λ e. absurd (omega arith))
@@ -110,7 +110,7 @@ module _ (f z : ℕ) (ones : (i : ℕ) → i < z → bit_at f i ≡ 1) (off : bi
       ∙ sym (ap (λ x. bit_at x i) ones_split
       ∙ bit_at_cat_high (f / 2 ^ suc z) (suc z) (2 ^ z - 1) i (omega arith) (omega arith))
 
-  -- `w & (f + 1)`, where w has the digits of f from z on, is w without those below z
+  -- `w & (f + 1)`, if w has the digits of f from z on, is w without those below z
   without_ones : (w : ℕ) → ((i : ℕ) → z ≤ i → bit_at f i ≡ bit_at w i)
       → ((i : ℕ) → i < z → bit_at (bit_and w (f + 1)) i ≡ 0)
       × ((i : ℕ) → z ≤ i → bit_at (bit_and w (f + 1)) i ≡ bit_at w i)
@@ -123,7 +123,7 @@ module _ (f z : ℕ) (ones : (i : ℕ) → i < z → bit_at f i ≡ 1) (off : bi
   )
 
 -- ---- runs
--- the lowest ones of a word that has another digit
+-- the lowest ones of a word with a 0
 pub CutsOnes-low : (w : ℕ) → w + 1 < 2 ^ 64 → CutsOnes w 0 (trailing_ones w64 w) (bit_and w (w + 1))
 CutsOnes-low w fits =
     let z : ℕ = trailing_ones w64 w in
@@ -138,7 +138,7 @@ CutsOnes-low w fits =
       fewer = and_le_l w (w + 1);
     }
 
--- the lowest run, where another digit is 0 above it
+-- the lowest run, if a 0 is above it
 run_inside : (w : ℕ) → 0 < w → w < 2 ^ 64 → bit_or w (w - 1) + 1 < 2 ^ 64 → CutsOnes w
     (trailing_zeros w64 w) (trailing_ones w64 (bit_or w (w - 1))) (bit_and w (bit_or w (w - 1) + 1))
     × (trailing_zeros w64 w < trailing_ones w64 (bit_or w (w - 1)))
@@ -171,7 +171,7 @@ ones_of_full : trailing_ones w64 (2 ^ 64 - 1) ≡ 64
 unfolding count_trailing_zeros
 ones_of_full = refl
 
--- the lowest run, where it goes up to the last digit
+-- the lowest run, if it continues up to the last digit
 run_to_end : (w : ℕ) → 0 < w → w < 2 ^ 64 → bit_or w (w - 1) ≡ 2 ^ 64 - 1
     → CutsOnes w (trailing_zeros w64 w) 64 0 × (trailing_zeros w64 w < 64)
 run_to_end w some fits full =
@@ -213,7 +213,7 @@ CutsOnes-run w z some fits e =
           rw (none, all) (run_to_end w some fits full)
     ]
 
--- the place of the lowest 1 of a number of n digits
+-- the index of the lowest 1 of a number of n digits
 pub lowest_below : (n w : ℕ) → 0 < w → w < 2 ^ n → n ≤ 64 → trailing_zeros w64 w < n
 lowest_below n w some clear few =
     let more : 2 ^ n ≤ 2 ^ 64 = pow_mono few in

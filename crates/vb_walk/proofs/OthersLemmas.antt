@@ -13,7 +13,7 @@ use Rattle.vb_bits.proofs.ReadLemmas.{has_bit-bits, digits_of_word}
 use Rattle.vb_bits.proofs.WindowLemmas.{digits-clear}
 use Rattle.vb_walk.specs.Walks.{others, AreAll, IsOther}
 
--- a word with no digit but v
+-- a word whose digits are all v
 others_none : (v : Bool) (w : ℕ) → w < 2 ^ 64 → others v w ≡ 0 → (i : ℕ) → i < 64 → has_bit w i ≡ v
 others_none true w fits e i l =
     let full : w ≡ 2 ^ 64 - 1 = omega arith in
@@ -52,7 +52,7 @@ four_zeros a b d e none =
     let l1 = le_or_l (bit_or a b) (bit_or d e) in let l2 = le_or_r (bit_or a b) (bit_or d e) in
     (omega arith, omega arith, omega arith, omega arith)
 
--- a word with another digit, behind words that have none
+-- a word with another digit, after words without one
 pub IsOther-word : (b : List ℕ) (v : Bool) (w at a end : ℕ) → at ≤ a → a + 8 ≤ end
     → (end - (a + 8)) % 8 ≡ 0 → AreAll b v (8 * at) (8 * a) → to_le_bytes w64 w ≡ slice_range b a
     (a + 8) → w < 2 ^ 64 → others v w ≢ 0 → IsOther b at end v (record { behind = a + 8; word = w })

@@ -10,7 +10,7 @@ use Rattle.vb_bits.proofs.RunsLemmas.{AreRuns, AreRuns-runs, AreRuns-shift_run, 
 use Rattle.vb_bits.proofs.RunsLemmas.{AreRuns-same, same_runs}
 use Rattle.vb_walk.specs.Walks.{runs_in}
 
--- they are its runs
+-- `runs_in` returns the runs
 AreRuns-runs_in : (t : ℕ → Bool) (a n e : ℕ) → e ≡ a + n → AreRuns t a e (runs_in t a n)
 unfolding runs_in
 AreRuns-runs_in t a n e at_end =
@@ -24,7 +24,7 @@ AreRuns-runs_in t a n e at_end =
     (AreRuns-shift_run t (at l) a 0 n
     (runs l) same (subst (λ x. AreRuns (at l) 0 x (runs l)) size (AreRuns-runs l))))
 
--- there are none where nothing is true
+-- no runs if no value is true
 pub runs_in_none : (t : ℕ → Bool) (a n : ℕ)
     → ((i : ℕ) → a ≤ i → i < a + n → t i ≡ false) → runs_in t a n ≡ []
 runs_in_none t a n h =
@@ -46,7 +46,7 @@ runs_in_first t a e s f from some to off on stop =
       AreRuns-runs_in t f (e - f) e (omega arith),
     )
 
--- places in front that are false, and behind them another test that agrees
+-- false values at the front, and another test that agrees after them
 pub runs_in_skip : (t u : ℕ → Bool) (a b e : ℕ)
     → a ≤ b → b ≤ e → ((i : ℕ) → a ≤ i → i < b → t i ≡ false)
     → ((i : ℕ) → b ≤ i → i < e → t i ≡ u i) → runs_in t a (e - a) ≡ runs_in u b (e - b)

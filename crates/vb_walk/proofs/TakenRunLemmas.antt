@@ -18,7 +18,7 @@ use Rattle.vb_walk.proofs.WalkLemmas.{pending_below, pending_ahead, pending_zero
 pub clash : (b : Bool) → b ≡ true → b ≡ false → ⊥
 clash b p q = cc
 
--- ones don't go past the digits that a number has
+-- ones end within the digits of a number
 pub ones_within : (w a z rest k : ℕ) → CutsOnes w a z rest → a < z → w < 2 ^ k → z ≤ k
 ones_within w a z rest k cut some small = elim (cases_lt k z) [
   | inl past ↦ absurd (clash (has_bit w (z - 1)) (cut.ones (z - 1) (omega arith) (omega arith))
@@ -26,7 +26,7 @@ ones_within w a z rest k cut some small = elim (cases_lt k z) [
   | inr within ↦ within
 ]
 
--- a walk whose word lost digits
+-- a walk whose current word lost digits
 pub IsCursor-fewer : (b : List ℕ) (c : Cursor) (w : ℕ)
     → IsCursor b c → w ≤ c.word → IsCursor b (record c { word = w })
 IsCursor-fewer b c w v fewer = record {
@@ -42,7 +42,7 @@ IsCursor-fewer b c w v fewer = record {
   here = v.here;
 }
 
--- the lowest ones of the word in hand
+-- the lowest ones of the current word
 pub ones_in_hand : (b : List ℕ) (c : Cursor) (n rest : ℕ)
     → IsCursor b c → CutsOnes c.word 0 n rest → c.base + n ≤ c.next
 ones_in_hand b c n rest v cut = elim (cases_lt 0 n) [
@@ -51,7 +51,7 @@ ones_in_hand b c n rest v cut = elim (cases_lt 0 n) [
   | inr none ↦ omega (arith, v.walked)
 ]
 
--- ---- the run ends in the word in hand, or with the window
+-- ---- the run ends in the current word, or with the window
 module _ (b : List ℕ) (c : Cursor) (s z rest : ℕ) (v : IsCursor b c) (some : s < z) (below : (i : ℕ)
     → i < s → has_bit c.word i ≡ false) (cut : CutsOnes c.word s z rest) where
   pub end_within : c.base + z ≤ c.next
@@ -96,7 +96,7 @@ module _ (b : List ℕ) (c : Cursor) (s z rest : ℕ) (v : IsCursor b c) (some :
     ];
   }
 
-  -- ---- the run goes on behind the word in hand
+  -- ---- the run continues after the current word
   module _ (f : Cursor) (n far_rest : ℕ) (all : c.next ≤ c.base + z) (r : IsRefilled b
       (record c { word = rest }) true f) (few : n < 64) (far : CutsOnes f.word 0 n far_rest) where
     pub TakesRun-far : TakesRun b c
@@ -144,8 +144,8 @@ module _ (b : List ℕ) (c : Cursor) (s z rest : ℕ) (v : IsCursor b c) (some :
           ];
         }
 
--- ---- what is left
--- the runs of the front of a window
+-- ---- the rest of a walk
+-- the runs at the front of a window
 pub runs_left_front : (b : List ℕ) (c : Cursor) (o n : ℕ) → c.base ≡ 0 → stop c
     ≡ n → ((i : ℕ) → i < n → pending_bit b c i ≡ bit_of b (o + i))
     → runs_left b c ≡ runs (bits b o n)
@@ -154,7 +154,7 @@ runs_left_front b c o n front all h =
     ap (runs_in (pending_bit b c) c.base) size
     ∙ ap (λ a. runs_in (pending_bit b c) a n) front ∙ runs_in-bits (pending_bit b c) b o n h
 
--- zeros that were passed over
+-- passed zeros
 pub runs_left-skip : (b : List ℕ) (c d : Cursor) → IsSkipped b c d → runs_left b c ≡ runs_left b d
 runs_left-skip b c d s =
     runs_in_skip (pending_bit b c) (pending_bit b d) c.base d.base (stop c) s.later (omega (
@@ -164,13 +164,13 @@ runs_left-skip b c d s =
     )) s.passed (λ i l r. sym (s.same i l (omega (arith, s.ends))))
     ∙ ap (λ e. runs_in (pending_bit b d) d.base (e - d.base)) (sym s.ends)
 
--- nothing is left where the word in hand is 0 and nothing is ahead
+-- no runs remain if the current word is 0 and no bits are ahead
 pub runs_left_none : (b : List ℕ) (c : Cursor)
     → IsCursor b c → c.word ≡ 0 → bits_ahead c ≡ 0 → runs_left b c ≡ []
 runs_left_none b c v z none = runs_in_none (pending_bit b c) c.base
     (stop c - c.base) (λ i l r. pending_zero b c i z (omega (arith, v.walked)))
 
--- a run that is taken
+-- the run that is taken
 pub runs_left-step : (b : List ℕ) (c : Cursor) (r : TakenRun)
     → TakesRun b c r → runs_left b c ≡ (r.start, r.end) ∷ runs_left b r.cursor
 runs_left-step b c r t =

@@ -18,7 +18,7 @@ use Rattle.vb_walk.proofs.OnesLemmas.{lowest_off}
 use Rattle.vb_walk.proofs.PlacesLemmas.{places_in_skip, places_in_empty, places_in_first}
 use Rattle.vb_walk.proofs.PlacesLemmas.{places-bits, same_places_in}
 
--- what is to come below `next`, and from there on
+-- the remaining bits below `next`, and from there on
 pub pending_below : (b : List ℕ) (c : Cursor) (i : ℕ)
     → i < c.next → pending_bit b c i ≡ has_bit c.word (i - c.base)
 pending_below b c i l =
@@ -29,14 +29,14 @@ pub pending_ahead : (b : List ℕ) (c : Cursor) (i : ℕ)
 pending_ahead b c i l =
     ap (λ x. cond x (has_bit c.word (i - c.base)) (bit_of b (c.offset + i))) (le-ltb i c.next l)
 
--- nothing is to come of a word that is 0
+-- no bits of a word that is 0 remain
 pub pending_zero : (b : List ℕ) (c : Cursor) (i : ℕ)
     → c.word ≡ 0 → i < c.next → pending_bit b c i ≡ false
 pending_zero b c i z l =
     pending_below b c i l ∙ ap (λ w. has_bit w (i - c.base)) z ∙ digits-clear (i - c.base)
 
--- ---- another word in hand
--- a word of those that are ahead
+-- ---- another current word
+-- one of the words ahead
 pub refilled_by_word : (b : List ℕ) (c : Cursor) (v : Bool) (o : OtherWord) (d : Cursor)
     → IsCursor b c → IsOther b c.byte c.end v o → d ≡ at_word c o → IsRefilled b c v d
 refilled_by_word b c v o d valid other e =
@@ -68,7 +68,7 @@ refilled_by_word b c v o d valid other e =
       other = inl (other.other, omega (arith, other.from));
     })
 
--- what is behind the whole words, which have no digit but v
+-- the bits after the whole words, whose digits are all v
 pub refilled_by_rest : (b : List ℕ) (c : Cursor) (v : Bool) (d : Cursor) → IsCursor b c
     → 0 < bits_ahead c → AreAll b v (8 * c.byte) (8 * c.end) → IsAtRest b c d → IsRefilled b c v d
 refilled_by_rest b c v d valid more all rest =
@@ -83,7 +83,7 @@ refilled_by_rest b c v d valid more all rest =
       other = inr (rest.last, rest.short);
     }
 
--- where the word in hand is 0, nothing else is passed over
+-- if the current word is 0, only zeros are passed
 pub skipped : (b : List ℕ) (c d : Cursor)
     → IsCursor b c → c.word ≡ 0 → IsRefilled b c false d → IsSkipped b c d
 skipped b c d v z r = record {
@@ -103,8 +103,8 @@ skipped b c d v z r = record {
   last = λ none. elim r.other [ inl o ↦ absurd (o.0 none) | inr o ↦ o.0 ];
 }
 
--- ---- places
--- the places of the front of a window
+-- ---- indices
+-- the indices at the front of a window
 pub places_left_front : (b : List ℕ) (c : Cursor) (o n : ℕ) → c.base ≡ 0 → stop c ≡ n
     → ((i : ℕ) → i < n → pending_bit b c i ≡ bit_of b (o + i))
     → places_left b c ≡ places (bits b o n)
@@ -113,7 +113,7 @@ places_left_front b c o n front all h =
     ap (places_in (pending_bit b c) c.base) size
     ∙ ap (λ a. places_in (pending_bit b c) a n) front ∙ places-bits (pending_bit b c) b o n h
 
--- zeros that were passed over
+-- passed zeros
 pub places_left-skip : (b : List ℕ) (c d : Cursor)
     → IsSkipped b c d → places_left b c ≡ places_left b d
 places_left-skip b c d s =
@@ -124,13 +124,13 @@ places_left-skip b c d s =
     ∙ sym (same_places_in (pending_bit b d)
     (pending_bit b c) d.base (stop d - d.base) (λ i l r. s.same i l (omega (arith, v.walked))))
 
--- nothing is left where the word in hand is 0 and nothing is ahead
+-- no indices remain if the current word is 0 and no bits are ahead
 pub places_left_none : (b : List ℕ) (c : Cursor)
     → IsCursor b c → c.word ≡ 0 → bits_ahead c ≡ 0 → places_left b c ≡ []
 places_left_none b c v z none = places_in_empty (pending_bit b c) c.base
     (stop c - c.base) (λ i l r. pending_zero b c i z (omega (arith, v.walked)))
 
--- the lowest 1 of the word in hand
+-- the lowest 1 of the current word
 pub lowest_inside : (b : List ℕ) (c : Cursor)
     → IsCursor b c → 0 < c.word → c.word < 2 ^ 64 → trailing_zeros w64 c.word < c.next - c.base
 lowest_inside b c v some fits =
@@ -142,7 +142,7 @@ lowest_inside b c v some fits =
           absurd (omega (arith, z.1))
     ]
 
--- its place, and what is left without it
+-- its index, and the remaining ones without it
 pub places_left-step : (b : List ℕ) (c d : Cursor) → IsCursor b c
     → 0 < c.word → c.word < 2 ^ 64 → d ≡ record c { word = bit_and c.word (c.word - 1) }
     → places_left b c ≡ (c.base + trailing_zeros w64 c.word) ∷ places_left b d
@@ -169,7 +169,7 @@ places_left-step b c d v some fits e =
     ])
     ∙ ap (λ x. (c.base + low) ∷ places_left b x) (sym e)
 
--- the word in hand is a word
+-- the current word fits in 64 bits
 pub word_fits : (b : List ℕ) (c : Cursor) → IsCursor b c → c.word < 2 ^ 64
 word_fits b c v =
     let near : c.next - c.base ≤ 64 = omega (arith, v.near) in

@@ -21,7 +21,7 @@ use Rattle.vb_bits.proofs.RangeLemmas.{same_map-range_with_len}
 use Rattle.vb_walk.specs.Words.{bits_number, word, words, full_words, padded_words}
 
 -- ---- numbers
--- a number is that of its digits
+-- a number has the number of its digits
 pub bits_number-digits : (w n : ℕ) → w < 2 ^ n → bits_number (digits w 0 n) ≡ w
 bits_number-digits w zero h = ap bits_number (digits_none w 0) ∙ omega arith
 bits_number-digits w (suc n) h =
@@ -33,17 +33,17 @@ pub number_is : (w n : ℕ) (l : List Bool) → digits w 0 n ≡ l → w < 2 ^ n
 number_is w n l e h = ap bits_number (sym e) ∙ bits_number-digits w n h
 
 -- ---- words
--- as many as asked for
+-- n words have length n
 pub length-words : (l : List Bool) (n : ℕ) → length (words l n) ≡ n
 unfolding words
 length-words l n = length-map-range_with_len (word l) 0 n
 
--- none
+-- no words
 pub words_none : (l : List Bool) → words l 0 ≡ []
 unfolding words
 words_none l = refl
 
--- the first of them and the others, which are words of another list
+-- the first word and the others, which are words of another list
 pub words_cons : (l m : List Bool) (n : ℕ)
     → ((k : ℕ) → k < n → word l (suc k) ≡ word m k) → words l (suc n) ≡ word l 0 ∷ words m n
 unfolding words
@@ -63,7 +63,7 @@ same_words l m n h =
     (λ k lt. let z : 0 + k ≡ k = omega arith in ap (word l) z ∙ h k lt ∙ ap (word m) (sym z))
 
 -- ---- words of windows
--- the front of a window, or all of it where it is shorter
+-- the front of a window, or all of it if it is shorter
 pub take-window : (b : List ℕ) (o n k : ℕ) → take k (bits b o n) ≡ bits b o (min k n)
 take-window b o n k = elim (cases_lt k n) [
   | inl shorter ↦
@@ -91,7 +91,7 @@ word_read b o n k w p m read clear h at size =
     ∙ ap (λ x. bits_number (bits b p x)) (sym size)
     ∙ number_is w m (bits b p m) read clear
 
--- the first word of full words, and those behind it
+-- the first of full words, and those after it
 pub words_step : (b : List ℕ) (o n w : ℕ) → digits w 0 64 ≡ bits b o 64
     → w < 2 ^ 64 → words (bits b o (64 * suc n)) (suc n) ≡ w ∷ words (bits b (o + 64) (64 * n)) n
 words_step b o n w read clear =
@@ -106,7 +106,7 @@ words_step b o n w read clear =
     ∙ ap (λ x. x ∷ words (bits b (o + 64) (64 * n)) n)
     (word_read b o (64 * suc n) 0 w o 64 read clear (omega arith) (omega arith) (omega arith))
 
--- full words don't look past their window
+-- full words don't depend on bits outside their window
 pub words_front : (b : List ℕ) (o n k : ℕ)
     → 64 * k ≤ n → words (bits b o n) k ≡ words (bits b o (64 * k)) k
 words_front b o n k h =
@@ -116,13 +116,13 @@ words_front b o n k h =
     word-bits b o n i (omega arith) ∙ ap (λ x. bits_number (bits b (o + 64 * i) x)) size
     ∙ sym (word-bits b o (64 * k) i (omega arith)))
 
--- the full words, and the word behind them
+-- the full words, and the word after them
 pub words_push : (l : List Bool) (n : ℕ) → words l (n + 1) ≡ words l n ++ word l n ∷ []
 unfolding words
 words_push l n = map-range_with_len_more (word l) 0 n n (zero-add n)
 
 -- ---- chunks
--- what is left of the full words after the first
+-- the remaining full words after the first
 pub next_chunk : (b : List ℕ) (byte shift left w : ℕ) (l : List ℕ)
     → words (bits b (8 * byte + shift) (64 * left)) left
     ≡ l → left ≢ 0 → digits w 0 64 ≡ bits b (8 * byte + shift) 64 → w < 2 ^ 64
@@ -144,7 +144,7 @@ full_words_of b o n l e =
     ∙ sym (words_front b o n (n / 64) (omega arith))
     ∙ ap (λ m. words m (n / 64)) e ∙ ap (λ m. words l (m / 64)) len
 
--- the word behind them
+-- the word after them
 pub remainder_of : (b : List ℕ) (o n w : ℕ) (l : List Bool)
     → bits b o n ≡ l → digits w 0 (n - n / 64 * 64) ≡ bits b (o + n / 64 * 64) (n - n / 64 * 64)
     → w < 2 ^ (n - n / 64 * 64) → w ≡ word l (length l / 64)
@@ -155,7 +155,7 @@ remainder_of b o n w l e read clear =
     ∙ ap (λ m. word m (n / 64)) e ∙ ap (λ m. word l (m / 64)) len
 
 -- ---- ones
--- those of a number are the values that are true
+-- the set digits of a number are the values that are true
 pub count_ones-bits_number : (l : List Bool) → count_ones (bits_number l) ≡ count l
 count_ones-bits_number [] = omega (arith, ones_le_self 0)
 count_ones-bits_number (true ∷ l) =
@@ -177,7 +177,7 @@ count_ones-bits_number (false ∷ l) =
       count-cons false l,
     )
 
--- those of words are the values that are true in them
+-- the set digits of words are the values that are true in them
 pub sum_by-words : (l : List Bool) (n : ℕ)
     → sum_by count_ones (words l n) ≡ count (take (64 * n) l)
 sum_by-words l zero = ap (sum_by count_ones) (words_none l)
@@ -195,7 +195,7 @@ sum_by-words l (suc n) =
       count-append (take (64 * n) l) (take 64 (drop (64 * n) l)),
     )
 
--- the words of `iter_padded` have all true values
+-- the words of `iter_padded` contain all true values
 pub sum_by-padded_words : (l : List Bool) → sum_by count_ones (padded_words l) ≡ count l
 sum_by-padded_words l = sum_by-words l (length l / 64 + 1)
     ∙ ap count (take_all (64 * (length l / 64 + 1)) l (omega arith))

@@ -1,11 +1,11 @@
--- Bits as words of whole bytes.
+-- Bits as words that start at whole bytes.
 use Rattle.std.specs.Prelude.{◌≡◌, ◌≢◌, ℕ, ◌+◌, ◌*◌, Bool, false, List, [], ◌∷◌, ◌++◌, length}
 use Rattle.std.specs.Prelude.{replicate, Option, None}
 use Rattle.std.specs.Int.{div_ceil}
 use Rattle.vb_bits.specs.Bits.{bits}
 use Rattle.vb_walk.specs.Words.{bits_number, words, item_of}
 
--- the values behind s false ones, as words of which the last is filled with false; none of no
+-- the values after s false ones, as words, the last of them padded with false; no words for no
 -- values
 abbrev pub cut_words : ℕ → List Bool → List ℕ
 cut_words s [] = []
@@ -15,8 +15,8 @@ cut_words s (b ∷ l) = words (replicate s false ++ b ∷ l) (div_ceil (s + leng
 abbrev pub word_of : List ℕ → ℕ
 word_of bytes = bits_number (bits bytes 0 64)
 
--- what contracts see of an `UnalignedBitChunk`: the digits before its bits in the first word and
--- behind them in the last one, and its words in three parts
+-- an `UnalignedBitChunk` in contracts: the digits before its bits in the first word and after them
+-- in the last one, and its words in three parts
 pub record UnalignedWords : Type 0 where
   pub lead_padding : ℕ
   pub trailing_padding : ℕ
@@ -28,8 +28,8 @@ pub record UnalignedWords : Type 0 where
 abbrev pub all_words : UnalignedWords → List ℕ
 all_words u = item_of u.prefix ++ u.chunks ++ item_of u.suffix
 
--- the n bits from bit s of their first byte on are cut into these words: the first is the prefix,
--- the last of two or more is the suffix
+-- these words are the n bits from bit s of their first byte on: the first word is the prefix, the
+-- last of two or more is the suffix
 pub record IsCut (s : ℕ) (l : List Bool) (u : UnalignedWords) : Type 0 where
   pub words : all_words u ≡ cut_words s l
   pub prefix : u.prefix ≡ None → (u.chunks ≡ []) × (u.suffix ≡ None)

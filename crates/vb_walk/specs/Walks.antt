@@ -1,5 +1,5 @@
--- Walks over a window by words: a word in hand, whole words behind it, and fewer than 64 bits
--- behind these.
+-- Walks over a window by words: the current word, the whole words after it, and fewer than 64 bits
+-- after these.
 use Rattle.std.specs.Prelude.{◌≡◌, ◌≢◌, ◌⊎◌, ℕ, ◌+◌, ◌-◌, ◌*◌, ◌%◌, ◌^◌, ◌<◌, ◌≤◌, Bool, true}
 use Rattle.std.specs.Prelude.{false, cond, nat_lt, List, length, filter, map, Option, Some, None}
 use Rattle.std.specs.Int.{bit_not, w64}
@@ -20,7 +20,7 @@ others v word = cond v (bit_not w64 word) word
 abbrev pub AreAll : List ℕ → Bool → ℕ → ℕ → Type 0
 AreAll bytes v a b = (i : ℕ) → a ≤ i → i < b → bit_of bytes i ≡ v
 
--- of the whole words from byte `at` up to byte `end`, the first one with a digit that isn't v
+-- o is the first of the whole words from byte `at` up to byte `end` with a digit that isn't v
 pub record IsOther (bytes : List ℕ) (at end : ℕ) (v : Bool) (o : OtherWord) : Type 0 where
   pub from : at + 8 ≤ o.behind
   pub within : o.behind ≤ end
@@ -30,22 +30,22 @@ pub record IsOther (bytes : List ℕ) (at end : ℕ) (v : Bool) (o : OtherWord) 
   pub fits : o.word < 2 ^ 64
   pub other : others v o.word ≢ 0
 
--- it, or None where there is none
+-- that word, or None if there is none
 abbrev pub FindsOther : List ℕ → ℕ → ℕ → Bool → Option OtherWord → Type 0
 FindsOther bytes at end v None = AreAll bytes v (8 * at) (8 * end)
 FindsOther bytes at end v (Some o) = IsOther bytes at end v o
 
--- ---- where a walk stands
--- how many bits are behind the word in hand
+-- ---- the position of a walk
+-- the number of bits after the current word
 abbrev pub bits_ahead : Cursor → ℕ
 bits_ahead c = 8 * (c.end - c.byte) + c.left
 
--- the place behind the window
+-- the index after the window
 abbrev pub stop : Cursor → ℕ
 stop c = c.next + bits_ahead c
 
--- the numbers of a walk fit together: the word in hand has the places from `base` below `next`, and
--- what is ahead begins at byte `byte`
+-- the numbers of a walk are consistent: the current word has the indices from `base` below `next`,
+-- and the bits ahead start at byte `byte`
 pub record IsCursor (bytes : List ℕ) (c : Cursor) : Type 0 where
   pub room : c.offset + stop c ≤ 8 * length bytes
   pub fits : c.offset + stop c < 2 ^ 64
@@ -58,12 +58,13 @@ pub record IsCursor (bytes : List ℕ) (c : Cursor) : Type 0 where
   pub short : c.left < 64
   pub here : 0 < bits_ahead c → 8 * c.byte ≡ c.offset + c.next
 
--- what is still to come at place i: below `next` a digit of the word in hand, and then the bit
+-- the bit that remains at index i: below `next` a digit of the current word, and then the bit
+-- itself
 abbrev pub pending_bit : List ℕ → Cursor → ℕ → Bool
 pending_bit bytes c i =
     cond (nat_lt i c.next) (has_bit c.word (i - c.base)) (bit_of bytes (c.offset + i))
 
--- c with a word in hand of those that are ahead
+-- c with one of the words ahead as its current word
 abbrev pub at_word : Cursor → OtherWord → Cursor
 at_word c o = record c {
   base = 8 * o.behind - c.offset - 64;
@@ -72,7 +73,7 @@ at_word c o = record c {
   word = o.word;
 }
 
--- d is c with what is behind the whole words in hand
+-- d is c with the bits after the whole words as its current word
 pub record IsAtRest (bytes : List ℕ) (c d : Cursor) : Type 0 where
   pub valid : IsCursor bytes d
   pub offset : d.offset ≡ c.offset
@@ -83,7 +84,7 @@ pub record IsAtRest (bytes : List ℕ) (c d : Cursor) : Type 0 where
   pub last : bits_ahead d ≡ 0
   pub short : d.next < d.base + 64
 
--- d is c with another word in hand: the next one with a digit that isn't v, or else what is behind
+-- d is c with another current word: the next one with a digit that isn't v, or else the bits after
 -- the whole words
 pub record IsRefilled (bytes : List ℕ) (c : Cursor) (v : Bool) (d : Cursor) : Type 0 where
   pub valid : IsCursor bytes d
@@ -96,8 +97,8 @@ pub record IsRefilled (bytes : List ℕ) (c : Cursor) (v : Bool) (d : Cursor) : 
   pub other : ((others v d.word ≢ 0) × (d.next ≡ d.base + 64))
       ⊎ ((bits_ahead d ≡ 0) × (d.next < d.base + 64))
 
--- d is c with a word in hand that isn't 0, if one is to come: the same is to come, and nothing
--- before
+-- d is c with a current word that isn't 0, if any is left: the same bits remain, and no set bit
+-- before them is lost
 pub record IsSkipped (bytes : List ℕ) (c d : Cursor) : Type 0 where
   pub valid : IsCursor bytes d
   pub ends : stop d ≡ stop c
@@ -106,25 +107,25 @@ pub record IsSkipped (bytes : List ℕ) (c d : Cursor) : Type 0 where
   pub same : (i : ℕ) → d.base ≤ i → i < stop d → pending_bit bytes d i ≡ pending_bit bytes c i
   pub last : d.word ≡ 0 → bits_ahead d ≡ 0
 
--- ---- places
+-- ---- indices
 -- the numbers from a below a + n at which t is true, in ascending order
 unfoldable pub places_in : (ℕ → Bool) → ℕ → ℕ → List ℕ
 places_in t a n = filter t (range_with_len a n)
 
--- the places that are still to come
+-- the remaining indices
 abbrev pub places_left : List ℕ → Cursor → List ℕ
 places_left bytes c = places_in (pending_bit bytes c) c.base (stop c - c.base)
 
 -- ---- runs
--- the runs of t among the n places from a on
+-- the runs of t among the n indices from a on
 unfoldable pub runs_in : (ℕ → Bool) → ℕ → ℕ → List (ℕ × ℕ)
 runs_in t a n = map (shift_run a) (runs (map t (range_with_len a n)))
 
--- the runs that are still to come
+-- the remaining runs
 abbrev pub runs_left : List ℕ → Cursor → List (ℕ × ℕ)
 runs_left bytes c = runs_in (pending_bit bytes c) c.base (stop c - c.base)
 
--- r is the first run that is to come, and r.cursor is c without it
+-- r is the first remaining run, and r.cursor is c without it
 pub record TakesRun (bytes : List ℕ) (c : Cursor) (r : TakenRun) : Type 0 where
   pub valid : IsCursor bytes r.cursor
   pub ends : stop r.cursor ≡ stop c

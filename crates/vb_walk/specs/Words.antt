@@ -8,7 +8,7 @@ abbrev pub bits_number : List Bool → ℕ
 bits_number [] = 0
 bits_number (b ∷ l) = cond b 1 0 + 2 * bits_number l
 
--- word k: the number of the values from place 64 * k on, of which it takes at most 64
+-- word k: the number of the values from index 64 * k on, at most 64 of them
 abbrev pub word : List Bool → ℕ → ℕ
 word l k = bits_number (take 64 (drop (64 * k) l))
 
@@ -16,11 +16,11 @@ word l k = bits_number (take 64 (drop (64 * k) l))
 unfoldable pub words : List Bool → ℕ → List ℕ
 words l n = map (word l) (range_with_len 0 n)
 
--- the words that are full
+-- the full words
 abbrev pub full_words : List Bool → List ℕ
 full_words l = words l (length l / 64)
 
--- the full words, and then always one word more, of the values behind them
+-- the full words, and then always one more word, of the values after them
 abbrev pub padded_words : List Bool → List ℕ
 padded_words l = words l (length l / 64 + 1)
 

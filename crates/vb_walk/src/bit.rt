@@ -1,4 +1,4 @@
-//! Truth values, one after the other.
+//! Iterates over the bits of a window.
 ghost use Rattle.std.specs.Prelude.{◌≡◌, ◌+◌, ◌*◌, ◌^◌, ◌<◌, ◌≤◌, length, Some, IfSome};
 ghost use Rattle.std.specs.Iterator.{YieldsFirst, YieldsLast, UpTo, at_most, item_count};
 ghost use Rattle.std.specs.Iterator.SizeHint.{IsWithinCount};
@@ -10,9 +10,9 @@ use std::marker::Model;
 use vb_bits::get_bit;
 use vb_core::TrustedLen;
 
-/// The bits of a window as truth values, from either end.
+/// An iterator over the bits of a window, as truth values, from either end.
 ///
-/// Contracts see the list of those that are still to come.
+/// Contracts see the list of the remaining bits.
 #[derive(Clone, Debug, Drop)]
 pub struct BitIterator<'a> {
     bytes: &'a [u8],
@@ -37,8 +37,8 @@ impl<'a> Model for BitIterator<'a> {
 
 #[tactic(auto, using(crate::proofs::BitsToCome::bits_to_come))]
 impl<'a> BitIterator<'a> {
-    /// The `len` bits from bit `offset` on. They have to lie in the bytes, and `offset + len` has
-    /// to be a `usize`.
+    /// Returns an iterator over the `len` bits from bit `offset` on. The caller must prove that
+    /// they are in bounds and that `offset + len` fits in a `usize`.
     #[inline]
     pub fn new(bytes: &'a [u8], offset: usize, len: usize) -> Self
         requires window { InBytes bytes.now offset len }
@@ -71,7 +71,7 @@ impl Iterator for BitIterator<'_> {
         Some(bit)
     }
 
-    /// The number of bits still to come, as both bounds.
+    /// Returns the number of remaining bits as both bounds.
     fn size_hint(&self) -> (usize, Option<usize>)
         ensures exact { result ≡ (length self.now, Some (length self.now)) }
         ensures lower { IsWithinCount result.0 (at_most (length self.now)) }
@@ -97,7 +97,7 @@ impl DoubleEndedIterator for BitIterator<'_> {
 
 #[tactic(auto, using(crate::proofs::BitsToCome::bits_to_come))]
 impl ExactSizeIterator for BitIterator<'_> {
-    /// The number of bits still to come.
+    /// Returns the number of remaining bits.
     fn len(&self) -> usize
         ensures { result ≡ length self.now }
     {

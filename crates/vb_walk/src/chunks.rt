@@ -1,4 +1,4 @@
-//! Windows as words of 64 bits from their first bit on.
+//! Iterates over a window as words of 64 bits from its first bit on.
 ghost use Rattle.std.specs.Prelude.{◌≡◌, ◌+◌, ◌*◌, ◌/◌, ◌%◌, ◌^◌, ◌<◌, ◌≤◌, length, Some, IfSome};
 ghost use Rattle.std.specs.Iterator.{YieldsFirst, UpTo, at_most, item_count};
 ghost use Rattle.std.specs.Iterator.SizeHint.{IsWithinCount};
@@ -37,8 +37,8 @@ impl<'a> Model for BitChunks<'a> {
 
 #[tactic(auto, using(crate::proofs::WordsLemmas::chunks))]
 impl<'a> BitChunks<'a> {
-    /// The `len` bits from bit `offset` on. They have to lie in the bytes, and `offset + len` has
-    /// to be a `usize`.
+    /// Returns the words of the `len` bits from bit `offset` on. The caller must prove that they
+    /// are in bounds and that `offset + len` fits in a `usize`.
     pub fn new(bytes: &'a [u8], offset: usize, len: usize) -> Self
         requires window { InBytes bytes.now offset len }
         ensures value { result ≡ bits bytes.now offset len }
@@ -47,21 +47,21 @@ impl<'a> BitChunks<'a> {
         BitChunks { bytes, offset, len }
     }
 
-    /// How many words are full.
+    /// Returns the number of full words.
     pub fn chunk_len(&self) -> usize
         ensures { result ≡ length self.now / 64 }
     {
         self.len / 64
     }
 
-    /// How many bits are behind the full words.
+    /// Returns the number of bits after the full words.
     pub fn remainder_len(&self) -> usize
         ensures { result ≡ length self.now % 64 }
     {
         self.len % 64
     }
 
-    /// The bits behind the full words as one number, its other digits 0.
+    /// Returns the bits after the full words as one number, whose other digits are 0.
     pub fn remainder_bits(&self) -> u64
         ensures { result ≡ word self.now (length self.now / 64) }
     {
@@ -69,14 +69,15 @@ impl<'a> BitChunks<'a> {
         read_bits(self.bytes, self.offset + full, self.len - full)
     }
 
-    /// The full words.
+    /// Returns an iterator over the full words.
     pub fn iter(&self) -> BitChunkIterator<'a>
         ensures { result ≡ full_words self.now }
     {
         BitChunkIterator::new(self.bytes, self.offset, self.len)
     }
 
-    /// The full words, and then always one more, the remainder.
+    /// Returns an iterator over the full words, and then always one more word with the remaining
+    /// bits.
     pub fn iter_padded(&self) -> PaddedChunkIterator<'a>
         ensures { result ≡ padded_words self.now }
     {
@@ -87,7 +88,7 @@ impl<'a> BitChunks<'a> {
     }
 }
 
-/// The full words of a window. Contracts see the list of those that are still to come.
+/// An iterator over the full words of a window. Contracts see the list of the remaining words.
 #[derive(Clone, Debug, Drop)]
 pub struct BitChunkIterator<'a> {
     bytes: &'a [u8],
@@ -114,9 +115,9 @@ impl<'a> Model for BitChunkIterator<'a> {
 
 #[tactic(auto, using(crate::proofs::WordsLemmas::chunks))]
 impl<'a> BitChunkIterator<'a> {
-    /// The full words of the `len` bits from bit `offset` on. The bits have to lie in the bytes,
-    /// and `offset + len` has to be a `usize`. Fewer than 64 bits behind the full words aren't
-    /// given.
+    /// Returns an iterator over the full words of the `len` bits from bit `offset` on; it omits the
+    /// bits after them, fewer than 64. The caller must prove that the bits are in bounds and that
+    /// `offset + len` fits in a `usize`.
     pub fn new(bytes: &'a [u8], offset: usize, len: usize) -> Self
         requires window { InBytes bytes.now offset len }
         ensures { result ≡ full_words (bits bytes.now offset len) }
@@ -129,7 +130,7 @@ impl<'a> BitChunkIterator<'a> {
         }
     }
 
-    /// The number of words still to come.
+    /// Returns the number of remaining words.
     pub fn len(&self) -> usize
         ensures value { result ≡ length self.now }
         ensures few { result < 2 ^ 58 }
@@ -157,7 +158,7 @@ impl Iterator for BitChunkIterator<'_> {
         Some(word)
     }
 
-    /// The number of words still to come, as both bounds.
+    /// Returns the number of remaining words as both bounds.
     fn size_hint(&self) -> (usize, Option<usize>)
         ensures exact { result ≡ (length self.now, Some (length self.now)) }
         ensures lower { IsWithinCount result.0 (at_most (length self.now)) }
@@ -177,8 +178,8 @@ impl TrustedLen for BitChunkIterator<'_> {
     }
 }
 
-/// The full words of a window, and then one word more, of the bits behind them. Contracts see the
-/// list of those that are still to come.
+/// An iterator over the full words of a window, and then one more word with the bits after them.
+/// Contracts see the list of the remaining words.
 #[derive(Clone, Debug, Drop)]
 pub struct PaddedChunkIterator<'a> {
     chunks: BitChunkIterator<'a>,
@@ -196,7 +197,7 @@ impl<'a> Model for PaddedChunkIterator<'a> {
 
 #[tactic(auto, using(crate::proofs::WordsLemmas::chunks))]
 impl PaddedChunkIterator<'_> {
-    /// The number of words still to come.
+    /// Returns the number of remaining words.
     pub fn len(&self) -> usize
         ensures { result ≡ length self.now }
     {
@@ -223,7 +224,7 @@ impl Iterator for PaddedChunkIterator<'_> {
         }
     }
 
-    /// The number of words still to come, as both bounds.
+    /// Returns the number of remaining words as both bounds.
     fn size_hint(&self) -> (usize, Option<usize>)
         ensures exact { result ≡ (length self.now, Some (length self.now)) }
         ensures lower { IsWithinCount result.0 (at_most (length self.now)) }

@@ -1,4 +1,4 @@
-//! Where a walk over a window by words stands.
+//! The position of a walk over a window, word by word.
 ghost use Rattle.std.specs.Prelude.{◌≡◌, ℕ, ◌+◌, ◌-◌, ◌*◌, ◌%◌, ◌^◌, ◌<◌, ◌≤◌, ◌↔◌, length, IsTrue};
 ghost use Rattle.std.specs.Prelude.{false};
 ghost use Rattle.vb_bits.specs.Bits.{bit_of, bits};
@@ -18,29 +18,29 @@ ghost use Rattle.vb_walk.specs.Walks.{
 use crate::other::{OtherWord, first_other};
 use vb_bits::read_bits;
 
-/// A word of the window of bits from bit `offset` on, and what is behind it.
+/// The current word of the window of bits from bit `offset` on, and the bits after it.
 #[derive(Clone, Copy, Debug)]
 pub(crate) struct Cursor {
-    /// The first bit of the window. Places are counted from it.
+    /// The first bit of the window. Indices are relative to it.
     pub(crate) offset: usize,
-    /// The place of the word's lowest digit.
+    /// The index of the current word's lowest digit.
     pub(crate) base: usize,
-    /// The place behind the word.
+    /// The index after the current word.
     pub(crate) next: usize,
-    /// The byte from which on whole words are ahead.
+    /// The byte at which the whole words ahead start.
     pub(crate) byte: usize,
-    /// The byte behind them.
+    /// The byte after these words.
     pub(crate) end: usize,
-    /// How many bits are behind the whole words, fewer than 64.
+    /// The number of bits after the whole words, fewer than 64.
     pub(crate) left: usize,
-    /// The word in hand. The digits that were walked over are 0.
+    /// The current word. The digits already visited are 0.
     pub(crate) word: u64,
 }
 
 impl Cursor {
-    /// The front of the window of `len` bits from bit `offset` on.
+    /// Returns the front of the window of `len` bits from bit `offset` on.
     ///
-    /// The first word ends with a byte, so that whole words are read from whole bytes.
+    /// The first word ends at a whole byte, so that the whole words start at one.
     #[inline]
     pub(crate) fn new(bytes: &[u8], offset: usize, len: usize) -> Cursor
         requires window { InBytes bytes.now offset len }
@@ -63,7 +63,7 @@ impl Cursor {
         }
     }
 
-    /// Whether anything is behind the word in hand.
+    /// Returns whether any bits are left after the current word.
     #[inline(always)]
     pub(crate) fn has_more(self) -> bool
         requires { self.byte ≤ self.end }
@@ -72,7 +72,7 @@ impl Cursor {
         self.byte < self.end || self.left > 0
     }
 
-    /// A word of the whole words ahead in hand.
+    /// Returns the cursor with `other`, one of the whole words ahead, as its current word.
     #[inline(always)]
     fn at_word(self, other: OtherWord) -> Cursor
         requires ahead { self.offset + 64 ≤ 8 * other.behind }
@@ -89,7 +89,7 @@ impl Cursor {
         }
     }
 
-    /// The bits behind the whole words in hand.
+    /// Returns the cursor with the bits after the whole words as its current word.
     #[inline(always)]
     fn at_rest(self, bytes: &[u8]) -> Cursor
         requires valid { IsCursor bytes.now self }
@@ -107,7 +107,8 @@ impl Cursor {
         }
     }
 
-    /// The next word with a digit that isn't `value`, or else what is behind the whole words.
+    /// Returns the cursor at the next word with a digit that isn't `value`, or else at the bits
+    /// after the whole words.
     #[inline(always)]
     pub(crate) fn refill(self, bytes: &[u8], value: bool) -> Cursor
         requires valid { IsCursor bytes.now self }
@@ -120,7 +121,7 @@ impl Cursor {
         }
     }
 
-    /// A word that isn't 0, if one is still to come.
+    /// Returns the cursor at a word that isn't 0, if any is left.
     #[inline(always)]
     pub(crate) fn skip_zeros(self, bytes: &[u8]) -> Cursor
         requires { IsCursor bytes.now self }
@@ -137,7 +138,7 @@ impl Cursor {
     }
 }
 
-/// [`read_bits`], called, so that a walk keeps no registers for it.
+/// [`read_bits`], not inlined, so that a walk keeps no registers for it.
 #[inline(never)]
 fn read_rest(bytes: &[u8], at: usize, count: usize) -> u64
     requires in_word { count ≤ 64 }

@@ -1,4 +1,4 @@
-//! The places of true bits.
+//! Iterates over the indices of set bits.
 ghost use Rattle.std.specs.Prelude.{◌≡◌, length, ℕ, ◌+◌, ◌-◌, ◌*◌, ◌^◌, ◌<◌, ◌≤◌, All};
 ghost use Rattle.std.specs.Iterator.{YieldsFirst, item_count};
 ghost use Rattle.vb_bits.specs.Bits.{bits, count, places};
@@ -7,9 +7,9 @@ ghost use Rattle.vb_bits.specs.InBytes.{InBytes};
 use crate::cursor::Cursor;
 use std::marker::Model;
 
-/// The places of the true bits of a window, in ascending order, each once.
+/// An iterator over the indices of the set bits of a window, in ascending order.
 ///
-/// Contracts see the list of those that are still to come.
+/// Contracts see the list of the remaining indices.
 #[derive(Clone, Debug, Drop)]
 pub struct BitIndexIterator<'a> {
     bytes: &'a [u8],
@@ -29,8 +29,9 @@ impl<'a> Model for BitIndexIterator<'a> {
 }
 
 impl<'a> BitIndexIterator<'a> {
-    /// The places within the window of `len` bits from bit `offset` on. It has to lie in the bytes,
-    /// and `offset + len` has to be a `usize`.
+    /// Returns an iterator over the indices of the set bits, relative to the window of `len` bits
+    /// from bit `offset` on. The caller must prove that the window is in bounds and that
+    /// `offset + len` fits in a `usize`.
     #[inline]
     pub fn new(bytes: &'a [u8], offset: usize, len: usize) -> Self
         requires window { InBytes bytes.now offset len }

@@ -1,9 +1,9 @@
-//! Walks over the bits of borrowed bytes: the bits themselves, their words, the places of true ones
+//! Iterates over the bits of borrowed bytes: over the bits, their words, the indices of set bits
 //! and their runs.
 //!
-//! A window is the `len` bits from bit `offset` on, least significant first. It has to lie in the
-//! bytes, and its end has to be a `usize`; `vb_bits::window_fits` is the test. Lengths, offsets
-//! and places are counted in bits. No call takes memory.
+//! A window is the `len` bits from bit `offset` on, least significant first. The caller must prove
+//! that it is in bounds and that `offset + len` fits in a `usize`; `vb_bits::window_fits` tests
+//! both at run time. Lengths, offsets and indices are in bits. No call allocates.
 #![tactic(auto)]
 
 mod bit;

@@ -5,7 +5,7 @@ ghost use Rattle.vb_walk.specs.Ones.{CutsOnes};
 
 use crate::run::LowestRun;
 
-/// The lowest run of ones of a word that isn't 0.
+/// Returns the lowest run of ones of a word. The caller must prove that the word isn't 0.
 #[inline(always)]
 pub fn lowest_run(word: u64) -> LowestRun
     requires { 0 < word }
@@ -21,7 +21,7 @@ pub fn lowest_run(word: u64) -> LowestRun
     }
 }
 
-/// How many ones a word has below its lowest 0, and the word without them.
+/// Returns the number of ones below the lowest 0 of a word, and the word without them.
 #[inline(always)]
 pub(crate) fn lowest_ones(word: u64) -> (usize, u64)
     requires { word + 1 < 2 ^ 64 }

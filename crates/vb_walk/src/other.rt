@@ -1,24 +1,25 @@
-//! Words of a slice that are passed over, since all of their digits are equal.
+//! Passes over the words of a slice whose digits are all equal.
 ghost use Rattle.std.specs.Prelude.{◌≡◌, ℕ, ◌+◌, ◌-◌, ◌*◌, ◌%◌, ◌<◌, ◌≤◌, length, IsTrue};
 ghost use Rattle.vb_bits.specs.Bits.{bit_of};
 ghost use Rattle.vb_walk.specs.Walks.{others, AreAll, FindsOther};
 
 use vb_bits::word_at;
 
-/// A word, and the byte behind it.
+/// A word, and the index of the byte after it.
 #[derive(Clone, Copy)]
 pub struct OtherWord {
-    /// The byte behind the word's eight bytes.
+    /// The index of the byte after the word's eight bytes.
     pub behind: usize,
     /// These bytes, least significant first.
     pub word: u64,
 }
 
-/// Of the whole words of eight bytes from byte `at` up to byte `end`, the first one with a digit
-/// that isn't `value`; `None` where there is none.
+/// Returns the first of the whole words from byte `at` up to byte `end` with a digit that isn't
+/// `value`, or `None` if there is none. The caller must prove that `at` is at most `end`, that
+/// `end` is in bounds, and that `end - at` is a multiple of 8 bytes.
 ///
-/// The first word is looked at alone, since it mostly is the one; then four at once are passed
-/// over.
+/// It tests the first word alone, since that is usually the one, and then passes four words at a
+/// time.
 #[inline(always)]
 pub fn first_other(bytes: &[u8], at: usize, end: usize, value: bool) -> Option<OtherWord>
     requires order { at ≤ end }
@@ -47,8 +48,8 @@ pub fn first_other(bytes: &[u8], at: usize, end: usize, value: bool) -> Option<O
     None
 }
 
-/// The byte that is reached from byte `at` on by passing over words whose digits are all `value`,
-/// four at once.
+/// Returns the byte reached from byte `at` on after passing words whose digits are all `value`,
+/// four at a time.
 #[inline(always)]
 fn pass_fours(bytes: &[u8], at: usize, end: usize, value: bool) -> usize
     requires order { at ≤ end }
@@ -65,7 +66,7 @@ fn pass_fours(bytes: &[u8], at: usize, end: usize, value: bool) -> usize
     to
 }
 
-/// Whether the digits of the four words from byte `at` on are all `value`.
+/// Returns true only if the digits of the four words from byte `at` on are all `value`.
 #[inline(always)]
 fn four_are(bytes: &[u8], at: usize, value: bool) -> bool
     requires { at + 32 ≤ length bytes.now }
@@ -78,7 +79,7 @@ fn four_are(bytes: &[u8], at: usize, value: bool) -> bool
     (first | second) | (third | fourth) == 0
 }
 
-/// The digits of a word that aren't `value`, as ones.
+/// Returns the word with a 1 for each digit of `word` that isn't `value`.
 #[inline(always)]
 pub fn others(word: u64, value: bool) -> u64
     ensures { result ≡ others value word }

@@ -3,10 +3,10 @@
 /// The lowest run of ones of a word.
 #[derive(Clone, Copy)]
 pub struct LowestRun {
-    /// Its first digit.
+    /// The index of its lowest digit.
     pub start: usize,
-    /// The digit behind it.
+    /// The index after its highest digit.
     pub end: usize,
-    /// The word without it.
+    /// The word without the run.
     pub rest: u64,
 }

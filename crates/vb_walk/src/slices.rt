@@ -1,4 +1,4 @@
-//! The runs of true bits.
+//! Iterates over the runs of set bits.
 ghost use Rattle.std.specs.Prelude.{◌≡◌, length, ℕ, ◌+◌, ◌-◌, ◌*◌, ◌^◌, ◌<◌, ◌≤◌, All};
 ghost use Rattle.std.specs.Iterator.{YieldsFirst, item_count};
 ghost use Rattle.vb_bits.specs.Bits.{bits};
@@ -10,10 +10,10 @@ use crate::cursor::Cursor;
 use crate::ones::{lowest_ones, lowest_run};
 use std::marker::Model;
 
-/// The runs of true bits of a window, from front to end, each as long as can be: pairs
-/// `(start, end)` of places, counted in bits from the first bit of the window, `end` excluded.
+/// An iterator over the runs of set bits of a window, in ascending order. Each run is as long as
+/// possible: a pair `(start, end)` of indices in bits relative to the window, `end` excluded.
 ///
-/// Contracts see the list of the runs that are still to come.
+/// Contracts see the list of the remaining runs.
 #[derive(Clone, Debug, Drop)]
 pub struct BitSliceIterator<'a> {
     bytes: &'a [u8],
@@ -33,8 +33,8 @@ impl<'a> Model for BitSliceIterator<'a> {
 }
 
 impl<'a> BitSliceIterator<'a> {
-    /// The runs within the window of `len` bits from bit `offset` on. It has to lie in the bytes,
-    /// and `offset + len` has to be a `usize`.
+    /// Returns an iterator over the runs in the window of `len` bits from bit `offset` on. The
+    /// caller must prove that the window is in bounds and that `offset + len` fits in a `usize`.
     #[inline]
     pub fn new(bytes: &'a [u8], offset: usize, len: usize) -> Self
         requires window { InBytes bytes.now offset len }
@@ -68,7 +68,7 @@ impl Iterator for BitSliceIterator<'_> {
     }
 }
 
-/// A run, and where the walk stands behind it.
+/// A run, and the position of the walk after it.
 #[derive(Clone, Copy)]
 pub(crate) struct TakenRun {
     cursor: Cursor,
@@ -76,8 +76,8 @@ pub(crate) struct TakenRun {
     end: usize,
 }
 
-/// The lowest run of the word in hand, which isn't 0. Where it goes on behind the word, it ends in
-/// the next word that isn't all ones.
+/// Returns the lowest run of the current word, which isn't 0. If the run continues after the word,
+/// it ends in the next word that isn't all ones.
 #[inline(always)]
 fn take_run(bytes: &[u8], cursor: Cursor) -> TakenRun
     requires valid { IsCursor bytes.now cursor }

@@ -1,4 +1,4 @@
-//! Windows as words of whole bytes.
+//! Windows as words that start at whole bytes.
 ghost use Rattle.std.specs.Prelude.{◌≡◌, ◌≢◌, ◌+◌, ◌*◌, ◌%◌, ◌^◌, ◌<◌, ◌≤◌, [], ◌++◌, length, map};
 ghost use Rattle.std.specs.Prelude.{Some, None, IfSome};
 ghost use Rattle.std.specs.Int.{div_ceil};
@@ -15,9 +15,9 @@ use std::slice::Iter;
 use vb_bits::{read_bits, word_at};
 use vb_core::TrustedLen;
 
-/// A window of bits as words that begin at whole bytes: the first word is the eight bytes from the
-/// byte of the window's first bit on, least significant first, and each next word is the eight
-/// bytes after those. Bits outside of the window are 0.
+/// A window of bits as words that start at whole bytes: the first word is the eight bytes from the
+/// byte of the window's first bit on, least significant first, and each next word is the next eight
+/// bytes. Bits outside of the window are 0.
 ///
 /// The words between the first and the last one are borrowed from the bytes, not copied.
 ///
@@ -50,8 +50,8 @@ impl<'a> Model for UnalignedBitChunk<'a> {
 
 #[tactic(auto, using(crate::proofs::CutLemmas::cuts))]
 impl<'a> UnalignedBitChunk<'a> {
-    /// The `len` bits from bit `offset` on. They have to lie in the bytes, and `offset + len` has
-    /// to be a `usize`.
+    /// Returns the words of the `len` bits from bit `offset` on. The caller must prove that the
+    /// bits are in bounds and that `offset + len` fits in a `usize`.
     pub fn new(bytes: &'a [u8], offset: usize, len: usize) -> Self
         requires window { InBytes bytes.now offset len }
         ensures { IsCut (offset % 8) (bits bytes.now offset len) result }
@@ -79,8 +79,8 @@ impl<'a> UnalignedBitChunk<'a> {
     }
 }
 
-/// The `len` bits from byte `start` on, as words, with the last one apart. None where there are no
-/// bits.
+/// Returns the `len` bits from byte `start` on as words, the last one separately. Returns no words
+/// if there are no bits.
 #[tactic(auto, using(crate::proofs::CutLemmas::cuts))]
 fn words_of(bytes: &[u8], start: usize, len: usize) -> (&[[u8; 8]], Option<u64>)
     requires window { 0 < len → InBytes bytes.now (8 * start) len }
@@ -100,7 +100,7 @@ fn words_of(bytes: &[u8], start: usize, len: usize) -> (&[[u8; 8]], Option<u64>)
 }
 
 impl<'a> UnalignedBitChunk<'a> {
-    /// How many digits of the first word stand before the bits: the offset modulo 8, or 0 where
+    /// Returns the number of digits of the first word before the bits: the offset modulo 8, or 0 if
     /// there are no bits.
     pub fn lead_padding(&self) -> usize
         ensures { result ≡ self.now.lead_padding }
@@ -108,35 +108,35 @@ impl<'a> UnalignedBitChunk<'a> {
         self.lead_padding
     }
 
-    /// How many digits of the last word stand behind the bits.
+    /// Returns the number of digits of the last word after the bits.
     pub fn trailing_padding(&self) -> usize
         ensures { result ≡ self.now.trailing_padding }
     {
         self.trailing_padding
     }
 
-    /// The first word; `None` where there are no bits.
+    /// Returns the first word, or `None` if there are no bits.
     pub fn prefix(&self) -> Option<u64>
         ensures { result ≡ self.now.prefix }
     {
         self.prefix
     }
 
-    /// The words between the first and the last one, each as its eight bytes.
+    /// Returns the words between the first and the last one, each as its eight bytes.
     pub fn chunks(&self) -> &'a [[u8; 8]]
         ensures { map word_of result.now ≡ self.now.chunks }
     {
         self.chunks
     }
 
-    /// The last word, where there are two or more.
+    /// Returns the last word if there are two or more, else `None`.
     pub fn suffix(&self) -> Option<u64>
         ensures { result ≡ self.now.suffix }
     {
         self.suffix
     }
 
-    /// All words.
+    /// Returns an iterator over all words.
     pub fn iter(&self) -> UnalignedBitChunkIterator<'a>
         ensures { result ≡ all_words self.now }
     {
@@ -148,7 +148,8 @@ impl<'a> UnalignedBitChunk<'a> {
     }
 }
 
-/// The words of an [`UnalignedBitChunk`]. Contracts see the list of those that are still to come.
+/// An iterator over the words of an [`UnalignedBitChunk`]. Contracts see the list of the remaining
+/// words.
 #[derive(Clone, Debug, Drop)]
 pub struct UnalignedBitChunkIterator<'a> {
     prefix: Option<u64>,
@@ -171,9 +172,10 @@ impl<'a> Model for UnalignedBitChunkIterator<'a> {
 
 #[tactic(auto, using(crate::proofs::CutLemmas::cuts))]
 impl<'a> UnalignedBitChunkIterator<'a> {
-    /// The words of the `len` bits from bit `offset` on, as [`UnalignedBitChunk`] cuts them: from
-    /// the byte of the first bit on, eight bytes each, and bits outside of the window 0. The bits
-    /// have to lie in the bytes, and `offset + len` has to be a `usize`.
+    /// Returns an iterator over the words of the `len` bits from bit `offset` on, as in
+    /// [`UnalignedBitChunk`]: eight bytes each from the byte of the first bit on, with 0 for the
+    /// bits outside of the window. The caller must prove that the bits are in bounds and that
+    /// `offset + len` fits in a `usize`.
     pub fn new(bytes: &'a [u8], offset: usize, len: usize) -> Self
         requires window { InBytes bytes.now offset len }
         ensures { result ≡ cut_words (offset % 8) (bits bytes.now offset len) }
@@ -181,7 +183,7 @@ impl<'a> UnalignedBitChunkIterator<'a> {
         UnalignedBitChunk::new(bytes, offset, len).iter()
     }
 
-    /// The number of words still to come.
+    /// Returns the number of remaining words.
     pub fn len(&self) -> usize
         ensures { result ≡ length self.now }
     {
@@ -209,7 +211,7 @@ impl Iterator for UnalignedBitChunkIterator<'_> {
         }
     }
 
-    /// The number of words still to come, as both bounds.
+    /// Returns the number of remaining words as both bounds.
     fn size_hint(&self) -> (usize, Option<usize>)
         ensures exact { result ≡ (length self.now, Some (length self.now)) }
         ensures lower { IsWithinCount result.0 (at_most (length self.now)) }
