@@ -11,7 +11,7 @@ ghost use Rattle.vb_count.specs.Looks.{rest_looks};
 use crate::glance::Glance;
 use crate::word::byte_part;
 
-/// Adds to `ones` the set bits of `len` bits, fewer than 512, from byte `at` on.
+/// Returns `ones` plus the number of set bits in `len` bits, fewer than 512, from byte `at` on.
 #[tactic(auto, using(vb_bits::proofs::BitsLemmas::windows))]
 #[inline(always)]
 pub(crate) fn add_rest<G: Glance>(src: &mut G, at: usize, len: usize, ones: usize) -> usize
@@ -26,7 +26,7 @@ pub(crate) fn add_rest<G: Glance>(src: &mut G, at: usize, len: usize, ones: usiz
     add_tail(src, at + len / 8, len % 8, bytes)
 }
 
-/// Adds to `ones` the set bits of `n` words, at most seven, from byte `at` on.
+/// Returns `ones` plus the number of set bits in `n` words, at most seven, from byte `at` on.
 #[tactic(auto, using(vb_bits::proofs::BitsLemmas::windows))]
 fn add_words<G: Glance>(src: &mut G, at: usize, n: usize, ones: usize) -> usize
     requires few { n < 8 }
@@ -46,8 +46,8 @@ fn add_words<G: Glance>(src: &mut G, at: usize, n: usize, ones: usize) -> usize
     }
 }
 
-/// Adds to `ones` the set bits of pair `k` of the `pairs` pairs of words from byte `at` on, if
-/// there is one.
+/// Returns `ones` plus the number of set bits in pair `k` of the `pairs` pairs of words from byte
+/// `at` on, or `ones` if there is no such pair.
 ///
 /// It counts two words at once and no more: four adjacent ones would be counted as a vector, which
 /// takes longer.
@@ -68,7 +68,7 @@ fn add_pair<G: Glance>(src: &mut G, at: usize, pairs: usize, k: usize, ones: usi
     ones + (first + second)
 }
 
-/// Adds to `ones` the set bits of `n` bytes, at most seven, from byte `at` on.
+/// Returns `ones` plus the number of set bits in `n` bytes, at most seven, from byte `at` on.
 #[tactic(auto, using(vb_bits::proofs::BitsLemmas::windows))]
 fn add_bytes<G: Glance>(src: &mut G, at: usize, n: usize, ones: usize) -> usize
     requires few { n < 8 }
@@ -87,7 +87,8 @@ fn add_bytes<G: Glance>(src: &mut G, at: usize, n: usize, ones: usize) -> usize
     }
 }
 
-/// Adds to `ones` the set bits of the four bytes from `at` on, if `n` is at least four.
+/// Returns `ones` plus the number of set bits in the four bytes from `at` on if `n` is at least
+/// four, else `ones`.
 fn add_four_bytes<G: Glance>(src: &mut G, at: usize, n: usize, ones: usize) -> usize
     requires few { n < 8 }
     requires inside { at + n ≤ length (G.seen src.old).bytes }
@@ -108,7 +109,8 @@ fn add_four_bytes<G: Glance>(src: &mut G, at: usize, n: usize, ones: usize) -> u
     ones + u32::from_le_bytes(bytes).count_ones() as usize
 }
 
-/// Adds to `ones` the set bits of the two bytes from `at` on, if `n` is at least two.
+/// Returns `ones` plus the number of set bits in the two bytes from `at` on if `n` is at least two,
+/// else `ones`.
 fn add_two_bytes<G: Glance>(src: &mut G, at: usize, n: usize, ones: usize) -> usize
     requires few { n < 4 }
     requires inside { at + n ≤ length (G.seen src.old).bytes }
@@ -124,7 +126,7 @@ fn add_two_bytes<G: Glance>(src: &mut G, at: usize, n: usize, ones: usize) -> us
     ones + u16::from_le_bytes(bytes).count_ones() as usize
 }
 
-/// Adds to `ones` the set bits among the first `len` of byte `at`.
+/// Returns `ones` plus the number of set bits among the first `len` of byte `at`.
 fn add_tail<G: Glance>(src: &mut G, at: usize, len: usize, ones: usize) -> usize
     requires few { len < 8 }
     requires inside { 8 * at + len ≤ 8 * length (G.seen src.old).bytes }
