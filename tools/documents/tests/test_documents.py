@@ -4,8 +4,9 @@ import unittest
 from pathlib import Path
 
 from documents.blocks import Blocks
+from documents.counts import LIMITS, MOST, counts, words
 from documents.examples import examples
-from documents.files import Repository
+from documents.files import Document, Repository
 from documents.kinds import kind_of, statics
 from documents.lists import lists
 from documents.layers import LAYERS, dependencies, diagram, layers, reduced
@@ -97,7 +98,7 @@ class Checked(unittest.TestCase):
 
     def test_nothing_is_wrong(self):
         repository = self.repository()
-        for check in (lists, names, links, stale, not_written, examples):
+        for check in (lists, names, links, stale, not_written, examples, counts):
             self.assertEqual(check(repository), [])
         self.assertEqual(Blocks(repository).found, [])
 
@@ -262,6 +263,27 @@ class Checked(unittest.TestCase):
                            ("2026-05-03", "a date"), ("751 edits", "a count of edits")):
             found = stale(self.repository(LOW_dot_md=("It takes", f"It {text} takes")))
             self.assertEqual([it.split(": ")[1] for it in found], [what], text)
+
+    def test_words_are_those_of_text_cells_and_code(self):
+        text = "# A head\n\n| `one` | |\n|---|---|\n| -- | 2 |\n\n```c\nf(x);\n}\n```\n"
+        self.assertEqual(words(Document("", text)), len(["A", "head", "one", "2", "c", "f(x);"]))
+
+    def test_documents_of_too_many_words(self):
+        rest = MOST - sum(map(words, self.repository().documents))
+        just, more = (f"Call{' it' * n} `one`" for n in (rest, rest + 1))
+        self.assertEqual(counts(self.repository(README_dot_md=("Call `one`", just))), [])
+        found = counts(self.repository(README_dot_md=("Call `one`", more)))
+        self.assertEqual(found, [f"all documents: {MOST + 1} words, where {MOST} are the most"])
+
+    def test_a_document_of_more_words_than_its_limit(self):
+        for path, most in LIMITS.items():
+            for n, wanted in ((most, []), (most + 1, [
+                f"{path}: {most + 1} words, where {most} are the most",
+            ])):
+                repository = self.repository()
+                (repository.root / path).parent.mkdir(exist_ok=True)
+                (repository.root / path).write_text("it " * n, encoding="utf-8")
+                self.assertEqual(counts(repository), wanted)
 
     def test_lines_that_are_too_wide(self):
         wide = "-- " + "≡" * 98

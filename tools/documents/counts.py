@@ -1,0 +1,27 @@
+"""Whether the documents are short: those that have a limit of their own, and all together."""
+import re
+
+from documents.files import Document, Repository
+
+MOST = 13_000
+LIMITS = {"docs/PERF.md": 2_500, "bench/README.md": 1_500}
+# A document that the other checks leave alone, since it stands in bench/.
+OF_BENCH = "bench/README.md"
+
+
+def words(document: Document) -> int:
+    """The words of a document, with those of its code; bars and rules of tables are none."""
+    return sum(re.search(r"\w", it) is not None for it in document.text.split())
+
+
+def counts(repository: Repository) -> list[str]:
+    """The documents with more words than they may have."""
+    of_bench = Document(OF_BENCH, repository.present(OF_BENCH))
+    found = {it.path: words(it) for it in [*repository.documents, of_bench]}
+    wrong = [
+        f"{path}: {found[path]} words, where {most} are the most"
+        for path, most in LIMITS.items() if found.get(path, 0) > most
+    ]
+    if (total := sum(found.values())) > MOST:
+        wrong.append(f"all documents: {total} words, where {MOST} are the most")
+    return wrong
