@@ -2,7 +2,7 @@
 //!
 //! Each call reads the mask 64 bits at a time. If all 64 bits are false, it skips 64 values by one
 //! test; if all are true, it takes them in a plain loop; else it visits the set bits. No call
-//! allocates. What "must" hold is for the caller to prove.
+//! allocates. A "must" in a docstring is a condition that the caller has to prove.
 #![tactic(auto)]
 
 mod extreme;

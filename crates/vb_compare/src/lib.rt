@@ -1,8 +1,8 @@
 //! Values compared by vectors, with the results as bits.
 //!
 //! [`write_truths`] writes truth values of any kind: results of comparisons of whole numbers here,
-//! and of floats in `vb_float`. Lengths and offsets are in values, or in bits. What "must" hold is
-//! for the caller to prove. No call allocates.
+//! and of floats in `vb_float`. Lengths and offsets are in values, or in bits. A "must" in a
+//! docstring is a condition that the caller has to prove. No call allocates.
 #![tactic(auto)]
 
 mod compare;

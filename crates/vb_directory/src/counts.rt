@@ -50,10 +50,10 @@ impl<A: Allocator> Model for Counts<A> {
 }
 
 impl<A: Allocator> Counts<A> {
-    /// Returns the counts of the bits, with capacity for the counts of `room` bits, which must be
-    /// at least the number of bits. Allocates once, and not at all for no bits. Returns
-    /// `OutOfMemory` if that fails, and no other error. Counts the bits of all blocks but the last
-    /// one, once.
+    /// Returns the counts of the bits. If there are any bits, allocates once, with capacity for the
+    /// counts of `room` bits, which must be at least the number of bits; else doesn't allocate.
+    /// Returns `OutOfMemory` if that fails, and no other error. Counts the bits of all blocks but
+    /// the last one, once.
     pub fn of(alloc: A, bits: BitBufferView<'_>, room: usize) -> Result<Self>
         requires room { length (bits_of bits) ≤ room }
         ensures counts { IfOk result (λ c. AreCounts (bits_of bits.entry) c.numbers) }
@@ -134,9 +134,9 @@ impl<A: Allocator> Counts<A> {
 }
 
 impl<A: Allocator + Clone> Counts<A> {
-    /// Returns a copy with capacity for the counts of `room` bits. Allocates once from a copy of
-    /// the allocator, and not at all if there are no counts. Returns `OutOfMemory` if that fails,
-    /// and no other error.
+    /// Returns a copy. If there are any counts, allocates once, from a copy of the allocator, with
+    /// capacity for the counts of `room` bits; else doesn't allocate. Returns `OutOfMemory` if that
+    /// fails, and no other error.
     pub fn copy(&self, room: usize) -> Result<Self>
         ensures numbers { IfOk result (λ c. c.numbers ≡ self.now.numbers) }
         ensures room { IfOk result (λ c. 0 < length self.now.numbers

@@ -7,7 +7,7 @@
 //!
 //! A rank or select is generic over a source of counts, which has no way to a count but a probe;
 //! and other crates have no way to a count but these calls. Lengths, offsets and indices are in
-//! bits. What "must" hold is for the caller to prove.
+//! bits. A "must" in a docstring is a condition that the caller has to prove.
 #![tactic(auto)]
 
 mod count_added;

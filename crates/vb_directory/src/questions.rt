@@ -50,10 +50,9 @@ impl<A: Allocator> Counts<A> {
         select_in_groups(src, bits.offset(), bits.len(), groups, n, value)
     }
 
-    /// Writes to `places[k]`, for each `k`, what [`select`](Self::select) returns for `ranks[k]`:
-    /// the index of that bit, or `None`. `places` and `ranks` must have the same length, and these
-    /// counts must be those of `bits`. Searches for eight at once if there are as many, and more
-    /// than one group. Does not allocate.
+    /// Writes the result of [`select`](Self::select) for `ranks[k]` to `places[k]`, for each `k`.
+    /// `places` and `ranks` must have the same length, and these counts must be those of `bits`.
+    /// Searches for eight at once if there are as many, and more than one group. Does not allocate.
     #[inline(always)]
     pub fn select_many(
         &self,

@@ -1,8 +1,8 @@
 //! Filters of bits and values by a mask, over slices, and the deposit that undoes them.
 //!
 //! A filter selects the bits or values whose bit of the mask is true, in order. Lengths, offsets
-//! and indices are in bits, or in values. What "must" hold is for the caller to prove. No call
-//! allocates.
+//! and indices are in bits, or in values. A "must" in a docstring is a condition that the caller
+//! has to prove. No call allocates.
 #![tactic(auto)]
 
 mod deposit;

@@ -30,7 +30,7 @@ pub(crate) fn push_digits(out: &mut [u8], pending: u64, len: usize, word: u64, n
     (word >> 1) >> (63 - shift)
 }
 
-/// Writes the pending bits after the `len` bits' last whole word. Stores no byte after that of the
+/// Writes the pending bits, the last `len % 64` of the `len` bits. Stores no byte after that of the
 /// last bit, where another thread may write.
 pub(crate) fn write_pending(out: &mut [u8], pending: u64, len: usize)
     requires room { len ≤ 8 * length out.old }

@@ -1,7 +1,7 @@
 //! `and` and `or` of truth values that may be null, by three-valued logic, over slices.
 //!
-//! Lengths, offsets and indices are in bits. What "must" hold is for the caller to prove. No call
-//! allocates.
+//! Lengths, offsets and indices are in bits. A "must" in a docstring is a condition that the caller
+//! has to prove. No call allocates.
 #![tactic(auto)]
 
 mod column;

@@ -9,7 +9,7 @@
 //! and [`select_each_from`].
 //!
 //! Lengths, offsets and indices are in bits. A look is a read of up to 64 bytes of bits; a probe is
-//! the read of an entry. What "must" hold is for the caller to prove.
+//! the read of an entry. A "must" in a docstring is a condition that the caller has to prove.
 #![tactic(auto)]
 
 mod block;

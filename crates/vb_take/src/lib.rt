@@ -2,7 +2,8 @@
 //! `vb_bits`.
 //!
 //! A position is the position of an index among the indices. Lengths, indices and positions are in
-//! bits, or in values. What "must" hold is for the caller to prove. No call allocates.
+//! bits, or in values. A "must" in a docstring is a condition that the caller has to prove. No call
+//! allocates.
 #![tactic(auto)]
 
 mod block;

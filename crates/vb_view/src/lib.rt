@@ -2,8 +2,8 @@
 //!
 //! Bit `i` of bytes is bit `i % 8` of byte `i / 8`, least significant first. A window is the `len`
 //! bits from bit `offset` on. It must end within the bytes, and `offset + len` must fit in a
-//! `usize`; `vb_bits::window_fits` tests both. Lengths, offsets and indices are in bits. What
-//! "must" hold is for the caller to prove. No call allocates.
+//! `usize`; `vb_bits::window_fits` tests both. Lengths, offsets and indices are in bits. A "must"
+//! in a docstring is a condition that the caller has to prove. No call allocates.
 #![tactic(auto)]
 
 mod meta;
