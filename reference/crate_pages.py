@@ -5,6 +5,7 @@ from tools.documents.kinds import EXAMPLES, Dependencies, kind_of, reached
 from reference.antt_items import AnttFile
 from reference.docs_html import Lookup, docs_html
 from reference.fragments import Fragments
+from reference.groups import plain, table
 from reference.html_text import name_html, tag
 from reference.item_pages import display
 from reference.library import FOR_TESTS, Crate, Reach, sentence
@@ -85,8 +86,9 @@ class CratePages:
             found = [it for it in reached if display(it.item) == kind]
             if not found:
                 continue
-            rows = "".join(self.item_row(page, crate, it) for it in found)
-            page.add(tag("h2", title, id=kind), tag("table", rows, class_="list"))
+            rows = [(it.name, self.item_row(page, crate, it)) for it in found]
+            listed = table(rows) if kind == "call" else plain(rows)
+            page.add(tag("h2", title, id=kind), listed)
             page.nav.append(tag("p", page.link(f"{page.url}#{kind}", title), class_="heading"))
             page.nav.append(tag("ul", "".join(
                 tag("li", page.link(self.urls.of(it.item), name_html(it.name))) for it in found)))

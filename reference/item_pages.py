@@ -2,6 +2,7 @@
 from html import escape
 
 from reference.fragments import Fragments
+from reference.groups import table
 from reference.html_text import name_html, rust_html, tag
 from reference.library import sentence
 from reference.pages import Page
@@ -88,11 +89,11 @@ class ItemPages:
                 anchor = self.urls.anchors[id(it)]
                 name = page.link(f"{page.url}#{anchor}", tag("code", escape(it.name)))
                 says = tag("td", self.fragments.first(page, it))
-                rows.append(tag("tr", tag("th", name, scope="row") + says))
+                rows.append((it.name, tag("tr", tag("th", name, scope="row") + says)))
         if rows:
             constants = any(it.kind == "const" for _, found in blocks for it in found)
             title = "Calls and constants" if constants else "Calls"
-            page.add(tag("h2", title, id="calls"), tag("table", "".join(rows), class_="list"))
+            page.add(tag("h2", title, id="calls"), table(rows))
         last = ""
         for block, members in blocks:
             last = self.block_heading(page, item, block, last)
