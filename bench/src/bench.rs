@@ -8,6 +8,7 @@ use std::time::Duration;
 use crate::json::Object;
 use crate::measure::{Contender, best};
 use crate::row::{Measured, NOISE, Row, grouped};
+use crate::times::{Placed, Times};
 
 /// How many times the first size the later ones of a growth row are.
 const GROWTH: [usize; 4] = [1, 10, 100, 1_000];
@@ -28,6 +29,7 @@ pub struct Bench {
     word: String,
     /// Where rows go as lines of JSON.
     lines: BufWriter<File>,
+    times: Times,
     part: &'static str,
     parts: Vec<(&'static str, String)>,
     misses: String,
@@ -36,12 +38,13 @@ pub struct Bench {
 }
 
 impl Bench {
-    pub fn new(level: String, budget: Duration, word: String, lines: File) -> Self {
+    pub fn new(level: String, budget: Duration, word: String, lines: File, times: Times) -> Self {
         Bench {
             level,
             budget,
             word,
             lines: BufWriter::new(lines),
+            times,
             part: "",
             parts: Vec::new(),
             misses: String::new(),
@@ -62,6 +65,11 @@ impl Bench {
         table.push_str(line);
     }
 
+    /// The times of contenders at all placements until now.
+    fn times_of(&mut self, contenders: &[Contender]) -> Vec<Placed> {
+        self.times.with_those_before(&best(contenders, self.budget))
+    }
+
     /// Measures a row, once all its contenders have given the same answer. Aims are of x86-64-v2
     /// and v3; at x86-64-v4 there are some of counts alone.
     pub fn row(&mut self, row: Row) {
@@ -74,7 +82,7 @@ impl Bench {
         let answer = contenders[0].answer();
         let same = row.equals().all(|it| it.answer() == answer);
         assert!(same, "{}, {}: the answers differ", row.call(), row.input());
-        let measured = row.measured(best(contenders, self.budget));
+        let measured = row.measured(self.times_of(contenders));
         let met = measured.aims().iter().filter(|aim| aim.is_met()).count();
         self.met += met;
         self.missed += measured.aims().len() - met;
@@ -102,7 +110,7 @@ impl Bench {
         let sizes = GROWTH.map(|times| times * first);
         let mut contenders: Vec<_> = sizes.into_iter().map(at).collect();
         contenders.extend(sizes.map(|size| copy_of(bytes_of(size))));
-        let times = best(&contenders, self.budget);
+        let times = self.times_of(&contenders);
         let costs: Vec<f64> = times.iter().zip(sizes.iter().cycle()).map(each).collect();
         self.grown(call, first, &costs[..GROWTH.len()], &costs[GROWTH.len()..]);
     }
@@ -166,8 +174,8 @@ fn copy_of<'a>(size: usize) -> Contender<'a> {
 }
 
 /// What an item costs of so many.
-fn each((time, items): (&f64, &usize)) -> f64 {
-    time / *items as f64
+fn each((time, items): (&Placed, &usize)) -> f64 {
+    time.median() / *items as f64
 }
 
 fn listed(costs: &[f64]) -> String {

@@ -77,7 +77,6 @@ pub type Operator =
 pub type Take<I> =
     unsafe extern "C" fn(Bytes, usize, usize, *const I, usize, Bytes, usize, bool) -> usize;
 
-#[link(name = "vb_c", kind = "static")]
 unsafe extern "C" {
     pub fn vb_count_ones(bytes: Bytes, size: usize, offset: usize, len: usize) -> usize;
     pub fn vb_select(bytes: Bytes, size: usize, offset: usize, len: usize, n: usize) -> Place;
@@ -133,7 +132,6 @@ unsafe extern "C" {
     pub fn vb_all_set(bytes: Bytes, size: usize, offset: usize, len: usize) -> bool;
 }
 
-#[link(name = "vb_c_gather", kind = "static")]
 unsafe extern "C" {
     pub fn vb_filter_bits(
         out: *mut u8,
@@ -172,9 +170,6 @@ unsafe extern "C" {
     );
 }
 
-// The kit's functions for memory stand behind the library that calls them.
-#[link(name = "vb_bench", kind = "static")]
-#[link(name = "libc_c", kind = "static")]
 unsafe extern "C" {
     pub fn bench_set_indices(bytes: Bytes, size: usize, offset: usize, len: usize) -> usize;
     pub fn bench_set_slices(bytes: Bytes, size: usize, offset: usize, len: usize) -> usize;

@@ -6,7 +6,7 @@ use std::hint::black_box;
 use std::time::{Duration, Instant};
 
 /// How many rounds there are at least, however long they take.
-const ROUNDS: usize = 9;
+const ROUNDS: usize = 3;
 
 /// What a contender's part of a round takes at least, so that the clock is fine enough.
 const PART: Duration = Duration::from_micros(20);

@@ -4,6 +4,7 @@ use std::fmt::Write;
 
 use crate::json::Object;
 use crate::measure::Contender;
+use crate::times::Placed;
 
 /// The names of the contenders that have columns of their own.
 pub const UPSTREAM: &str = "upstream";
@@ -172,8 +173,8 @@ impl<'a> Row<'a> {
         parts.join("; ")
     }
 
-    /// The row with its times in nanoseconds.
-    pub fn measured(&self, times: Vec<f64>) -> Measured {
+    /// The row with its times.
+    pub fn measured(&self, times: Vec<Placed>) -> Measured {
         let aims = self.aims.iter().filter_map(|aim| self.outcome(aim, &times));
         Measured {
             call: self.call.clone(),
@@ -189,14 +190,17 @@ impl<'a> Row<'a> {
     }
 
     /// What came of an aim, unless its other contender isn't there.
-    fn outcome(&self, aim: &Aim, times: &[f64]) -> Option<Outcome> {
+    fn outcome(&self, aim: &Aim, times: &[Placed]) -> Option<Outcome> {
         let (over, reached) = match aim.over {
             Over::Other(name) => {
                 let other = self.names.iter().position(|it| *it == name)?;
-                (format!("of {name}"), times[0] / times[other])
+                (format!("of {name}"), times[0].over(&times[other]))
             }
-            Over::Nanosecond => ("ns".into(), times[0]),
-            Over::NanosecondAnItem => ("ns an item".into(), times[0] / self.items? as f64),
+            Over::Nanosecond => ("ns".into(), times[0].median()),
+            Over::NanosecondAnItem => {
+                let each = times[0].median() / self.items? as f64;
+                ("ns an item".into(), each)
+            }
         };
         Some(Outcome {
             over,
@@ -237,37 +241,42 @@ pub struct Measured {
     offsets: Vec<usize>,
     set: Option<f64>,
     names: Vec<&'static str>,
-    times: Vec<f64>,
+    times: Vec<Placed>,
     aims: Vec<Outcome>,
 }
 
 impl Measured {
-    pub const HEAD: &'static str = "| call | input | ours, ns | upstream | Rust loop | beside | aims |\n\
+    pub const HEAD: &'static str = "| call | input | ours, ns, least to greatest | upstream | \
+        Rust loop | beside | aims |\n\
         |---|---|---|---|---|---|---|\n";
 
     pub fn aims(&self) -> &[Outcome] {
         &self.aims
     }
 
-    /// A line of a table in Markdown: our time, and the times of the others, each with ours over
-    /// it.
+    /// A line of a table in Markdown: our time, with the least and the greatest of all placements,
+    /// and the times of the others, each with ours over it.
     pub fn line(&self) -> String {
         let others = || self.names.iter().zip(&self.times).skip(1);
-        let cell = |time: f64| format!("{} ({:.2})", figure(time), self.times[0] / time);
+        let ours = &self.times[0];
+        let cell = |time: &Placed| format!("{} ({:.2})", figure(time.median()), ours.over(time));
         let of = |name: &str| {
             let mut found = others().filter(|(it, _)| **it == name);
-            found.next().map_or(String::new(), |(_, time)| cell(*time))
+            found.next().map_or(String::new(), |(_, time)| cell(time))
         };
         let beside = others().filter(|(it, _)| ![UPSTREAM, LOOP].contains(it));
         let beside: Vec<_> = beside
-            .map(|(it, time)| format!("{it} {}", cell(*time)))
+            .map(|(it, time)| format!("{it} {}", cell(time)))
             .collect();
         let aims: Vec<_> = self.aims.iter().map(Outcome::text).collect();
+        let [least, greatest] = ours.range();
         format!(
-            "| {} | {} | {} | {} | {} | {} | {} |\n",
+            "| {} | {} | {}, {} to {} | {} | {} | {} | {} |\n",
             self.call,
             self.input,
-            figure(self.times[0]),
+            figure(ours.median()),
+            figure(least),
+            figure(greatest),
             of(UPSTREAM),
             of(LOOP),
             beside.join(", "),
@@ -297,9 +306,11 @@ impl Measured {
         row.number("set", self.set);
         let mut times = Object::default();
         for (name, time) in self.names.iter().zip(&self.times) {
-            times.number(name, Some(*time));
+            times.number(name, Some(time.median()));
         }
         row.object("ns", times);
+        let range = self.times[0].range();
+        row.list("ours_from_to", range.iter().map(f64::to_string));
         row.list("aims", self.aims.iter().map(Outcome::json));
         row.line()
     }
@@ -339,7 +350,7 @@ pub fn grouped(number: usize) -> String {
     let digits = number.to_string();
     let mut text = String::new();
     for (k, digit) in digits.chars().enumerate() {
-        if k > 0 && (digits.len() - k) % 3 == 0 {
+        if k > 0 && (digits.len() - k).is_multiple_of(3) {
             text.push(',');
         }
         text.push(digit);

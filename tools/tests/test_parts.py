@@ -27,22 +27,22 @@ echo 'rt: chose --jobs 4 for vb_c'
 echo 'fn vb_c::first: not proved'
 exit 1"""
 NEVER_ENDS = "sleep 600 & echo $! >child; echo begun; wait"
-# An `rt` that builds an empty library for each crate, and a cargo that builds a program of
-# benchmarks.
+# An `rt` that builds an empty library for each crate, and a compiler for C that makes a program of
+# benchmarks of what it links.
 EMPTY = """[ "$1" != doc ] || { echo kit/START-HERE.md; exit 0; }
 name=$(basename "$PWD")
 echo "rt: chose --jobs 1 for $name"
 mkdir -p out && : >"out/lib$name.a"
 echo 'logic=proved functions=1'"""
-BENCHMARKS = """mkdir -p bench/out/x86-64-v2/target/release
-cat >bench/out/x86-64-v2/target/release/bench <<'END'
+BENCHMARKS = """while [ "$1" != -o ]; do shift; done
+cat >"$2" <<'END'
 #!/bin/sh
 echo '  measures Counts' >&2
 echo '| a row |'
 echo '{}' >"$3"
 [ "$4" != wrong ]
 END
-chmod +x bench/out/x86-64-v2/target/release/bench"""
+chmod +x "$2\""""
 
 
 class Folder(unittest.TestCase):
@@ -404,7 +404,7 @@ class Rows(Folder):
     def setUp(self):
         super().setUp()
         self.copy("bench/rows")
-        self.command("bindings/wide", "")
+        self.command("bindings/build", "echo '1 passed, 0 failed'")
         self.copy("crates.txt")
         self.write("kit/c/liblibc_c.a", "")
         self.write("bench/library/src/lib.rt.in", "")
@@ -412,7 +412,8 @@ class Rows(Folder):
             if not line.startswith("#") and ":" in line:
                 self.write(f"crates/{line.split(':')[0].split()[0]}/src/lib.rt", "")
         self.command("bin/rt", EMPTY.replace("kit/", f"{self.top}/kit/"))
-        self.command("bin/cargo", BENCHMARKS)
+        self.command("bin/cargo", "")
+        self.command("bin/cc", BENCHMARKS)
 
     def rows(self, *words: str) -> tuple[int, list[str]]:
         room = f"BENCH_ROOM={self.top}/room"
@@ -420,19 +421,19 @@ class Rows(Folder):
 
     def test_each_part_says_how_far_it_is(self):
         status, lines = self.rows()
-        self.assertEqual((status, lines[-1]), (0, "4 passed, 0 failed"))
+        self.assertEqual((status, lines[-1]), (0, "5 passed, 0 failed"))
         begun = [it.split(",")[0] for it in lines if it.startswith("part ")]
         names = ["tests of the kernels at", "libraries of", "rows at"]
         wanted = [f"part {k} of 3: {name} x86-64-v2" for k, name in enumerate(names, 1)]
         self.assertEqual(begun, wanted)
-        self.assertIn("    measures Counts", lines)
+        self.assertEqual(lines.count("    measures Counts"), 4)
         self.assertIn("vb_bench proved", "\n".join(lines))
         self.assertIn("| a row |", (self.top / "bench/out/TABLE.md").read_text())
         self.assertEqual(lines[-2], "all output is in bench/out/rows.log")
 
     def test_it_stops_where_the_rows_fail(self):
         status, lines = self.rows("--only", "wrong")
-        self.assertEqual((status, lines[-1]), (1, "3 passed, 1 failed"))
+        self.assertEqual((status, lines[-1]), (1, "4 passed, 1 failed"))
         self.assertIn("failed: rows at x86-64-v2", lines)
         self.assertFalse((self.top / "bench/out/TABLE.md").exists())
 

@@ -9,7 +9,6 @@ pub type Filter<T> =
 
 macro_rules! filters {
     ($($name:ident: $value:ty;)*) => {
-        #[link(name = "vb_c_values", kind = "static")]
         unsafe extern "C" {
             $(pub fn $name(
                 out: *mut $value,
@@ -36,7 +35,6 @@ pub type Compare<T> = unsafe extern "C" fn(*mut u8, usize, usize, *const T, usiz
 
 macro_rules! compares {
     ($($name:ident: $value:ty;)*) => {
-        #[link(name = "vb_c_compare", kind = "static")]
         unsafe extern "C" {
             $(pub fn $name(
                 out: *mut u8,
@@ -64,7 +62,6 @@ pub type CompareWith<T> =
 
 macro_rules! compares_with {
     ($($name:ident: $value:ty;)*) => {
-        #[link(name = "vb_c_compare", kind = "static")]
         unsafe extern "C" {
             $(pub fn $name(
                 out: *mut u8,

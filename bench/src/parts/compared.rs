@@ -61,15 +61,12 @@ pub fn measure(bench: &mut Bench) {
 }
 
 /// Beside the values from the other end on.
-fn with_others<'a, T: PartialOrd + Copy>(
+fn with_others<'a, T: PartialOrd + Copy + 'a>(
     call: &str,
     values: &'a [T],
     compare: CompareWith<T>,
     offset: usize,
-) -> Row<'a>
-where
-    T: 'a,
-{
+) -> Row<'a> {
     let others: Vec<T> = values.iter().rev().copied().collect();
     let again = others.clone();
     let (to, over) = (vec![0u8; values.len() / 8 + 1], vec![0u8; values.len() / 8]);
@@ -93,16 +90,13 @@ where
         .plain(Contender::of(plain))
 }
 
-fn row<'a, T: PartialOrd + Copy>(
+fn row<'a, T: PartialOrd + Copy + 'a>(
     call: &str,
     values: &'a [T],
     limit: T,
     compare: Compare<T>,
     offset: usize,
-) -> Row<'a>
-where
-    T: 'a,
-{
+) -> Row<'a> {
     let (to, over) = (vec![0u8; values.len() / 8 + 1], vec![0u8; values.len() / 8]);
     let (to, over) = (RefCell::new(to), RefCell::new(over));
     let ours = move || {
