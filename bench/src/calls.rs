@@ -19,6 +19,10 @@ impl Place {
     pub fn index(self) -> usize {
         if self.found { self.index } else { usize::MAX }
     }
+
+    pub fn is_none(self) -> bool {
+        !self.found
+    }
 }
 
 pub type Bytes = *const u8;
@@ -130,6 +134,35 @@ unsafe extern "C" {
     ) -> Place;
     pub fn vb_any_set(bytes: Bytes, size: usize, offset: usize, len: usize) -> bool;
     pub fn vb_all_set(bytes: Bytes, size: usize, offset: usize, len: usize) -> bool;
+    pub fn vb_equal_bits(
+        left: Bytes,
+        left_size: usize,
+        l: usize,
+        right: Bytes,
+        right_size: usize,
+        r: usize,
+        len: usize,
+    ) -> bool;
+    pub fn vb_and_into(
+        out: *mut u8,
+        out_size: usize,
+        o: usize,
+        left: Bytes,
+        left_size: usize,
+        l: usize,
+        right: Bytes,
+        right_size: usize,
+        r: usize,
+        len: usize,
+    );
+    pub fn vb_set_indices(
+        out: *mut usize,
+        out_count: usize,
+        bytes: Bytes,
+        size: usize,
+        offset: usize,
+        len: usize,
+    ) -> usize;
 }
 
 unsafe extern "C" {

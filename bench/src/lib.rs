@@ -16,6 +16,7 @@ mod row;
 mod times;
 #[cfg(feature = "upstream")]
 mod upstream;
+mod words;
 
 use std::env;
 use std::fs::File;

@@ -6,6 +6,7 @@ mod compared;
 mod copies;
 mod count;
 mod directory;
+mod few;
 mod filters;
 mod growth;
 mod kleene;
@@ -43,6 +44,7 @@ const MILLION: usize = 1 << 20;
 const SIZES: [usize; 6] = [64, 512, 4 << 10, 64 << 10, 1 << 20, 64 << 20];
 
 pub fn measure(bench: &mut Bench) {
+    few::measure(bench);
     count::measure(bench);
     select::measure(bench);
     walks::measure(bench);

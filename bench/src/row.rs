@@ -10,8 +10,10 @@ use crate::times::Placed;
 pub const UPSTREAM: &str = "upstream";
 pub const LOOP: &str = "loop";
 
-/// The name of a loop over the ones of a mask, which stands beside the others.
+/// The names of a loop over the ones of a mask, and of the Rust crate without its archives, which
+/// stand beside the others.
 pub const ONES: &str = "a loop over ones";
+pub const PORTABLE: &str = "portable Rust";
 
 /// How far above an aim a ratio may be and count as met: a tolerance for the noise of rounds.
 pub const NOISE: f64 = 1.02;
@@ -143,7 +145,7 @@ impl<'a> Row<'a> {
     pub fn equals(&self) -> impl Iterator<Item = &Contender<'a>> {
         let named = self.names.iter().zip(&self.contenders);
         named
-            .filter(|(name, _)| [UPSTREAM, LOOP, ONES].contains(name))
+            .filter(|(name, _)| [UPSTREAM, LOOP, ONES, PORTABLE].contains(name))
             .map(|(_, it)| it)
     }
 

@@ -1,6 +1,64 @@
-//! The C functions over columns of values: filters and comparisons.
+//! The C functions over columns of values, filters and comparisons among them, and those that move
+//! bits by a mask or by indices.
 
-use super::Bytes;
+use std::ffi::c_void;
+
+use super::{Bytes, Place};
+
+unsafe extern "C" {
+    pub fn vb_filter_values(
+        out: *mut c_void,
+        out_count: usize,
+        values: *const c_void,
+        values_count: usize,
+        value_size: usize,
+        mask: Bytes,
+        mask_size: usize,
+        m: usize,
+    ) -> usize;
+    /// The place is the first position that counts and whose index is out of range.
+    pub fn vb_take_values(
+        out: *mut c_void,
+        out_count: usize,
+        values: *const c_void,
+        values_count: usize,
+        value_size: usize,
+        indices: *const c_void,
+        indices_count: usize,
+        index_size: usize,
+        all_valid: bool,
+        validity: Bytes,
+        validity_size: usize,
+        v: usize,
+    ) -> Place;
+    pub fn vb_take_bits_u32(
+        out: *mut u8,
+        out_size: usize,
+        o: usize,
+        bytes: Bytes,
+        size: usize,
+        offset: usize,
+        len: usize,
+        indices: *const u32,
+        indices_count: usize,
+        all_valid: bool,
+        validity: Bytes,
+        validity_size: usize,
+        v: usize,
+    ) -> Place;
+    pub fn vb_deposit_bits(
+        out: *mut u8,
+        out_size: usize,
+        o: usize,
+        bytes: Bytes,
+        size: usize,
+        offset: usize,
+        mask: Bytes,
+        mask_size: usize,
+        m: usize,
+        len: usize,
+    );
+}
 
 /// Values that a mask keeps: where they go, how many fit there, the values, how many there are, and
 /// the mask's bytes, how many these are, and its first bit.
@@ -51,6 +109,7 @@ macro_rules! compares {
 
 compares! {
     vb_compare_u32: u32;
+    vb_compare_i32: i32;
     vb_compare_i64: i64;
     vb_compare_f32: f32;
     vb_compare_f64: f64;

@@ -11,7 +11,7 @@ use crate::measure::Contender;
 use crate::row::{LOOP, Row};
 
 /// Above, as the C functions number comparisons.
-const GREATER: u8 = 4;
+pub const GREATER: u8 = 4;
 
 pub fn measure(bench: &mut Bench) {
     bench.begin("Comparisons");
