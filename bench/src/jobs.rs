@@ -313,7 +313,7 @@ fn of_places(pages: &Pages, random: &mut Random, digest: &mut Digest) {
     let mut edited = BitBufferMut::copy_from(&shared);
     for _ in 0..1_000 {
         let place = random.below(edited.len());
-        edited.set_to(place, place % 3 == 0);
+        edited.set_to(place, place.is_multiple_of(3));
     }
     digest.add_bits(&(&edited.freeze() ^ &shared));
 }

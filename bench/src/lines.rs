@@ -25,7 +25,7 @@ fn number(word: Option<&str>) -> Option<usize> {
 
 fn bytes(hex: &str) -> Option<ByteBufferMut> {
     let hex = hex.as_bytes();
-    if hex.len() % 2 != 0 {
+    if !hex.len().is_multiple_of(2) {
         return None;
     }
     let mut bytes = ByteBufferMut::with_capacity(hex.len() / 2);
