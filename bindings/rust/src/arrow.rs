@@ -1,24 +1,24 @@
-//! Imports and exports arrays of the [Arrow C data interface] and of the C stream interface: the
-//! structs, their owners, and the windows and values in them.
+//! Imports and exports arrays of the [Arrow C data interface] and streams of the C stream
+//! interface. These are the structs, their owners, and views of their bits and values.
 //!
-//! [`Stream`] reads the batches of another part of the program; the columns of an [`Array`] return
+//! [`Stream`] reads the batches of another part of the program. The columns of an [`Array`] return
 //! slices of values, [`Bits`](crate::Bits) and a [`Validity`](crate::Validity). [`Export`] passes a
-//! [`Bitmap`](crate::Bitmap) and values to any consumer. Neither way copies a value, except that
-//! exports copy texts. [`Array::filter`], [`Array::take`] and [`Export::concat`] copy rows of every
-//! type.
+//! [`Bitmap`](crate::Bitmap) and values to any consumer. Neither direction copies a value, except
+//! that exports copy texts. [`Array::filter`], [`Array::take`] and [`Export::concat`] copy rows of
+//! every type.
 //!
 //! ```
 //! use vortex_bits::arrow::{Export, ExportStream, Field, Stream};
 //! use vortex_bits::{Bitmap, Comparison, values};
 //!
-//! // What another part of the program gives: here a stream of two batches.
+//! // The producer: another part of the program, here a stream of two batches.
 //! let batches = [[7i32, 0, 9], [2, 8, 4]].map(|values| {
 //!     let valid = Bitmap::from(values.map(|value| value != 0));
 //!     Ok(Export::batch([Export::values(values.to_vec(), Some(valid)).named("a")]))
 //! });
 //! let mut given = ExportStream::new(Field::batch([Field::new("a", "i")?]), batches).into_raw();
 //!
-//! // SAFETY: it is as the interface asks for, and no one else has it.
+//! // SAFETY: the stream is as the interface requires, and no one else has it.
 //! let stream = unsafe { Stream::from_raw(&raw mut given)? };
 //! let mut kept = Vec::new();
 //! for batch in stream {
@@ -33,11 +33,11 @@
 //! ```
 //!
 //! The structs come from outside, so their numbers are tested: lengths, offsets, numbers of nulls,
-//! of buffers and of children, which buffers are present, formats, and that children are as long as
-//! their parent needs. By `unsafe` the caller promises what can't be tested: that pointers lead to
-//! as much as the numbers say. Lists of one length or of views, unions and runs may occur in a
-//! batch: no call reads their rows. [`Export::from`](Export) exports an [`Array`] of any type
-//! unchanged.
+//! buffers and children, which buffers are present, formats, and that each child has enough items
+//! for its parent. With `unsafe` the caller promises the rest: each pointer leads to as much memory
+//! as the numbers say. A batch may have columns of fixed-size lists, list views, unions and
+//! run-end-encoded rows. No accessor returns their rows, but filter, take and concat copy them.
+//! [`Export::from`](Export) exports an [`Array`] of any type unchanged.
 //!
 //! [Arrow C data interface]: https://arrow.apache.org/docs/format/CDataInterface.html
 

@@ -1,4 +1,4 @@
-//! Arrays from another part of the program.
+//! Arrays that another part of the program produced.
 
 mod dictionary;
 mod variable;
@@ -21,11 +21,11 @@ use crate::bits::within;
 use crate::error::{OutOfBounds, TakeValuesError, expect};
 use crate::{Bits, Validity};
 
-/// Rows of an array of the Arrow C data interface. It owns what another part of the program made,
-/// and reads the values, bits and validity in place. Clones, columns and slices share the array;
-/// the last one of them that is dropped releases it, on any thread.
+/// Rows of an array of the Arrow C data interface. The `Array` owns the producer's structs, and
+/// reads the values, bits and validity in place. Clones, columns and slices share the array.
+/// Dropping the last of them releases it, on any thread.
 ///
-/// A column has the rows of its struct, whatever the offsets of both are.
+/// A column has one row per row of its struct, for any offset of the two.
 ///
 /// ```
 /// use vortex_bits::arrow::Export;
@@ -50,37 +50,38 @@ use crate::{Bits, Validity};
 #[derive(Clone)]
 pub struct Array {
     pub(super) node: Arc<Node>,
-    /// The number of items before the first row in the buffers.
+    /// The number of items in the buffers before the first row.
     pub(super) start: usize,
-    /// The rows are items of the node.
+    /// The number of rows. They are items of the node.
     pub(super) len: usize,
 }
 
 impl Array {
-    /// Takes over the array and its type, as a consumer of the interface does. Both structs are
-    /// left released, even on an error, and the array is released with its last part.
+    /// Takes over an array and its type, as a consumer of the interface does. Leaves both structs
+    /// released, even on an error. The array is released when its last part is dropped.
     ///
-    /// Tests each number that can be tested; does not read the values.
+    /// Tests each number that can be tested, and does not read the values.
     ///
     /// # Errors
     ///
-    /// If a struct isn't as the interface requires. Both are then released.
+    /// Returns [`ArrowError::Malformed`] if a struct isn't as the interface requires. Both are then
+    /// released.
     ///
     /// # Safety
     ///
-    /// Each pointer is null, or to a struct that may be read and written, and that is released or
-    /// as the interface requires: pointers in it are null or to as much as the numbers say, and
-    /// that stays, and isn't written, until it is released. The callbacks may be called on any
-    /// thread, and no one else calls them.
+    /// Each pointer is null, or leads to a struct that may be read and written. The struct is
+    /// released or is as the interface requires: each pointer in it is null or leads to as much
+    /// memory as the numbers say. That memory stays, and no one writes it, until the struct is
+    /// released. The callbacks may be called on any thread, and no one else calls them.
     pub unsafe fn from_raw(
         array: *mut ArrowArray,
         schema: *mut ArrowSchema,
     ) -> Result<Array, ArrowError> {
-        // SAFETY: as of this function.
+        // SAFETY: the caller promises it.
         let (array, schema) = unsafe { (Owned::take(array), Owned::take(schema)) };
-        // SAFETY: as of this function.
+        // SAFETY: the caller promises it.
         let field = unsafe { Field::read(schema.get(), 0)? };
-        // SAFETY: as of this function.
+        // SAFETY: the caller promises it.
         unsafe { Array::of(array, &Arc::new(field)) }
     }
 
@@ -92,7 +93,7 @@ impl Array {
         field: &Arc<Field>,
     ) -> Result<Array, ArrowError> {
         let owner = Arc::new(array);
-        // SAFETY: as of this function; the node keeps the owner.
+        // SAFETY: the caller promises it; the node keeps the owner.
         let node = unsafe { Node::read(owner.get(), field, &owner)? };
         Ok(Array::whole(&Arc::new(node)))
     }
@@ -118,19 +119,19 @@ impl Array {
         self.len
     }
 
-    /// Returns whether there are none.
+    /// Returns whether there are no rows.
     #[inline]
     #[must_use]
     pub fn is_empty(&self) -> bool {
         self.len == 0
     }
 
-    /// Returns which rows are valid. A valid row may still belong to a null row of a struct: `and`
-    /// of both validities says which rows are there.
+    /// Returns which rows are valid. A valid row may still belong to a null row of a struct:
+    /// combine both validities with `and` to learn which rows are present.
     ///
     /// If the array says that it has no null (`null_count` is 0), its validity bits are ignored, as
-    /// Arrow allows, and [`Export::from`](super::Export) exports both unchanged. A producer with a
-    /// wrong 0 loses its nulls.
+    /// Arrow allows, and [`Export::from`](super::Export) exports both unchanged. If a producer's 0
+    /// is wrong, the nulls are lost.
     ///
     /// ```
     /// use vortex_bits::arrow::{Array, Export};
@@ -138,7 +139,7 @@ impl Array {
     /// let gap = Export::values([1i8, 0], Some([true, false].into()));
     /// let (mut array, mut schema) = gap.into_raw();
     /// array.null_count = 0;
-    /// // SAFETY: they are as the interface asks for, but for the number.
+    /// // SAFETY: both are as the interface requires, except for the number of nulls.
     /// let wrong = unsafe { Array::from_raw(&raw mut array, &raw mut schema)? };
     /// assert!(wrong.validity()?.bits().is_none());
     /// # Ok::<(), vortex_bits::arrow::ArrowError>(())
@@ -146,7 +147,8 @@ impl Array {
     ///
     /// # Errors
     ///
-    /// If the type is null, a union or runs, whose arrays have no such bits.
+    /// Returns [`ArrowError::Type`] if the type is null, a union or run-end encoded: these arrays
+    /// have no validity bits.
     #[inline]
     pub fn validity(&self) -> Result<Validity<'_>, ArrowError> {
         if !self.node.field.layout.has_validity() {
@@ -160,11 +162,12 @@ impl Array {
         Ok(Validity::new(bits, self.len))
     }
 
-    /// Returns the number of null rows: the array's own if these are all of its rows, else counted.
+    /// Returns the number of null rows. It is the array's own number if that is 0 or these are all
+    /// of its rows; otherwise this counts the bits.
     ///
     /// # Errors
     ///
-    /// As for [`validity`](Array::validity).
+    /// Returns the errors of [`validity`](Array::validity).
     pub fn null_count(&self) -> Result<usize, ArrowError> {
         match self.node.nulls_of(self.len) {
             Some(nulls) => Ok(nulls),
@@ -172,11 +175,11 @@ impl Array {
         }
     }
 
-    /// Returns the truth values of an array of these; those of null rows are arbitrary.
+    /// Returns the bits of an array of truth values. The bits of null rows are arbitrary.
     ///
     /// # Errors
     ///
-    /// If the array has another type.
+    /// Returns [`ArrowError::Type`] if the array has another type.
     #[inline]
     pub fn bits(&self) -> Result<Bits<'_>, ArrowError> {
         match self.node.field.layout {
@@ -186,11 +189,11 @@ impl Array {
         }
     }
 
-    /// Returns the rows' bits of a buffer.
+    /// Returns the rows' bits in a buffer.
     ///
     /// # Safety
     ///
-    /// It has one bit per item of the node, or is null if there are none.
+    /// The buffer has one bit per item of the node, or is null if there are no items.
     #[inline]
     unsafe fn bits_of(&self, buffer: *const u8) -> Bits<'_> {
         if self.len == 0 {
@@ -202,12 +205,13 @@ impl Array {
         Bits::new(bytes, self.start % 8, self.len)
     }
 
-    /// Returns the values, or the indices of an array with a dictionary; those of null rows are
-    /// arbitrary. [`Primitive`] says which arrays have values of which type.
+    /// Returns the values, or the indices if the array has a dictionary. Those of null rows are
+    /// arbitrary. [`Primitive`] lists the types of values that each array has.
     ///
     /// # Errors
     ///
-    /// If the array has another type, or if the buffer isn't aligned as the values are.
+    /// Returns [`ArrowError::Type`] if the array has another type, and [`ArrowError::Unaligned`] if
+    /// the buffer isn't aligned for the values.
     #[inline]
     pub fn values<T: Primitive>(&self) -> Result<&[T], ArrowError> {
         self.has_values::<T>()?;
@@ -217,12 +221,12 @@ impl Array {
                 alignment: align_of::<T>(),
             });
         }
-        // SAFETY: there is a value for each item; each arrangement of bytes is one, and the buffer
-        // is aligned as they are.
+        // SAFETY: there is a value for each item, the buffer is aligned for them, and any bytes are
+        // valid values.
         Ok(unsafe { self.items_of(self.len) })
     }
 
-    /// Returns the values at any address: this reads decimals as `i128`.
+    /// Returns the values of a buffer with any alignment. Decimals can be read as `i128` this way.
     ///
     /// ```
     /// use vortex_bits::arrow::Export;
@@ -235,7 +239,7 @@ impl Array {
     ///
     /// # Errors
     ///
-    /// If the array has another type.
+    /// Returns [`ArrowError::Type`] if the array has another type.
     pub fn unaligned<T: Primitive>(&self) -> Result<Unaligned<'_, T>, ArrowError> {
         self.has_values::<T>()?;
         // SAFETY: there is a value for each item.
@@ -243,11 +247,11 @@ impl Array {
         Ok(Unaligned::new(bytes, self.len))
     }
 
-    /// Returns so many of the values from the first row on.
+    /// Returns `number` values from the first row on.
     ///
     /// # Safety
     ///
-    /// The buffer of the values has as many of this type, and is aligned for it.
+    /// The buffer of the values has this number of values of type `T`, and is aligned for them.
     #[inline]
     unsafe fn items_of<T>(&self, number: usize) -> &[T] {
         if number * size_of::<T>() == 0 {
@@ -255,15 +259,15 @@ impl Array {
             return unsafe { slice::from_raw_parts(ptr::dangling(), number) };
         }
         let values = self.node.values.cast::<T>();
-        // SAFETY: as of this function; up to the last item they take at most `isize::MAX` bytes.
+        // SAFETY: the caller promises it; up to the last item they take at most `isize::MAX` bytes.
         unsafe { slice::from_raw_parts(values.add(self.start), number) }
     }
 
-    /// So many of the values from the first row on, each of `width` bytes.
+    /// Returns the bytes of `number` values from the first row on, `width` bytes each.
     ///
     /// # Safety
     ///
-    /// The buffer of the values has as many.
+    /// The buffer of the values has this number of them.
     unsafe fn bytes_of(&self, number: usize, width: usize) -> &[u8] {
         let size = number * width;
         if size == 0 {
@@ -273,7 +277,7 @@ impl Array {
         unsafe { slice::from_raw_parts(self.node.values.add(self.start * width), size) }
     }
 
-    /// The bytes of values of one width, and of views.
+    /// Returns the bytes of fixed-width values, or of views; no bytes for other types.
     pub(super) fn value_bytes(&self) -> &[u8] {
         let width = match self.node.field.layout {
             Layout::Fixed(_, width) => width,
@@ -292,22 +296,24 @@ impl Array {
         Err(self.is_not(T::WANTED))
     }
 
-    /// Returns the column of a name, the first one of several: its rows are those of the struct.
+    /// Returns the column with this name, the first one if several have it. Its rows are those of
+    /// the struct.
     ///
     /// # Errors
     ///
-    /// If the array has another type, or if no column has the name.
+    /// Returns [`ArrowError::Type`] if the array isn't a struct, and [`ArrowError::NoColumn`] if no
+    /// column has the name.
     pub fn column(&self, name: &str) -> Result<Array, ArrowError> {
         let mut columns = self.columns()?;
         let found = columns.find(|column| column.field().name() == name);
         found.ok_or_else(|| ArrowError::NoColumn { name: name.into() })
     }
 
-    /// Returns the columns of a struct, in their order: their rows are those of the struct.
+    /// Returns the columns of a struct, in their order. Each has the rows of the struct.
     ///
     /// # Errors
     ///
-    /// If the array has another type.
+    /// Returns [`ArrowError::Type`] if the array isn't a struct.
     pub fn columns(&self) -> Result<impl ExactSizeIterator<Item = Array> + '_, ArrowError> {
         if self.node.field.layout != Layout::Struct {
             return Err(self.is_not("that of a struct"));
@@ -315,8 +321,8 @@ impl Array {
         Ok(self.parts())
     }
 
-    /// Returns the columns of a struct, and the same number of rows of a sparse union's children;
-    /// of other types the children, whole.
+    /// Returns the children: of a struct or a sparse union with these rows only, of other types
+    /// whole.
     pub(super) fn parts(&self) -> impl ExactSizeIterator<Item = Array> + '_ {
         let has_rows = match self.node.field.layout {
             Layout::Union { is_sparse, .. } => is_sparse,
@@ -334,8 +340,8 @@ impl Array {
         })
     }
 
-    /// Returns the items that the values are indices of; None if they aren't indices. The index of
-    /// a null row may be anything: [`values::take_valid`](crate::values::take_valid),
+    /// Returns the items of the dictionary; None if the values aren't indices of one. The index of
+    /// a null row may be any number: [`values::take_valid`](crate::values::take_valid),
     /// [`dictionary_values`](Array::dictionary_values) and
     /// [`dictionary_texts`](Array::dictionary_texts) ignore it.
     #[must_use]
@@ -343,22 +349,22 @@ impl Array {
         self.node.dictionary.as_ref().map(Array::whole)
     }
 
-    /// Returns the rows of a range, which share the array.
+    /// Returns the rows of a range, which share the array. Does not allocate.
     ///
     /// # Panics
     ///
-    /// If the range starts after its end, or ends after the rows.
+    /// Panics if the range starts after its end, or ends after the rows.
     #[must_use]
     #[track_caller]
     pub fn slice(&self, range: impl RangeBounds<usize>) -> Array {
         expect(self.try_slice(range))
     }
 
-    /// [`Array::slice`].
+    /// Returns the rows of a range, as [`Array::slice`] does.
     ///
     /// # Errors
     ///
-    /// If the range starts after its end, or ends after the rows.
+    /// Returns [`OutOfBounds`] if the range starts after its end, or ends after the rows.
     pub fn try_slice(&self, range: impl RangeBounds<usize>) -> Result<Array, OutOfBounds> {
         let (start, len) = within(&range, self.len)?;
         Ok(Array {
@@ -380,7 +386,7 @@ impl Array {
         }
     }
 
-    /// Rows or items aren't taken at indices.
+    /// Returns the error of indices at which rows or items can't be taken.
     #[cold]
     pub(super) fn not_taken(&self, error: TakeValuesError) -> ArrowError {
         ArrowError::Take {

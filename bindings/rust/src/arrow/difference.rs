@@ -1,4 +1,4 @@
-//! Where rows aren't those of a type.
+//! Compares rows with a type.
 
 use alloc::format;
 use alloc::string::String;
@@ -9,20 +9,20 @@ use super::export::Export;
 use super::field::{Field, NULLABLE};
 use super::layout::Layout;
 
-/// What two types are called in what is said of them.
+/// The words for two types in an error.
 pub(super) struct Between {
     pub rows: &'static str,
     pub wanted: &'static str,
-    /// Whether names count too.
+    /// Whether to compare names too.
     pub has_names: bool,
 }
 
-/// Why rows aren't handed on as those of a type, for people: the columns from the outermost one on,
-/// by the wanted names, and what both have there. None where they are.
+/// Returns a message about the first difference between the type of rows and a wanted type: the
+/// wanted names of the columns from the outermost one on, and the two things that differ. Returns
+/// None if the rows have the type.
 ///
-/// Metadata may differ. Rows of columns without nulls are those of one that may have some; the
-/// other way round that is so where no row is null. Any other flag of the wanted type is one of the
-/// rows' too.
+/// Metadata may differ. Rows that may be null have a type that allows no null if no row is null.
+/// All other flags of the wanted type have to be flags of the rows.
 pub(super) fn difference(
     rows: &Export,
     wanted: &Field,
@@ -35,7 +35,7 @@ pub(super) fn difference(
     Ok(found.map(|(column, what)| format!("{}{what}", Of(&column))))
 }
 
-/// [`difference`] of rows that are read.
+/// Returns the [`difference`] of imported rows.
 pub(super) fn difference_of(rows: &Array, wanted: &Field, between: &Between) -> Option<String> {
     let mut found = between.types(rows.field(), wanted);
     if found.is_none() && loses_nulls(rows.field(), wanted) {
@@ -44,7 +44,7 @@ pub(super) fn difference_of(rows: &Array, wanted: &Field, between: &Between) -> 
     found.map(|(column, what)| format!("{}{what}", Of(&column)))
 }
 
-/// Whether a column may have nulls where the wanted one has none.
+/// Returns whether a column may have nulls and the wanted one allows none.
 fn loses_nulls(rows: &Field, wanted: &Field) -> bool {
     let mut below = rows.fields().chain(rows.dictionary());
     let mut wanted_below = wanted.fields().chain(wanted.dictionary());
@@ -57,7 +57,7 @@ fn loses_nulls(rows: &Field, wanted: &Field) -> bool {
 }
 
 impl Between {
-    /// The column, as it is named, and what is different of its type; None where nothing is.
+    /// Returns the first column whose types differ, and the difference; None if there is none.
     fn types(&self, rows: &Field, wanted: &Field) -> Option<(String, String)> {
         if let Some(what) = self.own(rows, wanted) {
             return Some((String::new(), what));
@@ -73,7 +73,7 @@ impl Between {
         })
     }
 
-    /// What is different of the two themselves.
+    /// Returns a difference of the two themselves, without their children.
     fn own(&self, rows: &Field, wanted: &Field) -> Option<String> {
         let (one, other) = (self.rows, self.wanted);
         if rows.format != wanted.format {
@@ -101,7 +101,7 @@ impl Between {
         }
     }
 
-    /// The first column that has nulls where the wanted one has none.
+    /// Returns the first column that has nulls if the wanted one allows none.
     fn nulls(&self, rows: &Array, wanted: &Field) -> Option<(String, String)> {
         let loses_nulls = rows.field().is_nullable() && !wanted.is_nullable();
         let nulls = if loses_nulls { null_count(rows) } else { 0 };
@@ -122,7 +122,8 @@ impl Between {
     }
 }
 
-/// How many rows are null; those of unions and runs are so in their children alone.
+/// Returns the number of null rows. Unions and run-end-encoded arrays have their nulls in the
+/// children only.
 fn null_count(rows: &Array) -> usize {
     match rows.field().layout {
         Layout::Nulls => rows.len(),
@@ -130,7 +131,7 @@ fn null_count(rows: &Array) -> usize {
     }
 }
 
-/// The name of a column below another one.
+/// Returns the name of a column within another one.
 fn under(parent: &str, below: &str) -> String {
     let point = if below.is_empty() { "" } else { "." };
     format!("{parent}{point}{below}")

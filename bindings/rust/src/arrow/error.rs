@@ -1,4 +1,4 @@
-//! Why an array isn't read.
+//! Errors of imports and exports.
 
 use alloc::string::{String, ToString};
 use core::error::Error;
@@ -6,16 +6,16 @@ use core::fmt;
 
 use crate::{BadIndex, OutOfBounds, TakeError, TakeValuesError};
 
-/// The errno of what isn't as it is asked for.
+/// The errno of an invalid argument.
 pub(super) const EINVAL: i32 = 22;
 
-/// What a stream says of a call that fails: its errno, and its text, which is empty where it has
-/// none. The producer of an [`ExportStream`](super::ExportStream) says it too.
+/// The error of a stream's call: its errno and its text, which is empty if there is none. The
+/// producer of an [`ExportStream`](super::ExportStream) returns it too.
 #[derive(Clone, Debug, PartialEq, Eq)]
 pub struct StreamError {
-    /// As of `errno.h`: 5 is EIO, 12 ENOMEM, 22 EINVAL.
+    /// A number of `errno.h`: 5 is EIO, 12 ENOMEM, 22 EINVAL.
     pub errno: i32,
-    /// For people.
+    /// A message for people.
     pub text: String,
 }
 
@@ -31,9 +31,9 @@ impl fmt::Display for StreamError {
 
 impl Error for StreamError {}
 
-/// What a producer says whose batches are made of arrays of others: the error of a stream as it
-/// came, and of everything else the text with errno 22, EINVAL. So `?` stands in what makes the
-/// batches of an [`ExportStream`](super::ExportStream).
+/// The error of a producer that makes its batches from imported arrays. A stream's error stays as
+/// it is; any other error becomes its text with errno 22, EINVAL. So an iterator that makes batches
+/// for an [`ExportStream`](super::ExportStream) can use `?`.
 ///
 /// ```
 /// use vortex_bits::arrow::{ArrowError, StreamError};
@@ -55,7 +55,7 @@ impl From<ArrowError> for StreamError {
 
 macro_rules! refusals {
     ($($error:ty)*) => {$(
-        /// The text with errno 22, EINVAL.
+        /// Returns the error's text with errno 22, EINVAL.
         impl From<$error> for StreamError {
             fn from(error: $error) -> StreamError {
                 StreamError {
@@ -69,110 +69,110 @@ macro_rules! refusals {
 
 refusals!(TakeValuesError TakeError OutOfBounds BadIndex);
 
-/// Why an array, its values or a stream aren't read.
+/// Why an import, an export, or a call on an array failed.
 #[derive(Clone, Debug, PartialEq, Eq)]
 #[non_exhaustive]
 pub enum ArrowError {
-    /// A call of the stream answered an error.
+    /// A call of the stream returned an error.
     Stream {
         /// `get_schema` or `get_next`.
         call: &'static str,
-        /// What the stream says.
+        /// The stream's error.
         error: StreamError,
     },
-    /// A struct isn't as the interface asks for.
+    /// A struct isn't as the interface requires.
     Malformed {
         /// The names of the columns from the outermost one on, with a point between two; empty for
-        /// the array itself. A child without a name is named by its place.
+        /// the array itself. A child without a name has its index instead.
         column: String,
-        /// What is wrong.
+        /// What is wrong with it.
         fault: Fault,
     },
-    /// The array has another type than the call is for.
+    /// The array has another type than the call needs.
     Type {
         /// The name of the column.
         column: String,
         /// Its type.
         format: String,
-        /// What the call is for.
+        /// The type that the call needs.
         wanted: &'static str,
     },
-    /// Values of one format aren't shown to be those of another.
+    /// The call can't show that values of one format are values of another.
     Format {
         /// The name of the column.
         column: String,
-        /// The format that they have.
+        /// The format of the values.
         format: String,
-        /// The other one.
+        /// The requested format.
         wanted: String,
-        /// The first row whose value is none of it, where the values were looked at.
+        /// The first row whose value isn't of that format, if the call read the values.
         row: Option<usize>,
     },
-    /// The rows aren't those of a field.
+    /// The rows don't have the type of a field.
     Field {
         /// The name of the column.
         column: String,
-        /// What is different, and of which child.
+        /// The first difference, with the child that has it.
         difference: String,
     },
-    /// The buffer of the values doesn't begin at a multiple of their alignment:
-    /// [`unaligned`](super::Array::unaligned) reads them.
+    /// The buffer of the values isn't aligned for them: [`unaligned`](super::Array::unaligned)
+    /// reads them.
     Unaligned {
         /// The name of the column.
         column: String,
         /// The alignment, in bytes.
         alignment: usize,
     },
-    /// A struct has no column of the name.
+    /// A struct has no column with this name.
     NoColumn {
-        /// The name that was asked for.
+        /// The name.
         name: String,
     },
-    /// Rows, or the items of a dictionary, aren't taken at indices.
+    /// Rows, or the items of a dictionary, can't be taken at these indices.
     Take {
         /// The name of the column.
         column: String,
-        /// Why they aren't.
+        /// The reason.
         error: TakeValuesError,
     },
-    /// Bits aren't taken at indices, as of a validity.
+    /// Bits, such as those of a validity, can't be taken at these indices.
     TakeBits(TakeError),
-    /// An index names no bit, as of a bitmap that is made of indices.
+    /// An index is out of bounds for a bitmap that is built from indices.
     BadIndex(BadIndex),
-    /// A window or a slice isn't among the bits or rows that there are.
+    /// A window or a slice ends after the bits or rows, or starts after its end.
     OutOfBounds(OutOfBounds),
-    /// There is no memory for the bytes of texts, or for rows that are copied.
+    /// Memory runs out for the bytes of texts, or for copied rows.
     Memory {
         /// The name of the column.
         column: String,
-        /// How many bytes they have together; `usize::MAX` where they are more.
+        /// Their total size in bytes; `usize::MAX` if it is more.
         bytes: usize,
     },
-    /// A mask has another number of bits than the rows.
+    /// The mask has another number of bits than there are rows.
     Mask {
         /// The name of the column.
         column: String,
-        /// How many bits the mask has.
+        /// The number of bits in the mask.
         bits: usize,
-        /// How many rows there are.
+        /// The number of rows.
         rows: usize,
     },
-    /// There are more of these than the numbers of the type can tell.
+    /// The numbers of the type can't represent this many.
     TooLong {
         /// The name of the column.
         column: String,
-        /// What they are: items of lists or of a dictionary, rows of runs or buffers of views.
+        /// What they count: items of lists or of a dictionary, rows of runs, or buffers of views.
         what: &'static str,
-        /// How many there are; of offsets up to the first row that ends too far, with it.
+        /// Their number. For offsets it ends with the first row that ends too far.
         number: usize,
-        /// The greatest of the numbers.
+        /// The greatest number that the type can represent.
         most: i64,
     },
-    /// Texts are longer together than their offsets of 32 bits can say, which is 2^31 - 1 bytes.
+    /// The texts are longer together than their offsets of 32 bits can represent, 2^31 - 1 bytes.
     LongTexts {
         /// The name of the column.
         column: String,
-        /// How many bytes the texts have up to the first one that lies too far, with it.
+        /// The bytes of the texts up to and including the first one that ends too far.
         bytes: usize,
     },
 }
@@ -181,11 +181,11 @@ pub enum ArrowError {
 #[derive(Clone, Debug, PartialEq, Eq)]
 #[non_exhaustive]
 pub enum Fault {
-    /// It was released, or a pointer to it is null.
+    /// The struct is released, or the pointer to it is null.
     Released(&'static str),
     /// This pointer is null.
     Null(&'static str),
-    /// This number is negative, or more than there can be.
+    /// This number is negative, or greater than it can be.
     OutOfRange(&'static str, i64),
     /// The number of nulls is below -1 or above the length.
     NullCount {
@@ -194,84 +194,83 @@ pub enum Fault {
         /// The length.
         length: i64,
     },
-    /// The items up to the last one have more bytes than memory can.
+    /// The items up to the last one take more than `isize::MAX` bytes.
     TooLong {
         /// The offset.
         offset: i64,
         /// The length.
         length: i64,
     },
-    /// It has another number of this than its type.
+    /// The struct has another number of these than its type.
     Number {
         /// What they are: buffers or children.
         of: &'static str,
-        /// How many the type has.
+        /// The number that the type has.
         wanted: i64,
-        /// How many it has.
+        /// The number that the struct has.
         got: i64,
     },
-    /// A buffer that is wanted is null: that of the values, the offsets, the sizes, the types or
-    /// the views where there are items, that of the validity where there are nulls, and that of the
-    /// bytes of texts.
+    /// A required buffer is null: that of the values, offsets, sizes, types or views if there are
+    /// items, that of the validity if there are nulls, and that of texts if they have bytes.
     NoBuffer(&'static str),
-    /// A row of texts or lists begins before the one before it ends, or at a negative place.
+    /// An offset of texts or lists is below the one before it, negative, or above `isize::MAX`; or
+    /// a list view isn't in bounds of its items.
     Range {
-        /// The row.
+        /// The row that ends at the offset; 0 for the first offset.
         row: usize,
-        /// Where it begins.
+        /// The offset at which it begins; 0 for the first offset.
         start: i64,
-        /// Where it ends.
+        /// The offset at which it ends.
         end: i64,
     },
-    /// Rows of a part of texts or lists end here, and the offsets go back behind them: the last one
-    /// of all, up to which there are bytes or items, is below.
+    /// The rows of a slice of texts or lists end after the last row of the array. The offsets after
+    /// the slice go back, and the bytes or items reach only up to the last one.
     Back {
-        /// Where the rows end.
+        /// The end of the rows.
         end: i64,
-        /// The last offset of all.
+        /// The last offset of the array.
         last: i64,
     },
-    /// This row of texts, which is valid, lies in none of the buffers.
+    /// This valid row of texts isn't in any of the buffers.
     View(usize),
-    /// The runs end before the rows do, or at a negative place.
+    /// The runs end before the rows do, or at a negative row.
     Runs {
-        /// Where the last run ends.
+        /// The end of the last run.
         end: i64,
-        /// How many rows there are, from the offset 0 on.
+        /// The number of rows, counted from offset 0.
         wanted: usize,
     },
-    /// The ends of runs have this format, which isn't that of signed whole numbers of 16 to 64
-    /// bits.
+    /// The ends of runs have this format, which isn't a signed integer of 16 to 64 bits.
     RunEnds(String),
-    /// This row of a union has a type that none of the children has.
+    /// A row of a union has a type id that no child has.
     TypeId {
         /// The row.
         row: usize,
-        /// The id of its type.
+        /// Its type id.
         id: i8,
     },
-    /// This row of a dense union is no item of its child.
+    /// A row of a dense union has an offset that isn't an item of its child.
     Item {
         /// The row.
         row: usize,
-        /// The place among the items of the child.
+        /// The offset in the child.
         offset: i32,
-        /// How many items the child has.
+        /// The number of items that the child has.
         items: usize,
     },
-    /// It ends before the parent's items do.
+    /// The child has too few items for its parent.
     Short {
-        /// How many items the parent asks for, from its offset 0 on.
+        /// The number of items that the parent needs, counted from its offset 0.
         wanted: usize,
-        /// How many there are.
+        /// The number of items that there are.
         got: usize,
     },
-    /// The text of the type is none that the interface has.
+    /// The interface has no type with this format.
     Format(String),
     /// This text isn't UTF-8.
     Utf8(&'static str),
-    /// The type or the array has a dictionary, and the other hasn't, or its indices aren't whole
-    /// numbers.
+    /// Only one of the type and the array has a dictionary, the indices aren't integers, or the
+    /// values have a dictionary already.
     Dictionary,
     /// It has this many levels of children and dictionaries, or more.
     Deep(usize),
@@ -371,7 +370,7 @@ impl fmt::Display for ArrowError {
     }
 }
 
-/// Before what is said of a column.
+/// Writes the column's name before a message.
 pub(super) struct Of<'a>(pub &'a str);
 
 impl fmt::Display for Of<'_> {
@@ -386,7 +385,7 @@ impl fmt::Display for Of<'_> {
 impl Error for ArrowError {}
 
 impl ArrowError {
-    /// The same, of the column of a parent.
+    /// Returns the error with the parent's name before the column's.
     pub(super) fn under(mut self, parent: &str) -> ArrowError {
         let column = match &mut self {
             ArrowError::Malformed { column, .. }
@@ -411,7 +410,7 @@ impl ArrowError {
     }
 }
 
-/// Of the array itself.
+/// Returns an error of the array itself.
 impl From<Fault> for ArrowError {
     fn from(fault: Fault) -> ArrowError {
         ArrowError::Malformed {
@@ -421,7 +420,7 @@ impl From<Fault> for ArrowError {
     }
 }
 
-/// Of values of no column.
+/// Returns an error that names no column.
 ///
 /// ```
 /// use vortex_bits::arrow::ArrowError;

@@ -1,4 +1,4 @@
-//! Exports of bits and values as arrays.
+//! Exports bits and values as arrays.
 
 mod dictionary;
 mod format;
@@ -28,7 +28,7 @@ use crate::error::expect;
 
 pub use growing::TextsMut;
 
-/// What a field is compared with, and is called.
+/// The words for an array and for a field in an error.
 const OF_ARRAY: Between = Between {
     rows: "the array",
     wanted: "the field",
@@ -36,9 +36,9 @@ const OF_ARRAY: Between = Between {
 };
 
 /// An array of the Arrow C data interface over values or bits of this program, with its type, for
-/// any consumer. No value is copied: the array keeps their owner until it is released, by the
-/// consumer or, if none took it, when this is dropped. If the owner panics when it is then dropped,
-/// the program aborts, since C has no panics.
+/// any consumer. Export copies no value: the array keeps the owner of the values until it is
+/// released, by the consumer or, if no consumer took it, by dropping the `Export`. If the owner
+/// then panics in its `drop`, the program aborts, because C has no panics.
 ///
 /// ```
 /// use vortex_bits::Bitmap;
@@ -49,8 +49,8 @@ const OF_ARRAY: Between = Between {
 /// let (mut array, mut schema) = days.named("day").into_raw();
 /// assert_eq!((array.length, array.null_count), (3, 1));
 ///
-/// // A consumer that is given the two pointers takes both over, as this crate does:
-/// // SAFETY: they are as the interface asks for, and no one else has them.
+/// // A consumer takes over both structs behind the pointers, as this crate does:
+/// // SAFETY: they are as the interface requires, and no one else has them.
 /// let day = unsafe { Array::from_raw(&raw mut array, &raw mut schema)? };
 /// assert_eq!(day.values::<i32>()?, [19_000, 0, 19_002]);
 /// assert!(array.release.is_none() && schema.release.is_none());
@@ -63,21 +63,22 @@ pub struct Export {
 }
 
 impl Export {
-    /// Returns an array of values, and of which are valid: all if that is None. The values are
-    /// those of a [`Vec`], or of another owner, such as an `Arc<[T]>`. The bits of the validity are
-    /// copied if the first one is within a byte, and left out if all are true.
+    /// Returns an array of values. `valid` has a bit per value, true if the value isn't null; None
+    /// means that all are valid. The owner of the values may be a [`Vec`], or another one such as
+    /// an `Arc<[T]>`. The bits of the validity are copied if the first one isn't the first of a
+    /// byte, and left out if all are true.
     ///
     /// # Panics
     ///
-    /// If there isn't one bit per value, or if there are 2^63 values or more, which is possible for
-    /// values of no byte.
+    /// Panics if there isn't one bit per value, or if there are 2^63 values or more, which is
+    /// possible for values of 0 bytes.
     #[must_use]
     #[track_caller]
     pub fn values<T: Primitive>(
         values: impl AsRef<[T]> + Send + Sync + 'static,
         valid: Option<Bitmap>,
     ) -> Export {
-        // Moved to where it stays before it is asked where its values are.
+        // Moves the owner to its final address before it reads the address of the values.
         let kept = Arc::new(values);
         let values = (*kept).as_ref();
         let (len, pointer) = (values.len(), values.as_ptr().cast());
@@ -88,13 +89,14 @@ impl Export {
         Export::column(field, len, 0, &[pointer], kept, valid)
     }
 
-    /// Returns an array of truth values, and of which are valid: all if that is None. The bits of
-    /// the validity are copied if their first one and the first of the truth values aren't at the
-    /// same bit of a byte, and left out if all are true.
+    /// Returns an array of truth values. `valid` has a bit per value, true if the value isn't null;
+    /// None means that all are valid. The bits of the validity are copied if their first one and
+    /// the first of the truth values aren't at the same bit of a byte, and left out if all are
+    /// true.
     ///
     /// # Panics
     ///
-    /// If the two differ in length.
+    /// Panics if the two differ in length.
     #[must_use]
     #[track_caller]
     pub fn bits<B: AsRef<[u8]> + Send + Sync + 'static>(
@@ -114,7 +116,7 @@ impl Export {
         )
     }
 
-    /// A column whose buffers behind that of the validity are these.
+    /// Returns a column with these buffers after that of the validity.
     #[track_caller]
     fn column(
         field: Field,
@@ -145,15 +147,17 @@ impl Export {
         }
     }
 
-    /// Returns the same with a name. A consumer sees it up to its first character 0, if it has one.
+    /// Returns the same array with a name. If the name has a character 0, a consumer sees the part
+    /// before the first one.
     #[must_use]
     pub fn named(mut self, name: &str) -> Export {
         self.field.name = name.into();
         self
     }
 
-    /// Returns the same rows with the name, the type, the flags and the metadata of a field, as of
-    /// the column that they were made of. The type is that of [`with_format`](Export::with_format).
+    /// Returns the same rows with the name, type, flags and metadata of a field, such as that of
+    /// the column that they were computed from. It converts the type as
+    /// [`with_format`](Export::with_format) does.
     ///
     /// ```
     /// use vortex_bits::arrow::{Export, Field};
@@ -172,9 +176,9 @@ impl Export {
     ///
     /// # Errors
     ///
-    /// Returns the errors of `with_format`, and [`ArrowError::Field`] if a child or the dictionary
-    /// has another type, if a row is null and the field says that none is, or if the field has any
-    /// other flag that the rows don't have.
+    /// Returns the errors of `with_format`. Returns [`ArrowError::Field`] if a child or the
+    /// dictionary has another type, if a row is null and the field allows no null, or if the field
+    /// has any other flag that the rows don't have.
     pub fn with_field(self, field: &Field) -> Result<Export, ArrowError> {
         let typed = self.with_format(field.format())?;
         match difference(&typed, field, &OF_ARRAY)? {
@@ -201,14 +205,14 @@ impl Export {
         self.len
     }
 
-    /// Returns whether there are none.
+    /// Returns whether there are no rows.
     #[must_use]
     pub fn is_empty(&self) -> bool {
         self.len == 0
     }
 
-    /// The two structs, each of which its new owner has to release, on any thread: they are plain
-    /// data here, and keep their memory where no one does.
+    /// Returns the two structs. Their new owner has to release each, on any thread: they are plain
+    /// data here, so their memory leaks if no one does.
     ///
     /// ```
     /// use vortex_bits::arrow::{ArrowArray, ArrowSchema, Export};
@@ -220,7 +224,7 @@ impl Export {
     /// /// Both structs may be written.
     /// unsafe extern "C" fn answer(array: *mut ArrowArray, schema: *mut ArrowSchema) {
     ///     let (values, of) = Export::values(vec![1i64, 2], None).named("answer").into_raw();
-    ///     // SAFETY: as of this function.
+    ///     // SAFETY: the caller promises it.
     ///     unsafe { (array.write(values), schema.write(of)) };
     /// }
     /// # let (mut array, mut schema) = (ArrowArray::empty(), ArrowSchema::empty());
@@ -236,34 +240,34 @@ impl Export {
         (self.array.into_raw(), schema.into_raw())
     }
 
-    /// The array without its type.
+    /// Returns the array without its type.
     pub(super) fn into_owned(self) -> Owned<ArrowArray> {
         self.array
     }
 
-    /// What a reader of the array answers, which keeps no part of it.
+    /// Calls `read` with the array, and returns its result. `read` keeps no part of the array.
     pub(super) fn look<T>(
         &self,
         read: impl FnOnce(&Array) -> Result<T, ArrowError>,
     ) -> Result<T, ArrowError> {
         let (field, no_owner) = (Arc::new(self.field.clone()), Arc::new(Owned::empty()));
-        // SAFETY: the array is as the interface asks for, and stays longer than the node.
+        // SAFETY: the array is as the interface requires, and lives longer than the node.
         let node = unsafe { Node::read(self.array.get(), &field, &no_owner)? };
         read(&Array::whole(&Arc::new(node)))
     }
 
-    /// Returns the array as this crate reads those of others.
+    /// Returns the array as an imported one, for readers of this crate.
     ///
     /// # Panics
     ///
-    /// If [`try_into_array`](Export::try_into_array) returns an error.
+    /// Panics if [`try_into_array`](Export::try_into_array) returns an error.
     #[must_use]
     #[track_caller]
     pub fn into_array(self) -> Array {
         expect(self.try_into_array())
     }
 
-    /// Returns the array as this crate reads those of others.
+    /// Returns the array as an imported one, for readers of this crate.
     ///
     /// ```
     /// use vortex_bits::arrow::Export;
@@ -280,17 +284,18 @@ impl Export {
     ///
     /// # Errors
     ///
-    /// Returns an error if there are more than 64 levels of children and dictionaries, which
-    /// [`into_raw`](Export::into_raw) hands on and this crate doesn't read.
+    /// Returns [`ArrowError::Malformed`] if there are more than 64 levels of children and
+    /// dictionaries. [`into_raw`](Export::into_raw) exports these, but this crate doesn't read
+    /// them.
     pub fn try_into_array(self) -> Result<Array, ArrowError> {
         self.field.is_shallow()?;
-        // SAFETY: the array is as the interface asks for, and this is its only owner.
+        // SAFETY: the array is as the interface requires, and this is its only owner.
         unsafe { Array::of(self.array, &Arc::new(self.field)) }
     }
 }
 
-/// The rows unchanged, of any type, such as a column that a query forwards or a slice of a batch.
-/// The array is shared, and released with the last of both.
+/// Exports the rows unchanged, of any type, such as a column that a query forwards or a slice of a
+/// batch. Both share the array, and the last of them releases it.
 ///
 /// ```
 /// use vortex_bits::arrow::Export;
@@ -307,7 +312,7 @@ impl Export {
 ///
 /// # Panics
 ///
-/// If [`Array::try_into_export`] returns an error.
+/// Panics if [`Array::try_into_export`] returns an error.
 impl From<Array> for Export {
     #[track_caller]
     fn from(array: Array) -> Export {
@@ -316,7 +321,7 @@ impl From<Array> for Export {
 }
 
 impl Array {
-    /// Returns the rows as they are, of any type, to be handed on: `Export::from(array)`.
+    /// Exports the rows unchanged, of any type, as `Export::from(array)` does.
     ///
     /// ```
     /// use vortex_bits::arrow::Export;
@@ -328,9 +333,8 @@ impl Array {
     ///
     /// # Errors
     ///
-    /// Returns an error if the rows are part of texts or lists that another part of the program
-    /// made wrongly: the part ends behind the last row of the whole array, so that a consumer would
-    /// read more than there is.
+    /// Returns [`ArrowError::Malformed`] if the rows are a slice of malformed texts or lists: the
+    /// slice ends after the last row of the whole array, so a consumer would read out of bounds.
     pub fn try_into_export(self) -> Result<Export, ArrowError> {
         self.ends_with_all()?;
         Ok(Export {
@@ -341,7 +345,7 @@ impl Array {
     }
 }
 
-/// Items of a node from `start` on: its children and its dictionary are whole.
+/// Returns `len` items of a node from `start` on, with its whole children and dictionary.
 fn shared(node: &Arc<Node>, start: usize, len: usize) -> Owned<ArrowArray> {
     let whole = |node: &Arc<Node>| shared(node, node.offset, node.len);
     let mut below = Below::new(node.children.iter().map(whole));
@@ -365,12 +369,12 @@ impl fmt::Debug for Export {
     }
 }
 
-/// The byte that has the first bit.
+/// Returns the address of the byte that has the first bit.
 fn start_of(bits: crate::Bits<'_>) -> *const c_void {
     bits.bytes()[bits.offset() / 8..].as_ptr().cast()
 }
 
-/// The bits, of which the first one is at this place of its byte.
+/// Returns the bits with the first one at bit `place` of its byte. Copies them if it is elsewhere.
 fn from_bit(bits: Bitmap, place: usize) -> Bitmap {
     if bits.bits().offset() % 8 == place {
         return bits;
@@ -380,16 +384,17 @@ fn from_bit(bits: Bitmap, place: usize) -> Bitmap {
     copy.slice(place..)
 }
 
-/// What an array keeps until it is released.
+/// The memory of an array, until it is released.
 struct Held {
     buffers: Vec<*const c_void>,
     below: Below<ArrowArray>,
-    /// What has the values, and the validity.
+    /// The owner of the values, and the validity.
     _kept: (Option<Arc<dyn Any + Send + Sync>>, Option<Bitmap>),
 }
 
 impl Held {
-    /// The number of nulls is -1 where it isn't known.
+    /// Returns the array. `nulls` is None if the number of nulls isn't known, which the struct says
+    /// as -1.
     fn array(self, len: usize, nulls: Option<usize>, offset: usize) -> Owned<ArrowArray> {
         let mut held = Box::new(self);
         let mut array = ArrowArray {
@@ -405,24 +410,24 @@ impl Held {
             private_data: ptr::null_mut(),
         };
         array.private_data = Box::into_raw(held).cast();
-        // SAFETY: it is as the interface asks for: its bits and values stay where they are for as
-        // long as what is kept, which may be dropped on any thread. No one else has it.
+        // SAFETY: the array is as the interface requires. Its bits and values stay where they are
+        // as long as `_kept` lives, which may be dropped on any thread. No one else has the array.
         unsafe { Owned::take(&raw mut array) }
     }
 }
 
 /// # Safety
 ///
-/// The array is of [`Held::array`], and isn't released.
+/// [`Held::array`] made the array, and it isn't released.
 unsafe extern "C" fn release(array: *mut ArrowArray) {
-    // SAFETY: as of this function.
+    // SAFETY: the caller promises it.
     unsafe {
         drop(Box::from_raw((*array).private_data.cast::<Held>()));
         array.write(ArrowArray::empty());
     }
 }
 
-/// A number of items or bits in memory.
+/// Converts a number of items or bits in memory.
 pub(super) fn number(usize: usize) -> i64 {
     i64::try_from(usize).unwrap_or(i64::MAX)
 }

@@ -5,80 +5,79 @@ use alloc::vec::Vec;
 use core::ffi::{c_char, c_int, c_void};
 use core::ptr;
 
-/// `struct ArrowSchema`: the type of an array, its name, and those of its children. It is plain
-/// data, which is released by its owner alone: [`Array::from_raw`](super::Array::from_raw) becomes
-/// that.
+/// `struct ArrowSchema`: the type of an array, its name, and the types of its children. It is plain
+/// data: only its owner releases it. [`Array::from_raw`](super::Array::from_raw) takes it over.
 #[repr(C)]
 #[derive(Debug)]
 pub struct ArrowSchema {
     /// The type, as a text that ends with 0: `l` for `i64`, `+s` for a struct.
     pub format: *const c_char,
-    /// The name, as a text that ends with 0; null where there is none.
+    /// The name, as a text that ends with 0; null if there is none.
     pub name: *const c_char,
-    /// Keys with their values, as the interface lays them out; null where there are none.
+    /// Keys with their values, in the layout of the interface; null if there are none.
     pub metadata: *const c_char,
-    /// 1 where the order of the dictionary says something, 2 where items may be null, 4 where the
-    /// keys of a map are sorted.
+    /// The sum of the flags: 1 if the order of the dictionary is meaningful, 2 if items may be
+    /// null, 4 if the keys of a map are sorted.
     pub flags: i64,
-    /// How many children there are.
+    /// The number of children.
     pub n_children: i64,
-    /// So many pointers to them.
+    /// `n_children` pointers to the children.
     pub children: *mut *mut ArrowSchema,
-    /// The type of the dictionary's items; null where the array has none.
+    /// The type of the dictionary's items; null if the array has no dictionary.
     pub dictionary: *mut ArrowSchema,
-    /// What releases it; None where it has been.
+    /// The callback that releases the struct; None if it is released.
     pub release: Option<unsafe extern "C" fn(*mut ArrowSchema)>,
-    /// What its producer knows it by.
+    /// A pointer for the producer's own use.
     pub private_data: *mut c_void,
 }
 
-/// `struct ArrowArray`: the buffers of an array, and its children. It is plain data, which is
-/// released by its owner alone: [`Array::from_raw`](super::Array::from_raw) becomes that.
+/// `struct ArrowArray`: the buffers of an array, and its children. It is plain data: only its owner
+/// releases it. [`Array::from_raw`](super::Array::from_raw) takes it over.
 #[repr(C)]
 #[derive(Debug)]
 pub struct ArrowArray {
-    /// How many items it has.
+    /// The number of items.
     pub length: i64,
-    /// How many of them are null; -1 where no one counted.
+    /// The number of null items; -1 if the producer didn't count them.
     pub null_count: i64,
-    /// How many items of the buffers are before its own.
+    /// The number of items in the buffers before the first one of the array.
     pub offset: i64,
-    /// How many buffers there are.
+    /// The number of buffers.
     pub n_buffers: i64,
-    /// How many children there are.
+    /// The number of children.
     pub n_children: i64,
-    /// So many pointers to the buffers.
+    /// `n_buffers` pointers to the buffers.
     pub buffers: *mut *const c_void,
-    /// So many pointers to the children.
+    /// `n_children` pointers to the children.
     pub children: *mut *mut ArrowArray,
-    /// The dictionary's items; null where the array has none.
+    /// The dictionary's items; null if the array has no dictionary.
     pub dictionary: *mut ArrowArray,
-    /// What releases it; None where it has been.
+    /// The callback that releases the struct; None if it is released.
     pub release: Option<unsafe extern "C" fn(*mut ArrowArray)>,
-    /// What its producer knows it by.
+    /// A pointer for the producer's own use.
     pub private_data: *mut c_void,
 }
 
-/// `struct ArrowArrayStream`: arrays of one type, one after the other. It is plain data, which is
-/// released by its owner alone: [`Stream::from_raw`](super::Stream::from_raw) becomes that.
+/// `struct ArrowArrayStream`: arrays of one type, one after the other. It is plain data: only its
+/// owner releases it. [`Stream::from_raw`](super::Stream::from_raw) takes it over.
 #[repr(C)]
 #[derive(Debug)]
 pub struct ArrowArrayStream {
-    /// Fills a schema, and answers 0, else an errno.
+    /// Fills a schema. Returns 0, or an errno.
     pub get_schema: Option<unsafe extern "C" fn(*mut ArrowArrayStream, *mut ArrowSchema) -> c_int>,
-    /// Fills an array, one that is released at the end of the stream, and answers 0, else an errno.
+    /// Fills an array, a released one at the end of the stream. Returns 0, or an errno.
     pub get_next: Option<unsafe extern "C" fn(*mut ArrowArrayStream, *mut ArrowArray) -> c_int>,
-    /// What was wrong in the last call, as a text that stands until the next one; null where it
-    /// isn't known.
+    /// Returns the error of the last call, as a text that is valid until the next call; null if
+    /// there is no text.
     pub get_last_error: Option<unsafe extern "C" fn(*mut ArrowArrayStream) -> *const c_char>,
-    /// What releases it; None where it has been.
+    /// The callback that releases the struct; None if it is released.
     pub release: Option<unsafe extern "C" fn(*mut ArrowArrayStream)>,
-    /// What its producer knows it by.
+    /// A pointer for the producer's own use.
     pub private_data: *mut c_void,
 }
 
 impl ArrowSchema {
-    /// One that is released, for a producer to fill.
+    /// Returns a released struct, for a producer to fill.
     #[must_use]
     pub const fn empty() -> ArrowSchema {
         ArrowSchema {
@@ -96,7 +95,7 @@ impl ArrowSchema {
 }
 
 impl ArrowArray {
-    /// One that is released, for a producer to fill.
+    /// Returns a released struct, for a producer to fill.
     #[must_use]
     pub const fn empty() -> ArrowArray {
         ArrowArray {
@@ -115,7 +114,7 @@ impl ArrowArray {
 }
 
 impl ArrowArrayStream {
-    /// One that is released, for a producer to fill.
+    /// Returns a released struct, for a producer to fill.
     #[must_use]
     pub const fn empty() -> ArrowArrayStream {
         ArrowArrayStream {
@@ -130,7 +129,7 @@ impl ArrowArrayStream {
 
 /// A struct of the interface, which has one owner.
 pub(super) trait Raw: Sized {
-    /// One that is released.
+    /// A released struct.
     const EMPTY: Self;
 
     fn release(&self) -> Option<unsafe extern "C" fn(*mut Self)>;
@@ -153,11 +152,11 @@ raw!(ArrowSchema ArrowArray ArrowArrayStream);
 /// A struct that is released when it is dropped, on any thread.
 pub(super) struct Owned<S: Raw>(S);
 
-// SAFETY: `Owned::take` has it of its caller that the struct may be used and released on any
-// thread, and no one else has it.
+// SAFETY: the caller of `Owned::take` promises that the struct may be used and released on any
+// thread, and that no one else has it.
 unsafe impl<S: Raw> Send for Owned<S> {}
 
-// SAFETY: what is behind a `&Owned` is read alone.
+// SAFETY: a `&Owned` only reads the struct.
 unsafe impl<S: Raw> Sync for Owned<S> {}
 
 impl<S: Raw> Owned<S> {
@@ -165,21 +164,22 @@ impl<S: Raw> Owned<S> {
         Owned(S::EMPTY)
     }
 
-    /// Moves the struct here, and leaves one that is released.
+    /// Moves the struct here, and leaves a released one.
     ///
     /// # Safety
     ///
-    /// The pointer is null, or to a struct that may be read and written, and that is released or as
-    /// the interface asks for. It may be used and released on any thread, and no one else does so.
+    /// The pointer is null, or leads to a struct that may be read and written. The struct is
+    /// released or as the interface requires. It may be used and released on any thread, and no one
+    /// else does so.
     pub(super) unsafe fn take(raw: *mut S) -> Owned<S> {
         if raw.is_null() {
             return Owned::empty();
         }
-        // SAFETY: it may be read and written. What the interface calls a move is this copy.
+        // SAFETY: the struct may be read and written. The interface calls this copy a move.
         Owned(unsafe { raw.replace(S::EMPTY) })
     }
 
-    /// The struct, which the caller has to release.
+    /// Returns the struct, which the caller has to release.
     pub(super) fn into_raw(mut self) -> S {
         core::mem::replace(&mut self.0, S::EMPTY)
     }
@@ -200,17 +200,18 @@ impl<S: Raw> Owned<S> {
 impl<S: Raw> Drop for Owned<S> {
     fn drop(&mut self) {
         if let Some(release) = self.0.release() {
-            // SAFETY: it isn't released, and this is its owner. The callback marks it so.
+            // SAFETY: the struct isn't released, and this is its owner. The callback marks it as
+            // released.
             unsafe { release(&raw mut self.0) }
         }
     }
 }
 
-/// What an exported struct points to: each is freed with it, and released where no consumer took it
+/// The structs below an exported one. Each is freed with it, and released unless a consumer took it
 /// over before.
 pub(super) struct Below<S: Raw> {
     pub children: Vec<*mut S>,
-    /// Null where there is none.
+    /// Null if there is none.
     pub dictionary: *mut S,
 }
 
@@ -222,10 +223,10 @@ impl<S: Raw> Below<S> {
         }
     }
 
-    /// With a dictionary in place of the one that there is.
+    /// Replaces the dictionary.
     pub(super) fn set_dictionary(&mut self, dictionary: Owned<S>) {
         let before = core::mem::replace(&mut self.dictionary, dictionary.boxed());
-        // SAFETY: it was of `Owned::boxed`, and is no longer here.
+        // SAFETY: `Owned::boxed` returned it, and it is no longer here.
         unsafe { free(before) };
     }
 }
@@ -239,7 +240,7 @@ impl<S: Raw> Owned<S> {
 impl<S: Raw> Drop for Below<S> {
     fn drop(&mut self) {
         for &raw in self.children.iter().chain([&self.dictionary]) {
-            // SAFETY: it is of `Owned::boxed`, and is freed here alone.
+            // SAFETY: `Owned::boxed` returned it, and only this frees it.
             unsafe { free(raw) };
         }
     }
@@ -247,10 +248,10 @@ impl<S: Raw> Drop for Below<S> {
 
 /// # Safety
 ///
-/// The pointer is null, or of [`Owned::boxed`], and isn't used from now on.
+/// The pointer is null, or [`Owned::boxed`] returned it. No one uses it from now on.
 unsafe fn free<S: Raw>(raw: *mut S) {
     if !raw.is_null() {
-        // SAFETY: as of this function.
+        // SAFETY: the caller promises it.
         drop(unsafe { (Owned::take(raw), Box::from_raw(raw)) });
     }
 }

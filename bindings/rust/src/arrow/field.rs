@@ -1,4 +1,4 @@
-//! What the arrays of a column have in common.
+//! The name and the type that all arrays of a column share.
 
 mod metadata;
 
@@ -13,16 +13,16 @@ use super::error::{ArrowError, Fault};
 use super::ffi::ArrowSchema;
 use super::layout::{self, Layout, Of};
 
-/// How many levels of children and dictionaries are read.
+/// The greatest number of levels of children and dictionaries that this crate reads.
 pub(super) const DEPTH: usize = 64;
-/// How many children a type may have, which other readers count by 32 bits.
+/// The greatest number of children of a type. Other readers count them with 32 bits.
 const MOST_CHILDREN: usize = i32::MAX as usize;
 /// The flag of columns that may have nulls.
 pub(super) const NULLABLE: i64 = 2;
 /// The flag of maps whose keys are sorted.
 pub(super) const SORTED: i64 = 4;
 
-/// The name and the type of a column: what an `ArrowSchema` says, in memory of its own.
+/// The name and the type of a column. It has its own copy of all that an `ArrowSchema` says.
 ///
 /// ```
 /// use vortex_bits::arrow::Field;
@@ -38,20 +38,20 @@ pub struct Field {
     pub(super) format: String,
     pub(super) layout: Layout,
     pub(super) flags: i64,
-    /// As the interface lays it out; empty where there is none.
+    /// In the layout of the interface; empty if there is none.
     pub(super) metadata: Vec<u8>,
     pub(super) children: Vec<Arc<Field>>,
     pub(super) dictionary: Option<Arc<Field>>,
 }
 
 impl Field {
-    /// A column of values, of truth values or of texts, whose type is written as the interface
-    /// does: `i` for `i32`, `tdD` for days, `d:19,2` for decimals, `vu` for views of texts. It may
-    /// have nulls: [`nullable`](Field::nullable) says otherwise.
+    /// Returns a column of values, truth values or texts. `format` is the interface's name of the
+    /// type: `i` for `i32`, `tdD` for days, `d:19,2` for decimals, `vu` for views of texts. The
+    /// column may have nulls; [`nullable`](Field::nullable) changes that.
     ///
     /// # Errors
     ///
-    /// Where it is no such type.
+    /// Returns [`ArrowError::Malformed`] with [`Fault::Format`] if `format` names no such type.
     pub fn new(name: &str, format: &str) -> Result<Field, ArrowError> {
         match Layout::of(format) {
             Some(
@@ -64,8 +64,8 @@ impl Field {
         }
     }
 
-    /// The same as a column with a dictionary of such items, of whose values it has the indices: as
-    /// [`Export::with_dictionary`](super::Export::with_dictionary) makes it.
+    /// Returns the same column with a dictionary of these items. Its values are then indices of
+    /// items, as [`Export::with_dictionary`](super::Export::with_dictionary) makes them.
     ///
     /// ```
     /// use vortex_bits::arrow::{Export, ExportStream, Field};
@@ -84,7 +84,8 @@ impl Field {
     ///
     /// # Errors
     ///
-    /// Where the values aren't whole numbers of 8 to 64 bits, or have a dictionary.
+    /// Returns [`ArrowError::Malformed`] with [`Fault::Dictionary`] if the values aren't integers
+    /// of 8 to 64 bits, or have a dictionary already.
     pub fn with_dictionary(mut self, items: Field) -> Result<Field, ArrowError> {
         if !layout::is_index(&self.format) || self.dictionary.is_some() {
             return Err(Fault::Dictionary.into());
@@ -93,7 +94,7 @@ impl Field {
         Ok(self)
     }
 
-    /// Returns the same as a column that may have nulls, or that has none.
+    /// Returns the same column, which may have nulls or may not.
     ///
     /// ```
     /// use vortex_bits::arrow::Field;
@@ -109,8 +110,8 @@ impl Field {
         self
     }
 
-    /// Returns the same as a column that may have nulls: runs have them in their values, unions in
-    /// their first child.
+    /// Returns the same column, which may have nulls. Run-end-encoded columns have the nulls in
+    /// their values, and unions in their first child.
     pub(super) fn or_null(mut self) -> Field {
         let values = match self.layout {
             Layout::Runs => self.children.get_mut(1),
@@ -136,7 +137,7 @@ impl Field {
         }
     }
 
-    /// The rows of columns, without a name and without nulls.
+    /// Returns the type of a batch, a struct of these columns, without a name and without nulls.
     #[must_use]
     pub fn batch(columns: impl IntoIterator<Item = Field>) -> Field {
         Field {
@@ -146,31 +147,32 @@ impl Field {
         }
     }
 
-    /// The name; empty where there is none.
+    /// Returns the name; empty if there is none.
     #[must_use]
     pub fn name(&self) -> &str {
         &self.name
     }
 
-    /// The type, as the interface writes it; of a column with a dictionary that of the indices.
+    /// Returns the type, as the interface names it. For a column with a dictionary it is the type
+    /// of the indices.
     #[must_use]
     pub fn format(&self) -> &str {
         &self.format
     }
 
-    /// Whether rows may be null.
+    /// Returns whether rows may be null.
     #[must_use]
     pub fn is_nullable(&self) -> bool {
         self.flags & NULLABLE != 0
     }
 
-    /// Those of the children, in their order.
+    /// Returns the fields of the children, in their order.
     pub fn fields(&self) -> impl ExactSizeIterator<Item = &Field> {
         self.children.iter().map(AsRef::as_ref)
     }
 
-    /// Returns the child of a name, the first one of several: of the type of a stream that of a
-    /// column, for an operator that hands it on.
+    /// Returns the child with this name, the first one if several have it. An operator can so look
+    /// up a column in the type of a stream, and pass its field on.
     ///
     /// ```
     /// use vortex_bits::arrow::Field;
@@ -189,13 +191,13 @@ impl Field {
         found.ok_or_else(|| ArrowError::NoColumn { name: name.into() })
     }
 
-    /// How many levels there are: one more than those of the children and the dictionary.
+    /// Returns the number of levels: one more than the children and the dictionary have.
     fn levels(&self) -> usize {
         let below = self.fields().chain(self.dictionary());
         1 + below.map(Field::levels).max().unwrap_or(0)
     }
 
-    /// Whether arrays of the type are read: they have no more levels than that.
+    /// Tests that the type has no more than [`DEPTH`] levels.
     pub(super) fn is_shallow(&self) -> Result<(), Fault> {
         if self.levels() > DEPTH {
             return Err(Fault::Deep(DEPTH));
@@ -203,13 +205,13 @@ impl Field {
         Ok(())
     }
 
-    /// That of the dictionary.
+    /// Returns the field of the dictionary's items; None if there is no dictionary.
     #[must_use]
     pub fn dictionary(&self) -> Option<&Field> {
         self.dictionary.as_deref()
     }
 
-    /// What an error names the child at a place.
+    /// Returns the name of a child in an error: its name, or its index if it has none.
     pub(super) fn name_of(&self, child: usize) -> String {
         name_of(&self.children, child)
     }
@@ -221,11 +223,12 @@ impl Field {
         Err(Fault::RunEnds(self.format.clone()).into())
     }
 
-    /// What a schema says, `depth` levels below the outermost one.
+    /// Reads a schema that is `depth` levels below the outermost one.
     ///
     /// # Safety
     ///
-    /// It is released, or is as the interface asks for: its pointers are null or to what it says.
+    /// The schema is released, or is as the interface requires: each of its pointers is null or
+    /// leads to what it says.
     pub(super) unsafe fn read(schema: &ArrowSchema, depth: usize) -> Result<Field, ArrowError> {
         if schema.release.is_none() {
             return Err(Fault::Released("ArrowSchema").into());
@@ -235,10 +238,10 @@ impl Field {
         }
         // SAFETY: they are null or texts that end with 0.
         let (format, name) = unsafe { (text(schema.format, "format")?, name(schema.name)?) };
-        // SAFETY: it is null or laid out as the interface asks for.
+        // SAFETY: it is null or has the layout of the interface.
         let metadata = unsafe { metadata::read(schema.metadata.cast())? };
         let layout = Layout::of(&format).ok_or_else(|| Fault::Format(format.clone()))?;
-        // SAFETY: as of this function.
+        // SAFETY: the caller promises it.
         let (children, dictionary) =
             unsafe { (children(schema, layout, depth)?, dictionary(schema, depth)?) };
         if dictionary.is_some() && !layout::is_index(&format) {
@@ -269,7 +272,7 @@ fn name_of(children: &[Arc<Field>], child: usize) -> String {
 
 /// # Safety
 ///
-/// As of [`Field::read`].
+/// As for [`Field::read`].
 unsafe fn children(
     schema: &ArrowSchema,
     layout: Layout,
@@ -281,9 +284,9 @@ unsafe fn children(
         return Err(Fault::OutOfRange("n_children", schema.n_children).into());
     }
     for place in 0..number {
-        // SAFETY: there are as many children as it says.
+        // SAFETY: there are `number` children.
         let read = match unsafe { child(schema.children, place) } {
-            // SAFETY: it is the parent's, which isn't released.
+            // SAFETY: it belongs to the parent, which isn't released.
             Ok(child) => unsafe { Field::read(child.as_ref(), depth + 1) },
             Err(fault) => Err(fault.into()),
         };
@@ -296,19 +299,20 @@ unsafe fn children(
 
 /// # Safety
 ///
-/// As of [`Field::read`].
+/// As for [`Field::read`].
 unsafe fn dictionary(schema: &ArrowSchema, depth: usize) -> Result<Option<Arc<Field>>, ArrowError> {
     let Some(dictionary) = NonNull::new(schema.dictionary) else {
         return Ok(None);
     };
-    // SAFETY: as of this function.
+    // SAFETY: the caller promises it.
     let field = unsafe { Field::read(dictionary.as_ref(), depth + 1) };
     field
         .map(|field| Some(Arc::new(field)))
         .map_err(|error| error.under("dictionary"))
 }
 
-/// A number of a struct, which is that of its type where this has one.
+/// Returns a number of a struct as a `usize`, after a test that it is `wanted` if the type fixes
+/// it.
 pub(super) fn count(of: &'static str, got: i64, wanted: Option<i64>) -> Result<usize, Fault> {
     match wanted {
         Some(wanted) if wanted != got => Err(Fault::Number { of, wanted, got }),
@@ -316,36 +320,36 @@ pub(super) fn count(of: &'static str, got: i64, wanted: Option<i64>) -> Result<u
     }
 }
 
-/// The child at a place.
+/// Returns the child at an index.
 ///
 /// # Safety
 ///
-/// The pointer is null, or to more pointers than `place`.
+/// The pointer is null, or leads to more than `place` pointers.
 pub(super) unsafe fn child<S>(children: *mut *mut S, place: usize) -> Result<NonNull<S>, Fault> {
     let children = NonNull::new(children).ok_or(Fault::Null("children"))?;
-    // SAFETY: as of this function.
+    // SAFETY: the caller promises it.
     NonNull::new(unsafe { *children.as_ptr().add(place) }).ok_or(Fault::Null("a child"))
 }
 
 /// # Safety
 ///
-/// The pointer is null, or to a text that ends with 0.
+/// The pointer is null, or leads to a text that ends with 0.
 unsafe fn text(pointer: *const c_char, what: &'static str) -> Result<String, Fault> {
     if pointer.is_null() {
         return Err(Fault::Null(what));
     }
-    // SAFETY: as of this function.
+    // SAFETY: the caller promises it.
     let text = unsafe { CStr::from_ptr(pointer) }.to_str();
     text.map(str::to_owned).map_err(|_| Fault::Utf8(what))
 }
 
 /// # Safety
 ///
-/// As of [`text`].
+/// As for [`text`].
 unsafe fn name(pointer: *const c_char) -> Result<String, Fault> {
     if pointer.is_null() {
         return Ok(String::new());
     }
-    // SAFETY: as of this function.
+    // SAFETY: the caller promises it.
     unsafe { text(pointer, "name") }
 }

@@ -1,8 +1,8 @@
-//! How the items of a type lie in buffers.
+//! How each type stores its items in buffers.
 
 use super::texts::View;
 
-/// What the digits of values mean.
+/// How the bits of a value encode it.
 #[derive(Clone, Copy, Debug, PartialEq, Eq)]
 pub enum Kind {
     Signed,
@@ -12,42 +12,44 @@ pub enum Kind {
     Bytes,
 }
 
-/// What the rows of texts and lists are parts of.
+/// The kind of parts that rows of texts and lists consist of.
 #[derive(Clone, Copy, Debug, PartialEq, Eq)]
 pub enum Of {
     Bytes,
     Items,
 }
 
-/// How the items of a type lie in buffers, of those types that calls read.
+/// How a type stores its items in buffers, for the types that this crate reads.
 #[derive(Clone, Copy, Debug, PartialEq, Eq)]
 pub enum Layout {
-    /// A bit each.
+    /// Each item is a bit.
     Bits,
-    /// So many bytes each.
+    /// Each item has this number of bytes.
     Fixed(Kind, usize),
-    /// In its children.
+    /// The items are in the children.
     Struct,
-    /// From a place up to the next one, as numbers of so many bytes, of a buffer or of the child.
+    /// Each row is a range of a buffer or of the child. The offsets between rows have this number
+    /// of bytes.
     Ranges(usize, Of),
-    /// In views, and in buffers whose sizes the last one has.
+    /// The items are in views and in buffers. The last buffer has the sizes of the others.
     Views,
-    /// So many items of the child each.
+    /// Each row is this number of items of the child.
     Lists(usize),
-    /// From a place of the child on as many items as the next buffer says, both as numbers of so
-    /// many bytes.
+    /// Each row has an offset in the child, and in the next buffer a number of items. Both have
+    /// this number of bytes.
     ListViews(usize),
-    /// In one of so many children each, which a byte says: at its own place where they are sparse,
-    /// else at one that a number of 32 bits says.
+    /// Each item is in one of the children. A byte names the child. The item's index there is its
+    /// own if the union is sparse; otherwise a number of 32 bits is the index.
     Union { children: i64, is_sparse: bool },
-    /// In the second child, each item for as many rows as the first one says.
+    /// Each item of the second child is the value of a run of rows. The first child has the row
+    /// after each run.
     Runs,
-    /// Nowhere: all are null.
+    /// There are no buffers: all items are null.
     Nulls,
 }
 
 impl Layout {
-    /// That of a type; None where no type is written so.
+    /// Returns the layout of a format; None if no type has the format.
     pub fn of(format: &str) -> Option<Layout> {
         use Kind::{Bytes, Float, Signed, Unsigned};
         Some(match format {
@@ -79,10 +81,10 @@ impl Layout {
         })
     }
 
-    /// That of a type with parameters.
+    /// Returns the layout of a format with parameters.
     fn of_parts((name, parameters): (&str, &str)) -> Option<Layout> {
         match name {
-            // The interface has formats that end with 0.
+            // In the interface a format ends at its first 0.
             "tss" | "tsm" | "tsu" | "tsn" if !parameters.contains('\0') => {
                 Some(Layout::Fixed(Kind::Signed, 8))
             }
@@ -106,7 +108,8 @@ impl Layout {
         })
     }
 
-    /// How many buffers an array has; None where arrays differ, which have three at least.
+    /// Returns the number of buffers of an array; None if that differs between arrays. These have
+    /// at least three.
     pub fn buffers(self) -> Option<i64> {
         match self {
             Layout::Bits | Layout::Fixed(..) | Layout::Ranges(_, Of::Items) => Some(2),
@@ -118,7 +121,7 @@ impl Layout {
         }
     }
 
-    /// How many children the type has; None where types differ.
+    /// Returns the number of children of the type; None if that differs between types.
     pub fn children(self) -> Option<i64> {
         match self {
             Layout::Bits
@@ -133,7 +136,8 @@ impl Layout {
         }
     }
 
-    /// Whether arrays of both have the same buffers and numbers of children, and values as wide.
+    /// Returns whether arrays of both have the same buffers, number of children and width of
+    /// values.
     pub fn is_like(self, other: Layout) -> bool {
         match (self, other) {
             (Layout::Fixed(_, width), Layout::Fixed(_, same)) => width == same,
@@ -144,12 +148,12 @@ impl Layout {
         }
     }
 
-    /// Whether the first buffer says which items are valid.
+    /// Returns whether the first buffer has the validity bits.
     pub fn has_validity(self) -> bool {
         !matches!(self, Layout::Union { .. } | Layout::Runs | Layout::Nulls)
     }
 
-    /// Whether these are rows of unions whose items are at places of their own.
+    /// Returns whether this is a dense union, whose items have offsets in the children.
     pub fn is_dense(self) -> bool {
         matches!(
             self,
@@ -160,8 +164,8 @@ impl Layout {
         )
     }
 
-    /// The bytes of an item in the widest of the buffers whose size the length gives, and how many
-    /// items more than rows that one has.
+    /// Returns the bytes of an item in the widest buffer whose size follows from the length, and
+    /// how many more items than rows that buffer has.
     pub fn widest(self) -> (usize, usize) {
         match self {
             Layout::Fixed(_, width) => (width.max(1), 0),
@@ -173,7 +177,7 @@ impl Layout {
         }
     }
 
-    /// The buffers that are there wherever there are rows, by their places, with their names.
+    /// Returns the buffers that must be present if there are rows: their indices and names.
     pub fn wanted(self) -> &'static [(usize, &'static str)] {
         match self {
             Layout::Bits | Layout::Fixed(_, 1..) => &[(1, "values")],
@@ -191,29 +195,29 @@ impl Layout {
     }
 }
 
-/// Whether the values of a format are whole numbers, as the indices of a dictionary are.
+/// Returns whether the values of a format are integers, and can be indices of a dictionary.
 pub(super) fn is_index(format: &str) -> bool {
     matches!(format, "c" | "C" | "s" | "S" | "i" | "I" | "l" | "L")
 }
 
-/// Whether the values of a format are texts, whose bytes are UTF-8.
+/// Returns whether the values of a format are texts, whose bytes are UTF-8.
 pub(super) fn is_text(format: &str) -> bool {
     matches!(format, "u" | "U" | "vu")
 }
 
-/// Whether the values of a format say where runs end.
+/// Returns whether the values of a format can be the ends of runs.
 pub(super) fn is_run_end(format: &str) -> bool {
     matches!(format, "s" | "i" | "l")
 }
 
-/// A number without a sign.
+/// Parses a number without a sign.
 fn digits(text: &str) -> Option<usize> {
     let is_number = text.bytes().all(|it| it.is_ascii_digit());
     text.parse().ok().filter(|_| is_number)
 }
 
-/// The bits of a decimal: 128 where they aren't said. It has as many digits at most as its bits
-/// hold.
+/// Returns the bits of a decimal; 128 if the format has none. Returns None if its digits don't fit
+/// in the bits.
 fn decimal(parameters: &str) -> Option<usize> {
     let mut numbers = parameters.split(',');
     let (digits, scale) = (numbers.next()?, numbers.next()?);
@@ -230,13 +234,13 @@ fn decimal(parameters: &str) -> Option<usize> {
     is_known.then_some(bits)
 }
 
-/// The ids of the types of a union, in the order of its children.
+/// Returns the type ids of a union, in the order of its children.
 pub(super) fn type_ids(format: &str) -> impl Iterator<Item = u8> {
     let ids = format.split_once(':').map_or("", |(_, ids)| ids);
     ids.split(',').filter_map(|id| id.parse().ok())
 }
 
-/// How many ids of types there are: each from 0 to 127, and none twice.
+/// Returns the number of type ids; None unless each is from 0 to 127 and all are different.
 fn distinct(ids: &str) -> Option<i64> {
     if ids.is_empty() {
         return Some(0);

@@ -1,4 +1,4 @@
-//! The numbers and the buffers of a struct, once they are tested.
+//! The numbers and the buffers of an array, after a test.
 
 use alloc::sync::Arc;
 use alloc::vec::Vec;
@@ -10,43 +10,44 @@ use super::ffi::{ArrowArray, Owned};
 use super::field::{Field, child, count};
 use super::layout::Layout;
 
-/// An array of a tree, and what keeps the tree.
+/// An array of a tree of arrays, with the owner of the tree.
 pub(super) struct Node {
     pub field: Arc<Field>,
-    /// How many items are before it in its buffers.
+    /// The number of items before it in its buffers.
     pub offset: usize,
-    /// How many items it has; together with those before they have at most `isize::MAX` bytes.
+    /// The number of items. These and the items before take at most `isize::MAX` bytes.
     pub len: usize,
-    /// How many of them are null, where that is said.
+    /// The number of null items, if the producer reports it.
     pub nulls: Option<usize>,
-    /// A bit for each item; null where all are valid.
+    /// A bit for each item; null if all are valid.
     pub validity: *const u8,
-    /// The bits, the values, the views, or where the rows of texts and lists begin, and one place
-    /// more; null only where these take no bytes, or there are no items.
+    /// The bits, values, views, or offsets of texts and lists (one more than rows). It is null only
+    /// if these take no bytes, or there are no items.
     pub values: *const u8,
-    /// All buffers, as they were given.
+    /// All buffers, as the producer passed them.
     pub buffers: Vec<*const c_void>,
-    /// Those of a struct and of a sparse union have as many items at least as its own end at, those
-    /// of lists of one length as many for each of them.
+    /// Children of a struct and of a sparse union have at least `offset + len` items, those of
+    /// fixed-size lists that number times the length of a list.
     pub children: Vec<Arc<Node>>,
     pub dictionary: Option<Arc<Node>>,
-    /// The outermost array, which is released with the last node of the tree.
+    /// The outermost array. It is released with the last node of the tree.
     _owner: Arc<Owned<ArrowArray>>,
 }
 
-// SAFETY: its pointers are to buffers of `_owner`, which may be released on any thread.
+// SAFETY: the pointers lead to buffers of `_owner`, which may be released on any thread.
 unsafe impl Send for Node {}
 
 // SAFETY: nothing writes to the buffers before they are released.
 unsafe impl Sync for Node {}
 
 impl Node {
-    /// What an array of a type has.
+    /// Reads an array of a type, and tests its numbers.
     ///
     /// # Safety
     ///
-    /// It is released, or is as the interface asks for: its pointers are null or to what it says,
-    /// and what that is stays until `owner`, the array or a parent of it, is released.
+    /// The array is released, or is as the interface requires: each of its pointers is null or
+    /// leads to what it says. That memory stays until `owner`, the array or a parent of it, is
+    /// released.
     pub unsafe fn read(
         array: &ArrowArray,
         field: &Arc<Field>,
@@ -57,7 +58,7 @@ impl Node {
         }
         let (offset, len) = window(array, field.layout)?;
         let nulls = null_count(array)?;
-        // SAFETY: as of this function.
+        // SAFETY: the caller promises it.
         let buffers = unsafe { buffers(array, field.layout)? };
         let (validity, values) = in_use(&buffers, field.layout, len)?;
         let has_validity = field.layout.has_validity();
@@ -77,9 +78,9 @@ impl Node {
             validity: if all_valid { ptr::null() } else { validity },
             values,
             buffers,
-            // SAFETY: as of this function.
+            // SAFETY: the caller promises it.
             children: unsafe { children(array, field, owner)? },
-            // SAFETY: as of this function.
+            // SAFETY: the caller promises it.
             dictionary: unsafe { dictionary(array, field, owner)? },
             _owner: Arc::clone(owner),
         })
@@ -87,18 +88,20 @@ impl Node {
 }
 
 impl Node {
-    /// How many of `len` items are null, where that is said: they are all, or none of all is.
+    /// Returns how many of `len` items are null, if it is known without counting: they are all
+    /// items, or no item is null.
     pub fn nulls_of(&self, len: usize) -> Option<usize> {
         self.nulls.filter(|&nulls| nulls == 0 || len == self.len)
     }
 
-    /// One of the values, which are signed numbers of so many bytes, from the buffer's first on.
+    /// Returns the value at `place`, counted from the buffer's start, as a signed number of `width`
+    /// bytes.
     ///
     /// # Safety
     ///
-    /// The buffer has it.
+    /// The buffer has this value.
     pub unsafe fn number_at(&self, place: usize, width: usize) -> i64 {
-        // SAFETY: as of this function.
+        // SAFETY: the caller promises it.
         unsafe {
             let number = self.values.add(place * width);
             match width {
@@ -110,7 +113,7 @@ impl Node {
     }
 }
 
-/// The offset and the length.
+/// Returns the offset and the length, after a test that the items fit in memory.
 fn window(array: &ArrowArray, layout: Layout) -> Result<(usize, usize), Fault> {
     let (offset, length) = (array.offset, array.length);
     let (start, len) = (
@@ -126,7 +129,7 @@ fn window(array: &ArrowArray, layout: Layout) -> Result<(usize, usize), Fault> {
     }
 }
 
-/// The number of nulls, where it is said.
+/// Returns the number of nulls; None if the producer didn't count them.
 fn null_count(array: &ArrowArray) -> Result<Option<usize>, Fault> {
     let (null_count, length) = (array.null_count, array.length);
     match usize::try_from(null_count) {
@@ -136,14 +139,14 @@ fn null_count(array: &ArrowArray) -> Result<Option<usize>, Fault> {
     }
 }
 
-/// How many buffers an array of views may have: a view names one by a number of 32 bits.
+/// The greatest number of buffers of an array of views: a view names one with a number of 32 bits.
 const MOST_BUFFERS: i64 = i32::MAX as i64 + 4;
 
-/// The pointers to the buffers.
+/// Returns the pointers to the buffers.
 ///
 /// # Safety
 ///
-/// As of [`Node::read`].
+/// As for [`Node::read`].
 unsafe fn buffers(array: &ArrowArray, layout: Layout) -> Result<Vec<*const c_void>, Fault> {
     let too_many = Fault::OutOfRange("n_buffers", array.n_buffers);
     let least = layout.buffers().unwrap_or(array.n_buffers.max(3));
@@ -155,12 +158,12 @@ unsafe fn buffers(array: &ArrowArray, layout: Layout) -> Result<Vec<*const c_voi
     if least > MOST_BUFFERS || buffers.try_reserve_exact(number).is_err() {
         return Err(too_many);
     }
-    // SAFETY: there are as many pointers as it says.
+    // SAFETY: there are `number` pointers.
     buffers.extend((0..number).map(|place| unsafe { *array.buffers.add(place) }));
     Ok(buffers)
 }
 
-/// The buffers of the validity and of the values: null where the layout has none.
+/// Returns the buffers of the validity and of the values; null if the layout has none.
 fn in_use(
     buffers: &[*const c_void],
     layout: Layout,
@@ -179,7 +182,7 @@ fn in_use(
 
 /// # Safety
 ///
-/// As of [`Node::read`].
+/// As for [`Node::read`].
 unsafe fn children(
     array: &ArrowArray,
     field: &Field,
@@ -192,14 +195,14 @@ unsafe fn children(
     let fields = field.children.iter().enumerate();
     let children = fields
         .map(|(place, of)| {
-            // SAFETY: as of this function.
+            // SAFETY: the caller promises it.
             unsafe { nth_child(array, place, of, owner, items) }
                 .map(Arc::new)
                 .map_err(|error| error.under(&field.name_of(place)))
         })
         .collect::<Result<Vec<_>, _>>()?;
     if field.layout == Layout::Runs && len > 0 {
-        // SAFETY: as of this function.
+        // SAFETY: the caller promises it.
         unsafe { runs(&children, offset + len) }.map_err(|fault| {
             let place = usize::from(matches!(fault, Fault::Short { .. }));
             ArrowError::from(fault).under(&field.name_of(place))
@@ -208,7 +211,7 @@ unsafe fn children(
     Ok(children)
 }
 
-/// How many items each child of an array has at least, whose own items end here.
+/// Returns the least number of items that each child needs if the array's items end at `end`.
 fn items_of_child(array: &ArrowArray, layout: Layout, end: usize) -> Result<usize, Fault> {
     let (offset, length) = (array.offset, array.length);
     match layout {
@@ -223,11 +226,11 @@ fn items_of_child(array: &ArrowArray, layout: Layout, end: usize) -> Result<usiz
     }
 }
 
-/// Whether there is a value for each run, and the runs reach up to here.
+/// Tests that each run has a value, and that the runs reach up to `wanted` rows.
 ///
 /// # Safety
 ///
-/// These are nodes of runs' ends, of which there is one, and of values.
+/// The nodes are the ends of runs, at least one, and the values.
 unsafe fn runs(children: &[Arc<Node>], wanted: usize) -> Result<(), Fault> {
     let [ends, values] = children else {
         return Ok(());
@@ -248,11 +251,11 @@ unsafe fn runs(children: &[Arc<Node>], wanted: usize) -> Result<(), Fault> {
     }
 }
 
-/// A child, which has so many items at least.
+/// Reads a child, and tests that it has at least `wanted` items.
 ///
 /// # Safety
 ///
-/// As of [`Node::read`], and there are more children than `place`.
+/// As for [`Node::read`], and there are more than `place` children.
 unsafe fn nth_child(
     array: &ArrowArray,
     place: usize,
@@ -260,7 +263,7 @@ unsafe fn nth_child(
     owner: &Arc<Owned<ArrowArray>>,
     wanted: usize,
 ) -> Result<Node, ArrowError> {
-    // SAFETY: as of this function.
+    // SAFETY: the caller promises it.
     let node = unsafe { Node::read(child(array.children, place)?.as_ref(), field, owner)? };
     if node.len < wanted {
         let got = node.len;
@@ -271,7 +274,7 @@ unsafe fn nth_child(
 
 /// # Safety
 ///
-/// As of [`Node::read`].
+/// As for [`Node::read`].
 unsafe fn dictionary(
     array: &ArrowArray,
     field: &Field,
@@ -279,7 +282,7 @@ unsafe fn dictionary(
 ) -> Result<Option<Arc<Node>>, ArrowError> {
     match (NonNull::new(array.dictionary), &field.dictionary) {
         (None, None) => Ok(None),
-        // SAFETY: as of this function.
+        // SAFETY: the caller promises it.
         (Some(items), Some(field)) => unsafe { Node::read(items.as_ref(), field, owner) }
             .map(|node| Some(Arc::new(node)))
             .map_err(|error| error.under("dictionary")),

@@ -1,21 +1,21 @@
-//! The values of buffers.
+//! The types of values in buffers.
 
 use core::fmt;
 use core::iter::FusedIterator;
 use core::marker::PhantomData;
 use core::ops::Range;
 
-/// A type of the values of a buffer, which any of its bytes make one of.
+/// A type of values in a buffer. Any bytes of its size are a valid value.
 ///
-/// - `i8`, `i16`, `i32` and `i64` are of arrays of signed numbers, dates, times, timestamps,
+/// - `i8`, `i16`, `i32` and `i64` read arrays of signed integers, dates, times, timestamps,
 ///   durations and months of that width, and of decimals of 32 and 64 bits;
-/// - `u8`, `u16`, `u32` and `u64` of unsigned numbers of that width; `u16` also of floats of 16
-///   bits, by their bits;
-/// - `f32` and `f64` of floats of that width;
-/// - `i128` of decimals of 128 bits, whose buffers are often not aligned as it is;
-/// - `[u8; N]` of values of N bytes, whatever these mean;
-/// - `[u64; 2]` and `[i64; 2]` of values of 16 bytes, the lower half first: decimals are filtered
-///   as these ([`values::filter`](crate::values::filter)).
+/// - `u8`, `u16`, `u32` and `u64` read unsigned integers of that width; `u16` also reads floats of
+///   16 bits, as their bits;
+/// - `f32` and `f64` read floats of that width;
+/// - `i128` reads decimals of 128 bits, whose buffers often aren't aligned for it;
+/// - `[u8; N]` reads values of N bytes of any meaning;
+/// - `[u64; 2]` and `[i64; 2]` read values of 16 bytes, the lower half first.
+///   [`values::filter`](crate::values::filter) filters decimals as these.
 #[diagnostic::on_unimplemented(
     message = "no array has values of `{Self}`",
     label = "whole numbers of 8 to 64 bits, `i128`, floats, `[u8; N]`, `[u64; 2]` and `[i64; 2]`"
@@ -28,15 +28,16 @@ pub(super) mod sealed {
 
     use crate::arrow::layout::{Kind, Layout};
 
-    /// Each arrangement of bytes is a value.
+    /// Any bytes of its size are a value.
     pub trait Primitive: Copy + Send + Sync + 'static {
-        /// What arrays of it have, for an error.
+        /// The arrays that it reads, for an error.
         const WANTED: &'static str;
 
-        /// Whether an array of the layout has such values, which are as wide then.
+        /// Returns whether arrays of the layout have such values. These have the width of the type
+        /// then.
         fn is_in(layout: Layout) -> bool;
 
-        /// The type that is said of such values where no other one is.
+        /// Returns the format that an export of these values has by default.
         fn format() -> String;
     }
 
@@ -90,10 +91,10 @@ pub(super) mod sealed {
     }
 }
 
-/// Values that needn't be aligned: [`Array::unaligned`](super::Array::unaligned).
+/// Values at any alignment. [`Array::unaligned`](super::Array::unaligned) returns them.
 #[derive(Clone, Copy)]
 pub struct Unaligned<'a, T> {
-    /// So many of them as one value has, for each.
+    /// `size_of::<T>()` bytes for each value.
     bytes: &'a [u8],
     len: usize,
     values: PhantomData<T>,
@@ -109,65 +110,65 @@ impl<'a, T: Primitive> Unaligned<'a, T> {
         }
     }
 
-    /// How many there are.
+    /// Returns the number of values.
     #[inline]
     #[must_use]
     pub fn len(&self) -> usize {
         self.len
     }
 
-    /// Whether there are none.
+    /// Returns whether there are no values.
     #[inline]
     #[must_use]
     pub fn is_empty(&self) -> bool {
         self.len == 0
     }
 
-    /// The value at a place; None where there is no such place.
+    /// Returns the value at an index; None if the index is out of bounds.
     #[inline]
     #[must_use]
     pub fn get(&self, place: usize) -> Option<T> {
-        // SAFETY: it is one of the values.
+        // SAFETY: `place` is the index of a value.
         (place < self.len).then(|| unsafe { self.read(place) })
     }
 
-    /// The values at a place and at the next one.
+    /// Returns the values at an index and at the next one.
     ///
     /// # Panics
     ///
-    /// If there aren't both.
+    /// Panics unless both exist.
     #[inline]
     pub(super) fn pair(&self, place: usize) -> [T; 2] {
         assert!(place < self.len.saturating_sub(1));
-        // SAFETY: both are among the values.
+        // SAFETY: both are indices of values.
         unsafe { [self.read(place), self.read(place + 1)] }
     }
 
-    /// A value.
+    /// Returns the value at an index.
     ///
     /// # Safety
     ///
-    /// There are more values than `place`.
+    /// There are more than `place` values.
     #[inline]
     unsafe fn read(&self, place: usize) -> T {
         let bytes = self.bytes.as_ptr().cast::<T>();
-        // SAFETY: there are so many bytes of each value, and each arrangement of them is one.
+        // SAFETY: each value has `size_of::<T>()` bytes, and any such bytes are a value.
         unsafe { bytes.add(place).read_unaligned() }
     }
 
-    /// The bytes of the values of a range.
+    /// Returns the bytes of the values in a range.
     pub(super) fn bytes_of(&self, values: Range<usize>) -> &'a [u8] {
         &self.bytes[values.start * size_of::<T>()..values.end * size_of::<T>()]
     }
 
-    /// The values from front to end.
+    /// Returns an iterator over the values.
     #[inline]
     #[must_use]
     pub fn iter(
         self,
     ) -> impl ExactSizeIterator<Item = T> + DoubleEndedIterator + FusedIterator + Clone + use<'a, T>
     {
-        // SAFETY: each place is one of the values.
+        // SAFETY: each `place` is the index of a value.
         (0..self.len).map(move |place| unsafe { self.read(place) })
     }
 }

@@ -1,4 +1,4 @@
-//! Where the rows of texts and lists lie.
+//! The range of bytes or items that each row of texts or lists has.
 
 mod offsets;
 
@@ -12,12 +12,13 @@ use super::primitive::Unaligned;
 use crate::Bitmap;
 pub(super) use offsets::Offset;
 
-/// Where each row lies among the bytes of texts, or among the items of lists:
-/// [`Array::ranges`](super::Array::ranges). No row begins before the one before it ends.
+/// The range of each row, in the bytes of texts or in the items of lists.
+/// [`Array::ranges`](super::Array::ranges) returns it. The ranges ascend: each row begins at the
+/// end of the one before it.
 #[derive(Clone, Copy)]
 pub struct Ranges<'a>(Offsets<'a>);
 
-/// One more than there are rows, or none, each at least the one before.
+/// One offset more than there are rows, or none. Each is at least the one before.
 #[derive(Clone, Copy)]
 pub(super) enum Offsets<'a> {
     Narrow(Unaligned<'a, i32>),
@@ -25,19 +26,19 @@ pub(super) enum Offsets<'a> {
 }
 
 impl<'a> Ranges<'a> {
-    /// Of numbers of 32 bits: each is tested.
+    /// Returns the ranges between offsets of 32 bits, after a test of each offset.
     pub(super) fn narrow(offsets: Unaligned<'a, i32>) -> Result<Self, Fault> {
         offsets::ascend(offsets)?;
         Ok(Ranges(Offsets::Narrow(offsets)))
     }
 
-    /// Of numbers of 64 bits: each is tested.
+    /// Returns the ranges between offsets of 64 bits, after a test of each offset.
     pub(super) fn wide(offsets: Unaligned<'a, i64>) -> Result<Self, Fault> {
         offsets::ascend(offsets)?;
         Ok(Ranges(Offsets::Wide(offsets)))
     }
 
-    /// How many rows there are.
+    /// Returns the number of rows.
     #[inline]
     #[must_use]
     pub fn len(&self) -> usize {
@@ -48,7 +49,7 @@ impl<'a> Ranges<'a> {
         offsets.saturating_sub(1)
     }
 
-    /// Whether there are none.
+    /// Returns whether there are no rows.
     #[inline]
     #[must_use]
     pub fn is_empty(&self) -> bool {
@@ -64,14 +65,15 @@ impl<'a> Ranges<'a> {
         usize::try_from(offset).ok()
     }
 
-    /// Where a row lies; None where there is no such row.
+    /// Returns the range of a row; None if there is no such row.
     #[inline]
     #[must_use]
     pub fn get(&self, row: usize) -> Option<Range<usize>> {
         self.span(row..row.checked_add(1)?)
     }
 
-    /// Which rows pass a test of where they lie, in their order, by one look at each offset.
+    /// Returns a bitmap of the rows whose range passes the test. It calls the test once for each
+    /// row, in order, and reads each offset once.
     #[inline]
     pub(super) fn test(self, test: impl FnMut(Range<usize>) -> bool) -> Bitmap {
         match self.0 {
@@ -80,14 +82,15 @@ impl<'a> Ranges<'a> {
         }
     }
 
-    /// Where the rows of a range lie together; None where there is no such row, or none at all.
+    /// Returns the range from the start of the first row to the end of the last; None if a row
+    /// doesn't exist, or the ranges have no offsets.
     #[inline]
     pub(super) fn span(&self, rows: Range<usize>) -> Option<Range<usize>> {
         Some(self.offset(rows.start)?..self.offset(rows.end)?)
     }
 
-    /// Writes where the rows of a range end that begin at some place in another buffer, as numbers
-    /// of the same width.
+    /// Writes the end offsets of these rows as if the first of them began at `start`, as numbers of
+    /// the same width.
     pub(super) fn write_ends(&self, rows: Range<usize>, start: usize, out: &mut [u8]) {
         match self.0 {
             Offsets::Narrow(offsets) => offsets::write_ends(offsets, rows, start, out),
@@ -95,17 +98,17 @@ impl<'a> Ranges<'a> {
         }
     }
 
-    /// The numbers, of whichever type.
+    /// Returns the offsets, with their width.
     pub(super) fn offsets(self) -> Offsets<'a> {
         self.0
     }
 
-    /// The place behind the last row; 0 where there is none.
+    /// Returns the end of the last row; 0 if there is no row.
     pub(super) fn end(&self) -> usize {
         self.offset(self.len()).unwrap_or(0)
     }
 
-    /// The rows from front to end.
+    /// Returns an iterator over the ranges of the rows.
     #[inline]
     #[must_use]
     pub fn iter(self) -> RangesIter<'a> {
@@ -118,7 +121,7 @@ impl<'a> Ranges<'a> {
     }
 }
 
-/// Where rows lie, from front to end: [`Ranges::iter`].
+/// An iterator over the ranges of rows. [`Ranges::iter`] returns it.
 ///
 /// ```
 /// use vortex_bits::arrow::Export;
@@ -135,13 +138,13 @@ impl<'a> Ranges<'a> {
 pub struct RangesIter<'a> {
     ranges: Ranges<'a>,
     rows: Range<usize>,
-    /// Where the first of the rows begins, and where the last one ends.
+    /// The start of the first row that is left, and the end of the last one.
     start: usize,
     end: usize,
 }
 
 impl RangesIter<'_> {
-    /// The rows that are left.
+    /// Returns the indices of the rows that are left.
     #[inline]
     pub(super) fn rows(&self) -> Range<usize> {
         self.rows.clone()
@@ -235,7 +238,8 @@ impl fmt::Debug for Ranges<'_> {
     }
 }
 
-/// Which of so many rows pass a test of where they lie between offsets that are ascending.
+/// Returns a bitmap of the rows whose range passes the test, for `len` rows between ascending
+/// offsets.
 #[inline]
 fn tested(
     len: usize,

@@ -1,4 +1,4 @@
-//! Fields that are handed on as schemas.
+//! Exports fields as schemas.
 
 use alloc::boxed::Box;
 use alloc::ffi::CString;
@@ -9,7 +9,7 @@ use super::export::number;
 use super::ffi::{ArrowSchema, Below, Owned};
 use super::field::Field;
 
-/// What a schema keeps until it is released.
+/// The memory of a schema, until it is released.
 struct Held {
     format: CString,
     name: CString,
@@ -44,12 +44,12 @@ impl Field {
             private_data: ptr::null_mut(),
         };
         schema.private_data = Box::into_raw(held).cast();
-        // SAFETY: it is as the interface asks for, and no one else has it.
+        // SAFETY: it is as the interface requires, and no one else has it.
         unsafe { Owned::take(&raw mut schema) }
     }
 }
 
-/// The text up to its first character 0.
+/// Returns the text up to its first character 0.
 pub(super) fn c_string(text: &str) -> CString {
     let text = text.split('\0').next().unwrap_or_default();
     CString::new(text).unwrap_or_default()
@@ -57,9 +57,9 @@ pub(super) fn c_string(text: &str) -> CString {
 
 /// # Safety
 ///
-/// The schema is of [`Field::schema`], and isn't released.
+/// [`Field::schema`] made the schema, and it isn't released.
 unsafe extern "C" fn release(schema: *mut ArrowSchema) {
-    // SAFETY: as of this function.
+    // SAFETY: the caller promises it.
     unsafe {
         drop(Box::from_raw((*schema).private_data.cast::<Held>()));
         schema.write(ArrowSchema::empty());

@@ -1,4 +1,4 @@
-//! Streams of arrays, which are read and handed on.
+//! Streams of arrays: imports and exports.
 
 use alloc::boxed::Box;
 use alloc::ffi::CString;
@@ -17,12 +17,12 @@ use super::ffi::{ArrowArray, ArrowArrayStream, ArrowSchema, Owned};
 use super::field::Field;
 use super::schema::c_string;
 
-/// The errno where a producer says none, or panics.
+/// The errno if a producer reports none, or panics.
 const EIO: i32 = 5;
 
-/// The arrays of a stream of the Arrow C stream interface, one after the other: of most producers
-/// batches, whose [`columns`](Array::columns) are read. Behind an error there are none. Arrays stay
-/// when the stream is dropped, which releases it.
+/// An iterator over the arrays of a stream of the Arrow C stream interface. Most producers send
+/// batches, whose [`columns`](Array::columns) you read. After an error it ends. Dropping the stream
+/// releases it; its arrays remain usable.
 pub struct Stream {
     raw: Owned<ArrowArrayStream>,
     field: Arc<Field>,
@@ -30,34 +30,34 @@ pub struct Stream {
 }
 
 impl Stream {
-    /// Takes the stream over, which is left released, and asks it for its type.
+    /// Takes over the stream, leaves `stream` released, and requests the type of its arrays.
     ///
     /// # Errors
     ///
-    /// Where the stream answers an error, and where a struct isn't as the interface asks for. The
-    /// stream is released then.
+    /// Returns [`ArrowError::Stream`] if the stream reports an error, and [`ArrowError::Malformed`]
+    /// if a struct isn't as the interface requires. The stream is released then.
     ///
     /// # Safety
     ///
-    /// The pointer is null, or to a stream that may be read and written, and that is released or
-    /// as the interface asks for; so are the schema and the arrays that it gives, as of
-    /// [`Array::from_raw`]. The callbacks may be called on any thread, by one at a time, and no one
-    /// else calls them.
+    /// The pointer is null, or leads to a stream that may be read and written. The stream is
+    /// released or is as the interface requires. So are the schema and the arrays that it returns,
+    /// as for [`Array::from_raw`]. The callbacks may be called on any thread, one at a time, and no
+    /// one else calls them.
     pub unsafe fn from_raw(stream: *mut ArrowArrayStream) -> Result<Stream, ArrowError> {
-        // SAFETY: as of this function.
+        // SAFETY: the caller promises it.
         let mut raw = unsafe { Owned::take(stream) };
         if raw.is_released() {
             return Err(Fault::Released("ArrowArrayStream").into());
         }
         let get_schema = raw.get().get_schema.ok_or(Fault::Null("get_schema"))?;
         let mut schema = Owned::<ArrowSchema>::empty();
-        // SAFETY: it isn't released, and the schema may be written.
+        // SAFETY: the stream isn't released, and the schema may be written.
         let errno = unsafe { get_schema(raw.as_mut_ptr(), schema.as_mut_ptr()) };
         answered(&mut raw, "get_schema", errno)?;
         if raw.is_released() {
             return Err(Fault::Released("ArrowArrayStream").into());
         }
-        // SAFETY: as of this function.
+        // SAFETY: the caller promises it.
         let field = unsafe { Field::read(schema.get(), 0)? };
         Ok(Stream {
             raw,
@@ -66,31 +66,31 @@ impl Stream {
         })
     }
 
-    /// The type of its arrays.
+    /// Returns the type of the stream's arrays.
     #[must_use]
     pub fn field(&self) -> &Field {
         &self.field
     }
 
     fn get_next(&mut self) -> Result<Option<Array>, ArrowError> {
-        // Its last call may have released it, with the array that it gave.
+        // The last call may have released the stream together with its array.
         if self.raw.is_released() {
             return Err(Fault::Released("ArrowArrayStream").into());
         }
         let get_next = self.raw.get().get_next.ok_or(Fault::Null("get_next"))?;
         let mut array = Owned::<ArrowArray>::empty();
-        // SAFETY: it isn't released, and the array may be written.
+        // SAFETY: the stream isn't released, and the array may be written.
         let errno = unsafe { get_next(self.raw.as_mut_ptr(), array.as_mut_ptr()) };
         answered(&mut self.raw, "get_next", errno)?;
         if array.is_released() {
             return Ok(None);
         }
-        // SAFETY: as of `from_raw`.
+        // SAFETY: the caller of `from_raw` promised it.
         unsafe { Array::of(array, &self.field) }.map(Some)
     }
 }
 
-/// What a call of the stream answered.
+/// Returns the error of a call of the stream, if its errno isn't 0.
 fn answered(
     raw: &mut Owned<ArrowArrayStream>,
     call: &'static str,
@@ -100,7 +100,7 @@ fn answered(
         return Ok(());
     }
     let text = match raw.get().get_last_error {
-        // SAFETY: it isn't released, and the call before this one answered an error.
+        // SAFETY: the stream isn't released, and its last call returned an error.
         Some(get_last_error) if !raw.is_released() => unsafe {
             text(get_last_error(raw.as_mut_ptr()))
         },
@@ -112,12 +112,12 @@ fn answered(
 
 /// # Safety
 ///
-/// The pointer is null, or to a text that ends with 0.
+/// The pointer is null, or leads to a text that ends with 0.
 unsafe fn text(pointer: *const c_char) -> String {
     if pointer.is_null() {
         return String::new();
     }
-    // SAFETY: as of this function.
+    // SAFETY: the caller promises it.
     let text = unsafe { CStr::from_ptr(pointer) };
     text.to_string_lossy().into_owned()
 }
@@ -146,8 +146,8 @@ impl fmt::Debug for Stream {
     }
 }
 
-/// A stream of the Arrow C stream interface over batches of this program, to be handed on to any
-/// consumer. Where none takes it, it is released when this is dropped.
+/// A stream of the Arrow C stream interface over batches of this program, for any consumer.
+/// Dropping it releases the stream, unless a consumer has taken it.
 ///
 /// ```
 /// use vortex_bits::arrow::{Export, ExportStream, Field, StreamError};
@@ -166,17 +166,18 @@ pub struct ExportStream {
 }
 
 impl ExportStream {
-    /// Returns a stream of the batches, which are made when the consumer asks for them.
+    /// Returns a stream of these batches. The iterator makes each batch when the consumer requests
+    /// it.
     ///
-    /// Each batch has the names and the types of `field`. It may say of a column that it has no
-    /// nulls where `field` says that it may have some, and the other way round if no row is null;
-    /// its metadata may be any. The consumer of another batch sees EINVAL, and in which column it
-    /// differs first. What reads arrays of others may have a `?` in it: an [`ArrowError`] becomes a
-    /// [`StreamError`].
+    /// Each batch has the names and the types of `field`. A column that may have nulls in `field`
+    /// may be one without nulls in a batch. The reverse is allowed too, if no row is null. The
+    /// metadata may differ. If a batch doesn't match, the consumer gets EINVAL and a text that
+    /// names the first column that differs. Code that makes batches from another producer's arrays
+    /// can use `?`: an [`ArrowError`] becomes a [`StreamError`].
     ///
-    /// If the iterator panics, the consumer sees EIO with the text of the panic, then and in each
-    /// later call. Without the feature `std`, or with `panic = "abort"`, the program aborts; so it
-    /// does if the iterator panics when it is dropped with the stream.
+    /// If the iterator panics, the consumer gets EIO with the text of the panic, from this call and
+    /// from each later one. Without the feature `std`, or with `panic = "abort"`, the program
+    /// aborts. It also aborts if the iterator panics when it is dropped with the stream.
     #[must_use]
     pub fn new<I>(field: Field, batches: I) -> ExportStream
     where
@@ -194,26 +195,26 @@ impl ExportStream {
             release: Some(release),
             private_data: Box::into_raw(producer).cast(),
         };
-        // SAFETY: it is as the interface asks for, and no one else has it.
+        // SAFETY: it is as the interface requires, and no one else has it.
         let raw = unsafe { Owned::take(&raw mut raw) };
         ExportStream { raw }
     }
 
-    /// The struct, which its new owner has to release, on any thread: it is plain data here, and
-    /// keeps its memory where no one does.
+    /// Returns the struct. Its new owner has to release it, on any thread: it is plain data here,
+    /// so its memory leaks if no one does.
     #[must_use]
     pub fn into_raw(self) -> ArrowArrayStream {
         self.raw.into_raw()
     }
 
-    /// Returns the stream as this crate reads those of others.
+    /// Returns the stream as an imported one, for readers of this crate.
     ///
     /// # Errors
     ///
-    /// Returns an error if the type has more than 64 levels of children and dictionaries, as
-    /// [`Export::try_into_array`] does.
+    /// Returns [`ArrowError::Malformed`] with [`Fault::Deep`] if the type has more than 64 levels
+    /// of children and dictionaries, as [`Export::try_into_array`] does.
     pub fn into_stream(mut self) -> Result<Stream, ArrowError> {
-        // SAFETY: it is as the interface asks for, and this is its only owner.
+        // SAFETY: it is as the interface requires, and this is its only owner.
         unsafe { Stream::from_raw(self.raw.as_mut_ptr()) }
     }
 }
@@ -224,32 +225,33 @@ impl fmt::Debug for ExportStream {
     }
 }
 
-/// What makes the batches of a stream.
+/// The producer of a stream's batches.
 struct Producer {
     field: Field,
     batches: Box<dyn Iterator<Item = Result<Export, StreamError>> + Send>,
-    /// Of the last call.
+    /// The text of the last call's error.
     error: CString,
 }
 
 impl Producer {
-    /// The producer of a stream.
+    /// Returns the producer of a stream.
     ///
     /// # Safety
     ///
-    /// The stream is of [`ExportStream::new`], and isn't released; no other reference is alive.
+    /// [`ExportStream::new`] made the stream, and it isn't released; no other reference to the
+    /// producer is alive.
     unsafe fn of<'a>(stream: *mut ArrowArrayStream) -> &'a mut Producer {
-        // SAFETY: as of this function.
+        // SAFETY: the caller promises it.
         unsafe { &mut *(*stream).private_data.cast::<Producer>() }
     }
 
-    /// The next batch; of an iterator that panics the error of that, from then on.
+    /// Returns the next batch. After a panic of the iterator it returns that error in each call.
     fn next(&mut self) -> Result<Owned<ArrowArray>, StreamError> {
         let next = caught(|| self.next_batch());
         next.unwrap_or_else(|error| {
             let again = Box::new(core::iter::repeat(error.clone()).map(Err));
             let broken = core::mem::replace(&mut self.batches, again);
-            // Its own state may be broken, so that this may panic too.
+            // The iterator's state may be broken, so that dropping it may panic too.
             drop(caught(|| drop(broken)));
             Err(error)
         })
@@ -269,14 +271,14 @@ impl Producer {
     }
 }
 
-/// What the type of a stream is compared with, and is called.
+/// The words for a batch and for the type of its stream in an error.
 const OF_BATCH: Between = Between {
     rows: "the batch",
     wanted: "the stream",
     has_names: true,
 };
 
-/// What is made, or the error of a panic, which no caller in C can see.
+/// Returns the result of `make`, or an error if it panics: no caller in C can catch a panic.
 #[cfg(feature = "std")]
 fn caught<T>(make: impl FnOnce() -> T) -> Result<T, StreamError> {
     use std::panic::{AssertUnwindSafe, catch_unwind};
@@ -287,7 +289,7 @@ fn caught<T>(make: impl FnOnce() -> T) -> Result<T, StreamError> {
     })
 }
 
-/// The text of a panic; empty where it has none.
+/// Returns the text of a panic; empty if it has none.
 #[cfg(feature = "std")]
 fn text_of(panic: Box<dyn core::any::Any + Send>) -> String {
     let other = match panic.downcast::<String>() {
@@ -297,14 +299,14 @@ fn text_of(panic: Box<dyn core::any::Any + Send>) -> String {
     match other.downcast::<&str>() {
         Ok(text) => String::from(*text),
         Err(other) => {
-            // What it is may panic too when it is dropped.
+            // Dropping the panic's value may panic too.
             drop(caught(|| drop(other)));
             String::new()
         }
     }
 }
 
-/// What is made: a panic aborts the program.
+/// Returns the result of `make`: a panic aborts the program.
 #[cfg(not(feature = "std"))]
 #[allow(clippy::unnecessary_wraps, reason = "as with `std`")]
 fn caught<T>(make: impl FnOnce() -> T) -> Result<T, StreamError> {
@@ -312,7 +314,7 @@ fn caught<T>(make: impl FnOnce() -> T) -> Result<T, StreamError> {
 }
 
 unsafe extern "C" fn get_schema(stream: *mut ArrowArrayStream, out: *mut ArrowSchema) -> c_int {
-    // SAFETY: as the interface asks for.
+    // SAFETY: the consumer calls it as the interface requires.
     unsafe {
         let producer = Producer::of(stream);
         producer.error = CString::default();
@@ -322,7 +324,7 @@ unsafe extern "C" fn get_schema(stream: *mut ArrowArrayStream, out: *mut ArrowSc
 }
 
 unsafe extern "C" fn get_next(stream: *mut ArrowArrayStream, out: *mut ArrowArray) -> c_int {
-    // SAFETY: as the interface asks for.
+    // SAFETY: the consumer calls it as the interface requires.
     let producer = unsafe { Producer::of(stream) };
     let (array, errno, text) = match producer.next() {
         Ok(array) => (array, 0, String::new()),
@@ -330,13 +332,13 @@ unsafe extern "C" fn get_next(stream: *mut ArrowArrayStream, out: *mut ArrowArra
         Err(StreamError { errno, text }) => (Owned::empty(), errno, text),
     };
     producer.error = c_string(&text);
-    // SAFETY: as the interface asks for.
+    // SAFETY: the consumer calls it as the interface requires.
     unsafe { out.write(array.into_raw()) };
     errno
 }
 
 unsafe extern "C" fn get_last_error(stream: *mut ArrowArrayStream) -> *const c_char {
-    // SAFETY: as the interface asks for.
+    // SAFETY: the consumer calls it as the interface requires.
     let producer = unsafe { Producer::of(stream) };
     if producer.error.is_empty() {
         return ptr::null();
@@ -345,7 +347,8 @@ unsafe extern "C" fn get_last_error(stream: *mut ArrowArrayStream) -> *const c_c
 }
 
 unsafe extern "C" fn release(stream: *mut ArrowArrayStream) {
-    // SAFETY: as the interface asks for: the stream isn't released, and of `ExportStream::new`.
+    // SAFETY: the consumer calls it as the interface requires: `ExportStream::new` made the stream,
+    // and it isn't released.
     unsafe {
         drop(Box::from_raw((*stream).private_data.cast::<Producer>()));
         stream.write(ArrowArrayStream::empty());

@@ -1,4 +1,4 @@
-//! The bytes of texts.
+//! The bytes of texts and binary values, row by row.
 
 mod predicates;
 
@@ -11,8 +11,8 @@ use super::error::Fault;
 use super::ranges::{Ranges, RangesIter};
 use crate::Validity;
 
-/// The bytes of each row of texts, or of binary values, that is valid:
-/// [`Array::texts`](super::Array::texts).
+/// The bytes of each valid row of texts or binary values. [`Array::texts`](super::Array::texts)
+/// returns it.
 #[derive(Clone)]
 pub struct Texts<'a> {
     rows: Rows<'a>,
@@ -21,13 +21,14 @@ pub struct Texts<'a> {
 
 #[derive(Clone)]
 enum Rows<'a> {
-    /// One behind the other.
+    /// The rows follow each other in one buffer.
     Joined(Ranges<'a>, &'a [u8]),
-    /// Each in its view, or in a buffer.
+    /// Each row is in its view, or in one of the buffers.
     Views(&'a [View], Vec<&'a [u8]>),
 }
 
-/// The length; then up to 12 bytes, or the first four, a buffer, and the place in it.
+/// The length; then up to 12 bytes, or the first four bytes, the buffer's index and the offset in
+/// it.
 pub(super) type View = [u8; 16];
 
 impl<'a> Texts<'a> {
@@ -36,7 +37,7 @@ impl<'a> Texts<'a> {
         Texts { rows, valid }
     }
 
-    /// Each view of a valid row is tested.
+    /// Returns the texts of views, after a test of each view of a valid row.
     pub(super) fn views(
         views: &'a [View],
         buffers: Vec<&'a [u8]>,
@@ -54,21 +55,21 @@ impl<'a> Texts<'a> {
         Ok(Texts { rows, valid })
     }
 
-    /// How many rows there are.
+    /// Returns the number of rows.
     #[inline]
     #[must_use]
     pub fn len(&self) -> usize {
         self.valid.len()
     }
 
-    /// Whether there are none.
+    /// Returns whether there are no rows.
     #[inline]
     #[must_use]
     pub fn is_empty(&self) -> bool {
         self.len() == 0
     }
 
-    /// The bytes of a row; None where it is null, or there is no such row.
+    /// Returns the bytes of a row; None if it is null, or there is no such row.
     #[inline]
     #[must_use]
     pub fn get(&self, row: usize) -> Option<&'a [u8]> {
@@ -81,14 +82,14 @@ impl<'a> Texts<'a> {
         }
     }
 
-    /// Which rows are valid: as of [`Array::validity`](super::Array::validity).
+    /// Returns which rows are valid, as [`Array::validity`](super::Array::validity) does.
     #[inline]
     #[must_use]
     pub fn validity(&self) -> Validity<'a> {
         self.valid
     }
 
-    /// The rows from front to end; None for those that are null.
+    /// Returns an iterator over the rows. A null row is None.
     #[inline]
     #[must_use]
     pub fn iter(&self) -> TextsIter<'a, '_> {
@@ -101,7 +102,7 @@ impl<'a> Texts<'a> {
     }
 }
 
-/// Texts, or binary values, from front to end: [`Texts::iter`].
+/// An iterator over texts or binary values. [`Texts::iter`] returns it.
 ///
 /// ```
 /// use vortex_bits::arrow::Export;
@@ -117,7 +118,7 @@ impl<'a> Texts<'a> {
 #[derive(Clone)]
 pub struct TextsIter<'a, 'b> {
     source: Source<'a, 'b>,
-    /// Of all rows, those too that were walked.
+    /// The validity of all rows, including those that the iterator has passed.
     valid: Validity<'a>,
 }
 
@@ -127,7 +128,7 @@ enum Source<'a, 'b> {
     Views(Range<usize>, &'a [View], &'b [&'a [u8]]),
 }
 
-/// The text of a row that a step of the rows gives.
+/// Takes a step over the rows, and returns the text of the row that it reaches.
 macro_rules! step {
     ($walk:expr, $next:ident($($n:expr)?), |$rows:ident| $row:expr) => {{
         let valid = $walk.valid;
@@ -172,7 +173,7 @@ impl<'a> Iterator for TextsIter<'a, '_> {
         self.next_back()
     }
 
-    /// The layout is matched once, and not for each row.
+    /// It matches the layout once, and not for each row.
     #[inline]
     fn fold<A, F: FnMut(A, Option<&'a [u8]>) -> A>(self, first: A, mut f: F) -> A {
         let valid = self.valid.bits();
@@ -227,7 +228,7 @@ impl fmt::Debug for Texts<'_> {
     }
 }
 
-/// What a view shows; None where that lies in none of the buffers.
+/// Returns the bytes of a view; None if they aren't in any of the buffers.
 fn viewed<'a>(view: &'a View, buffers: &[&'a [u8]]) -> Option<&'a [u8]> {
     let number = |at: usize| {
         let bytes = view[at..].first_chunk()?;

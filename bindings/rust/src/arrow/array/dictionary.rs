@@ -12,7 +12,7 @@ use crate::{BitIndex, Bitmap, TakeValuesError, Value, values};
 /// Values and their validity.
 type Column<T> = (Vec<T>, Option<Bitmap>);
 
-/// The call of a column with a dictionary, for the type of its indices.
+/// Calls a method of a column with a dictionary with the type of its indices.
 macro_rules! by_index {
     ($column:ident.$call:ident::<$($type:ident,)? _>($items:expr)) => {
         match $column.node.field.layout {
@@ -31,13 +31,13 @@ macro_rules! by_index {
 
 /// Dictionaries.
 impl Array {
-    /// The values of a column with a dictionary: of each row the item at its index, in new memory;
-    /// and which rows are valid: those whose index is, and whose item is. None where neither has
-    /// bits of validity: all are valid then. The values of null rows are any, and the indices of
-    /// these aren't looked at: what they are is left open by the interface.
+    /// Decodes a column with a dictionary: returns the item of each row in new memory, and which
+    /// rows are valid. A row is valid if its index and its item are. The validity is `None` if
+    /// neither has validity bits: all rows are valid then. The values of null rows are arbitrary.
+    /// Their indices are not read, because the interface does not define them.
     ///
-    /// It is [`values::take_valid`] of the items and [`Validity::take_valid`] of their validity, by
-    /// [`values`](Array::values) of the index type that the column has.
+    /// It is the same as [`values::take_valid`] of the items and [`Validity::take_valid`] of their
+    /// validity, with [`values`](Array::values) of the column's index type.
     ///
     /// ```
     /// use vortex_bits::Bitmap;
@@ -55,9 +55,11 @@ impl Array {
     ///
     /// # Errors
     ///
-    /// Of a column without a dictionary, of items of another type, where the buffer of the indices
-    /// or of the items isn't aligned as these are, and at the first index that is valid and names
-    /// no item.
+    /// - Returns [`ArrowError::Type`] if the column has no dictionary, or the items have another
+    ///   type.
+    /// - Returns [`ArrowError::Unaligned`] if the buffer of the indices or of the items isn't
+    ///   aligned for its type.
+    /// - Returns [`ArrowError::Take`] with the first valid index that names no item.
     ///
     /// [`Validity::take_valid`]: crate::Validity::take_valid
     pub fn dictionary_values<T: Primitive + Value>(&self) -> Result<Column<T>, ArrowError> {
@@ -65,9 +67,9 @@ impl Array {
         by_index!(self.values_taken::<T, _>(&items))
     }
 
-    /// The texts of a column with a dictionary of these, with the column's name and the items'
-    /// type: of each row the item at its index, in new memory, or null where its index or the item
-    /// is. It is [`Export::texts_taken_valid`] by the index type that the column has.
+    /// Decodes a column with a dictionary of texts: returns the text of each row in new memory, or
+    /// null if its index or its item is null. The export has the column's name and the items' type.
+    /// It is the same as [`Export::texts_taken_valid`] with the column's index type.
     ///
     /// ```
     /// use vortex_bits::arrow::Export;
@@ -84,18 +86,21 @@ impl Array {
     ///
     /// # Errors
     ///
-    /// Of a column without a dictionary, where the buffer of the indices isn't aligned as these
-    /// are, as of [`Array::texts`] of the items, at the first index that is valid and names no
-    /// item, and where the texts are longer together than 2^31 - 1 bytes and their offsets have 32
-    /// bits, or than memory can hold: few items may be those of many rows.
+    /// - Returns [`ArrowError::Type`] if the column has no dictionary.
+    /// - Returns [`ArrowError::Unaligned`] if the buffer of the indices isn't aligned for them.
+    /// - Returns the errors of [`Array::texts`] of the items.
+    /// - Returns [`ArrowError::Take`] with the first valid index that names no item.
+    /// - Returns [`ArrowError::LongTexts`] if the texts are longer together than 2^31 - 1 bytes and
+    ///   their offsets have 32 bits, and [`ArrowError::Memory`] if memory can't hold them. Few
+    ///   items may belong to many rows.
     pub fn dictionary_texts(&self) -> Result<Export, ArrowError> {
         let items = self.items_of_indices()?;
         let texts = by_index!(self.texts_taken::<_>(&items))?;
         Ok(texts.named(&self.node.field.name))
     }
 
-    /// Returns the index of each row of a column with a dictionary, of whichever type the indices
-    /// are; 0 of a null row. Each index that is valid names an item then.
+    /// Returns the index of each row of a column with a dictionary, for any index type; 0 for a
+    /// null row. Each valid index names an item.
     ///
     /// ```
     /// use vortex_bits::arrow::Export;
@@ -109,8 +114,8 @@ impl Array {
     ///
     /// # Errors
     ///
-    /// Returns [`ArrowError::Type`] of a column without a dictionary, and [`ArrowError::Take`] with
-    /// the first index that is valid and names no item.
+    /// Returns [`ArrowError::Type`] if the column has no dictionary, and [`ArrowError::Take`] with
+    /// the first valid index that names no item.
     pub fn dictionary_indices(&self) -> Result<Vec<usize>, ArrowError> {
         let items = self.items_of_indices()?;
         by_index!(self.places_among::<_>(items.len))
@@ -131,7 +136,7 @@ impl Array {
         indices.iter().enumerate().map(place).collect()
     }
 
-    /// An index names none of so many items.
+    /// Returns the error of an index that names none of `values` items.
     #[cold]
     pub(in crate::arrow) fn lost(&self, position: usize, index: i128, values: usize) -> ArrowError {
         self.not_taken(TakeValuesError::Index {
@@ -141,7 +146,7 @@ impl Array {
         })
     }
 
-    /// Whether each index that is valid names one of so many items.
+    /// Tests that each valid index names one of `items` items.
     pub(in crate::arrow) fn name_items(&self, items: usize) -> Result<(), ArrowError> {
         match self.first_lost(items)? {
             None => Ok(()),
@@ -149,7 +154,7 @@ impl Array {
         }
     }
 
-    /// The first index that is valid and isn't one below so many, behind its row.
+    /// Returns the first valid index that names none of `items` items, with its row before it.
     pub(in crate::arrow) fn first_lost(
         &self,
         items: usize,
@@ -188,7 +193,7 @@ impl Array {
         let values = values.map_err(|error| self.of_items(error))?;
         let taken = values::try_take_valid(values, indices, valid);
         let taken = taken.map_err(|error| self.not_taken(error))?;
-        // The indices are tested by now.
+        // `try_take_valid` has tested the indices.
         let valid = valid_items?.take_valid(indices, valid);
         Ok((taken, valid))
     }
@@ -198,7 +203,8 @@ impl Array {
         taken.map_err(|error| self.of_items(error))
     }
 
-    /// An error of the items, as one of the column: of its indices where they name none.
+    /// Returns an error of the items as one of the column. `Take` is an error of the column's
+    /// indices.
     #[cold]
     fn of_items(&self, error: ArrowError) -> ArrowError {
         match (error, &self.node.field.name) {

@@ -1,4 +1,4 @@
-//! Rows of no one width: texts and lists.
+//! Rows of variable width: texts and lists.
 
 use alloc::vec::Vec;
 use core::ffi::c_void;
@@ -14,8 +14,9 @@ use crate::arrow::texts::{Texts, View};
 
 /// Texts and lists.
 impl Array {
-    /// Where each row of texts lies among the [`bytes`](Array::bytes), or each row of lists among
-    /// the [`items`](Array::items). It looks at each once; those of null rows are any.
+    /// Returns the range of each row: of texts in the [`bytes`](Array::bytes), of lists in the
+    /// [`items`](Array::items). It reads each offset once. The ranges of null rows are arbitrary,
+    /// but in bounds.
     ///
     /// ```
     /// use vortex_bits::arrow::Export;
@@ -28,8 +29,10 @@ impl Array {
     ///
     /// # Errors
     ///
-    /// Of another type, where a row isn't behind the one before it, and where the last one ends
-    /// behind the items, or behind the last row of the array that these are a part of.
+    /// Returns [`ArrowError::Type`] if the array isn't of texts or lists. Returns
+    /// [`ArrowError::Malformed`] with [`Fault::Range`] if an offset is below the one before it,
+    /// with [`Fault::Short`] if the rows end after the last item, and with [`Fault::Back`] if these
+    /// rows are a slice and end after the last row of the array.
     pub fn ranges(&self) -> Result<Ranges<'_>, ArrowError> {
         let ranges = self.offsets()?;
         if let Some(items) = self.node.children.first() {
@@ -58,8 +61,9 @@ impl Array {
         Ok(ranges)
     }
 
-    /// Whether these are no part of texts or lists that ends behind the last row of all. There are
-    /// bytes or items up to that one's end, and offsets that go back would have a part read more.
+    /// Tests that a slice of texts or lists doesn't end after the last row of the whole array. The
+    /// bytes or items reach up to the end of that row, so offsets that go back could make a slice
+    /// read past them.
     pub(in crate::arrow) fn ends_with_all(&self) -> Result<(), ArrowError> {
         let [own, all] = [self.start + self.len, self.node.offset + self.node.len];
         match self.node.field.layout {
@@ -75,7 +79,7 @@ impl Array {
         }
     }
 
-    /// The bytes of each row of texts, or of binary values, that is valid. It looks at each place
+    /// Returns the bytes of each valid row of texts or binary values. It reads each offset or view
     /// once.
     ///
     /// ```
@@ -91,7 +95,9 @@ impl Array {
     ///
     /// # Errors
     ///
-    /// Of another type, and where a row isn't behind the one before it, or lies in no buffer.
+    /// Returns [`ArrowError::Type`] if the array has another type. Returns
+    /// [`ArrowError::Malformed`] if an offset is below the one before it, if a valid row isn't in a
+    /// buffer, or if a buffer that rows need is null.
     pub fn texts(&self) -> Result<Texts<'_>, ArrowError> {
         let Some(views) = self.views() else {
             let (ranges, bytes) = self.joined()?;
@@ -104,20 +110,21 @@ impl Array {
         texts.map_err(|fault| self.malformed(fault))
     }
 
-    /// The first row that is valid and no UTF-8, of texts or binary values.
+    /// Returns the first valid row of texts or binary values that isn't UTF-8.
     pub(in crate::arrow) fn first_not_utf8(&self) -> Result<Option<usize>, ArrowError> {
         let is_wrong = |row: Option<&[u8]>| row.is_some_and(|it| from_utf8(it).is_err());
         Ok(self.texts()?.iter().position(is_wrong))
     }
 
-    /// The views of an array of these; None of another type. Those of null rows are any.
+    /// Returns the views of an array of views; None for another type. Those of null rows are
+    /// arbitrary.
     pub(in crate::arrow) fn views(&self) -> Option<&[View]> {
         let has_views = self.node.field.layout == Layout::Views;
         // SAFETY: there is a view for each item.
         has_views.then(|| unsafe { self.items_of::<View>(self.len) })
     }
 
-    /// The buffers of views, whose sizes the last one has.
+    /// Returns the buffers of views. The last buffer has their sizes.
     pub(in crate::arrow) fn view_buffers(&self) -> Result<Vec<&[u8]>, Fault> {
         let [_, _, buffers @ .., sizes] = &self.node.buffers[..] else {
             return Ok(Vec::new());
@@ -131,7 +138,7 @@ impl Array {
             match usize::try_from(size) {
                 Ok(0) => Ok(&[][..]),
                 Ok(_) if bytes.is_null() => Err(Fault::NoBuffer("bytes")),
-                // SAFETY: it has as many bytes.
+                // SAFETY: the buffer has this number of bytes.
                 Ok(len) if isize::try_from(len).is_ok() => {
                     Ok(unsafe { slice::from_raw_parts(bytes.cast(), len) })
                 }
@@ -141,7 +148,7 @@ impl Array {
         buffers.iter().enumerate().map(buffer).collect()
     }
 
-    /// Where the rows of list views begin and how many items they have, both as numbers of so many
+    /// Returns the offsets of list views and their sizes in items, both as numbers of `width`
     /// bytes.
     pub(in crate::arrow) fn list_view_numbers(&self, width: usize) -> [&[u8]; 2] {
         let is_wide = self.node.field.layout == Layout::ListViews(width);
@@ -156,7 +163,7 @@ impl Array {
         })
     }
 
-    /// The ids of the rows' types, of a union.
+    /// Returns the type ids of a union's rows.
     pub(in crate::arrow) fn type_ids(&self) -> &[u8] {
         if self.len == 0 || !matches!(self.node.field.layout, Layout::Union { .. }) {
             return &[];
@@ -166,11 +173,11 @@ impl Array {
         unsafe { slice::from_raw_parts(ids.add(self.start), self.len) }
     }
 
-    /// Where a row of a dense union is among the items of its child.
+    /// Returns the index of a row of a dense union in its child.
     ///
     /// # Panics
     ///
-    /// If there is no such row, or the union isn't dense.
+    /// Panics if there is no such row, or the union isn't dense.
     pub(in crate::arrow) fn union_offset(&self, row: usize) -> i32 {
         assert!(row < self.len && self.node.field.layout.is_dense());
         let offsets = self.node.buffers[1].cast::<i32>();
@@ -178,16 +185,17 @@ impl Array {
         unsafe { offsets.add(self.start + row).read_unaligned() }
     }
 
-    /// The bytes of texts, or of binary values, those of the rows before these too.
+    /// Returns the bytes of texts or of binary values, including those of the rows before these.
     ///
     /// # Errors
     ///
-    /// As of [`ranges`](Array::ranges), and where there are bytes and no buffer.
+    /// Returns the errors of [`ranges`](Array::ranges), and [`ArrowError::Malformed`] if the rows
+    /// have bytes and the buffer is null.
     pub fn bytes(&self) -> Result<&[u8], ArrowError> {
         Ok(self.joined()?.1)
     }
 
-    /// Where the rows of texts, or of binary values, lie, and the bytes, by one pass over the
+    /// Returns the ranges of texts or binary values, and the bytes, after one pass over the
     /// offsets.
     pub(in crate::arrow) fn joined(&self) -> Result<(Ranges<'_>, &[u8]), ArrowError> {
         self.has_bytes()?;
@@ -202,7 +210,7 @@ impl Array {
         }
     }
 
-    /// The bytes of texts up to where the rows end.
+    /// Returns the bytes of texts up to the end of the rows.
     fn bytes_up_to(&self, end: usize) -> Result<&[u8], ArrowError> {
         if end == 0 {
             return Ok(&[]);
@@ -211,16 +219,16 @@ impl Array {
         if bytes.is_null() {
             return Err(self.malformed(Fault::NoBuffer("bytes")));
         }
-        // SAFETY: the rows end where all do or before, and the buffer has as many bytes as the last
-        // offset of all says, at most `isize::MAX`.
+        // SAFETY: no row ends after the last one of the array. The buffer has the number of bytes
+        // that the last offset says, at most `isize::MAX`.
         Ok(unsafe { slice::from_raw_parts(bytes, end) })
     }
 
-    /// The items of lists, those of other rows too.
+    /// Returns the items of lists, including those of other rows.
     ///
     /// # Errors
     ///
-    /// Of another type.
+    /// Returns [`ArrowError::Type`] if the array isn't of lists.
     pub fn items(&self) -> Result<Array, ArrowError> {
         match (self.node.field.layout, self.node.children.first()) {
             (Layout::Ranges(_, Of::Items), Some(items)) => Ok(Array::whole(items)),

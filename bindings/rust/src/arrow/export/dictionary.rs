@@ -1,4 +1,4 @@
-//! Values that are handed on as indices of a dictionary.
+//! Exports values as indices of a dictionary.
 
 use alloc::sync::Arc;
 
@@ -8,9 +8,9 @@ use crate::arrow::layout;
 
 /// Dictionaries.
 impl Export {
-    /// Adds the items that the values are indices of, as of texts that are there once each: the
-    /// consumer reads the items. Each index that is valid is compared with the number of items,
-    /// once; those of null rows may be any.
+    /// Adds a dictionary: the values become indices of these items, such as distinct texts, and the
+    /// consumer reads the items. It compares each valid index with the number of items. The indices
+    /// of null rows may be any number.
     ///
     /// ```
     /// use vortex_bits::arrow::Export;
@@ -20,13 +20,13 @@ impl Export {
     /// let valid = [true, true, false, true].into();
     /// let rows = Export::values(vec![1i8, 1, -7, 0], Some(valid)).with_dictionary(prices())?;
     ///
-    /// // A null's index may be anything.
+    /// // A null's index may be any number.
     /// let rows = rows.into_array();
     /// let (items, valid) = (rows.dictionary().unwrap(), rows.validity()?);
     /// let indices = rows.values()?;
     /// let taken = values::take_valid::<f64, i8>(items.values()?, indices, valid);
     /// assert_eq!(taken, [12.0, 12.0, 0.0, 9.5]);
-    /// // Which are valid counts the items' validity in, and both are one call too.
+    /// // The validity covers the items' nulls too, and `dictionary_values` returns both at once.
     /// assert!(items.validity()?.take_valid(indices, valid) == valid.bits().map(Into::into));
     /// assert_eq!(rows.dictionary_values::<f64>()?.0, taken);
     ///
@@ -37,23 +37,25 @@ impl Export {
     ///
     /// # Errors
     ///
-    /// Returns an error if the values aren't whole numbers of 8 to 64 bits or have a dictionary,
-    /// and [`ArrowError::Take`] with the first index that is valid and names no item.
+    /// Returns [`ArrowError::Malformed`] with [`Fault::Dictionary`] if the values aren't integers
+    /// of 8 to 64 bits or have a dictionary already. Returns [`ArrowError::Take`] with the first
+    /// valid index that names no item.
     pub fn with_dictionary(self, items: Export) -> Result<Export, ArrowError> {
         self.may_have_dictionary()?;
         self.look(|indices| indices.name_items(items.len))?;
         Ok(self.of_items(items))
     }
 
-    /// [`Export::with_dictionary`] without the pass over the indices.
+    /// Adds a dictionary as [`Export::with_dictionary`] does, without the pass over the indices.
     ///
     /// # Errors
     ///
-    /// Returns an error if the values aren't whole numbers of 8 to 64 bits or have a dictionary.
+    /// Returns [`ArrowError::Malformed`] with [`Fault::Dictionary`] if the values aren't integers
+    /// of 8 to 64 bits or have a dictionary already.
     ///
     /// # Safety
     ///
-    /// Each index that is valid names an item, or every consumer of the array tests them, as
+    /// Each valid index names an item, or every consumer of the array tests the indices, as
     /// [`Array::dictionary_values`](crate::arrow::Array::dictionary_values) does.
     pub unsafe fn with_dictionary_unchecked(self, items: Export) -> Result<Export, ArrowError> {
         self.may_have_dictionary()?;
@@ -69,7 +71,7 @@ impl Export {
 
     fn of_items(mut self, items: Export) -> Export {
         let array = self.array.as_mut_ptr();
-        // SAFETY: the array is of `Held::array`, which made what is behind `private_data`.
+        // SAFETY: `Held::array` made the array, and its `private_data`.
         unsafe {
             let below = &raw mut (*(*array).private_data.cast::<Held>()).below;
             (*below).set_dictionary(items.array);

@@ -1,4 +1,4 @@
-//! Values that are handed on as those of another type.
+//! Converts exported values to other types, without a copy.
 
 use super::Export;
 use crate::arrow::array::Array;
@@ -8,13 +8,14 @@ use crate::arrow::layout::{self, Layout, Of};
 
 /// Types.
 impl Export {
-    /// Returns the same values as those of another type, written as the interface does: `i32` as
-    /// days `tdD`, `i128` as decimals `d:19,2`.
+    /// Returns the same values as another type. `format` is the interface's name of the type: `i32`
+    /// values become days with `tdD`, `i128` values become decimals with `d:19,2`.
     ///
-    /// Values of one width become each other. Texts become binary values, `u` as `z`; binary values
-    /// become texts if each valid row is UTF-8, which takes a pass over the bytes. Maps become
-    /// lists. Indices of a dictionary become those of another sign if each valid one keeps its
-    /// number. Whether decimals have as many digits as their type isn't tested.
+    /// Values convert to another type of the same width. Texts convert to binary values, `u` to
+    /// `z`. Binary values convert to texts if each valid row is UTF-8, which takes a pass over the
+    /// bytes. Maps convert to lists. Indices of a dictionary convert to the other signedness if
+    /// each valid index keeps its number. It doesn't test that decimals have only the digits of
+    /// their type.
     ///
     /// ```
     /// use vortex_bits::arrow::Export;
@@ -32,9 +33,10 @@ impl Export {
     ///
     /// # Errors
     ///
-    /// Returns an error if no type is written so, and [`ArrowError::Format`] with both formats if
-    /// the values aren't shown to be of it: by a row if one isn't. The types of children stay, so
-    /// that no list, union or struct gets other children, another length or other ids of types.
+    /// Returns [`ArrowError::Malformed`] if no type has the format. Returns [`ArrowError::Format`]
+    /// with both formats if the conversion isn't allowed, and with the first row whose value
+    /// doesn't fit. Children keep their types, so a list, union or struct can't get other children,
+    /// another length or other type ids.
     pub fn with_format(self, format: &str) -> Result<Export, ArrowError> {
         let layout = Layout::of(format).ok_or_else(|| Fault::Format(format.into()))?;
         let Some(proof) = Proof::of(&self.field, format, layout) else {
@@ -51,18 +53,19 @@ impl Export {
         }
     }
 
-    /// [`Export::with_format`] without a look at the values, which also gives lists of one length,
-    /// list views, maps and unions another format.
+    /// Returns the values as another type as [`Export::with_format`] does, without a test of the
+    /// values. It also converts fixed-size lists, list views, maps and unions.
     ///
     /// # Errors
     ///
-    /// Returns an error if no type is written so, or if its arrays have other buffers, values of
-    /// another width or another number of children.
+    /// Returns [`ArrowError::Malformed`] if no type has the format. Returns [`ArrowError::Format`]
+    /// if arrays of the format have other buffers, values of another width or another number of
+    /// children.
     ///
     /// # Safety
     ///
-    /// The array is one of this format, as the interface asks for: texts are UTF-8, lists have
-    /// their items, types of a union are among its ids, and indices name items of the dictionary.
+    /// The array is as the interface requires for this format: texts are UTF-8, lists have their
+    /// items, type ids of a union are among its ids, and indices name items of the dictionary.
     pub unsafe fn with_format_unchecked(self, format: &str) -> Result<Export, ArrowError> {
         let layout = Layout::of(format).ok_or_else(|| Fault::Format(format.into()))?;
         let is_index = self.field.dictionary.is_none() || layout::is_index(format);
@@ -92,18 +95,18 @@ impl Export {
     }
 }
 
-/// What has to be looked at before values are those of another format.
+/// The test that values need before a conversion.
 enum Proof {
     None,
-    /// That the valid rows are UTF-8.
+    /// Each valid row is UTF-8.
     Texts,
-    /// That each valid index is one of an item, and below the numbers whose highest digit is a
-    /// sign in one of the formats.
+    /// Each valid index names an item, and is below this number. At the number, the highest bit is
+    /// a sign in one of the two formats.
     Below(usize),
 }
 
 impl Proof {
-    /// What it takes for values of a type to be of a format; None where nothing shows it.
+    /// Returns the test that a conversion needs; None if the conversion isn't allowed.
     fn of(field: &Field, format: &str, layout: Layout) -> Option<Proof> {
         if format == field.format {
             return Some(Proof::None);
@@ -134,7 +137,7 @@ impl Proof {
     }
 }
 
-/// The row of the first valid index that names no item, or isn't below a number.
+/// Returns the row of the first valid index that names no item, or isn't below `end`.
 fn first_index_above(indices: &Array, end: usize) -> Result<Option<usize>, ArrowError> {
     let items = indices.dictionary().map_or(0, |items| items.len());
     Ok(indices.first_lost(items.min(end))?.map(|(row, _)| row))

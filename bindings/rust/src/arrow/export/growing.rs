@@ -1,4 +1,4 @@
-//! Texts that grow by those of batches.
+//! Texts that grow by rows of batches.
 
 use alloc::sync::Arc;
 use alloc::vec;
@@ -12,9 +12,9 @@ use crate::arrow::field::Field;
 use crate::arrow::layout::{self, Layout, Of};
 use crate::{Bitmap, BitmapMut, Mask};
 
-/// Texts of one owner, to which rows are added one by one, or those that a mask keeps of a batch,
-/// as [`values::filter_onto`](crate::values::filter_onto) adds values. [`Export::from`](Export)
-/// hands them on as texts of the type `U`, without a copy.
+/// Texts in memory of their own that grow. It appends rows one by one, or those of a batch that a
+/// mask selects, as [`values::filter_onto`](crate::values::filter_onto) appends values.
+/// [`Export::from`](Export) exports them as texts of the type `U`, without a copy.
 ///
 /// ```
 /// use vortex_bits::Bits;
@@ -32,14 +32,14 @@ use crate::{Bitmap, BitmapMut, Mask};
 /// # Ok::<(), vortex_bits::arrow::ArrowError>(())
 /// ```
 pub struct TextsMut {
-    /// Where the rows end, behind a 0.
+    /// The end of each row, after a first 0.
     ends: Vec<i64>,
     bytes: Vec<u8>,
     valid: BitmapMut,
 }
 
 impl TextsMut {
-    /// No rows.
+    /// Returns texts without rows.
     #[must_use]
     pub fn new() -> TextsMut {
         TextsMut {
@@ -49,33 +49,33 @@ impl TextsMut {
         }
     }
 
-    /// How many rows there are.
+    /// Returns the number of rows.
     #[must_use]
     pub fn len(&self) -> usize {
         self.valid.len()
     }
 
-    /// Whether there are none.
+    /// Returns whether there are no rows.
     #[must_use]
     pub fn is_empty(&self) -> bool {
         self.len() == 0
     }
 
-    /// Adds a row, which is null where the text is None. Aborts the program if memory runs out.
+    /// Appends a row, which is null if the text is None. Aborts the program if memory runs out.
     #[inline]
     pub fn append(&mut self, text: Option<&str>) {
         self.valid.append(text.is_some());
         self.push(text.unwrap_or_default().as_bytes());
     }
 
-    /// Adds the rows of texts that a mask keeps, in their order, with their validity: all where it
-    /// is None. Aborts the program if memory runs out.
+    /// Appends the rows of texts that a mask selects, in their order, with their validity; all rows
+    /// if the mask is None. Aborts the program if memory runs out.
     ///
     /// # Errors
     ///
     /// Returns [`ArrowError::Mask`] if the mask has another number of bits than there are rows,
-    /// [`ArrowError::Type`] if the rows aren't texts, binary values among them, and the errors of
-    /// [`Array::texts`]. No row is added then.
+    /// [`ArrowError::Type`] if the rows aren't texts (binary values are not), and the errors of
+    /// [`Array::texts`]. No row is appended on an error.
     pub fn append_kept(&mut self, texts: &Array, mask: impl Mask) -> Result<(), ArrowError> {
         texts.is_for(&mask)?;
         if !layout::is_text(texts.field().format()) {
@@ -91,7 +91,7 @@ impl TextsMut {
         Ok(())
     }
 
-    /// The rows with another validity.
+    /// Exports the rows with another validity.
     #[track_caller]
     pub(super) fn export(self, valid: Option<Bitmap>) -> Export {
         exported(self.ends, self.bytes, valid)
@@ -118,7 +118,7 @@ impl fmt::Debug for TextsMut {
     }
 }
 
-/// The rows, without a copy of their bytes.
+/// Exports the rows, without a copy of their bytes.
 impl From<TextsMut> for Export {
     fn from(texts: TextsMut) -> Export {
         exported(texts.ends, texts.bytes, Some(texts.valid.share()))

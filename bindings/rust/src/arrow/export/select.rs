@@ -1,5 +1,5 @@
-//! Rows of any type that are handed on: those that a mask keeps, those at indices, and those of
-//! several arrays.
+//! Exports selected rows of any type: those of a mask, those at indices, and those of several
+//! arrays.
 
 mod fixed;
 mod joined;
@@ -28,14 +28,14 @@ use rows::{Rows, Runs};
 
 /// Rows of any type.
 impl Array {
-    /// Returns the rows that a mask keeps, in their order, with the name, the type, the flags and
-    /// the metadata that they have: of a batch the rows of each column, so that `select * where` is
-    /// one call.
+    /// Returns the rows that a mask selects, in their order, with their name, type, flags and
+    /// metadata. For a batch it selects the rows of each column, so that `select * where` is one
+    /// call.
     ///
-    /// What is kept is copied into new memory: numbers, truth values and texts, the columns of
-    /// structs, the items of lists and unions, and a value for each run that has a row. The buffers
-    /// of views, the items of list views and the dictionary are shared. A batch without columns
-    /// keeps its number of rows.
+    /// It copies the selected rows into new memory: numbers, truth values and texts, the columns of
+    /// structs, the items of lists and unions, and one value for each run that still has a row. It
+    /// shares the buffers of views, the items of list views and the dictionary. A batch without
+    /// columns keeps its number of rows.
     ///
     /// ```
     /// use vortex_bits::arrow::Export;
@@ -61,10 +61,10 @@ impl Array {
     ///
     /// # Errors
     ///
-    /// Returns [`ArrowError::Mask`] if the mask has another number of bits than there are rows,
-    /// [`ArrowError::Malformed`] if rows of texts or lists go back, runs end before the rows or a
-    /// row of a union is of no child, and [`ArrowError::Memory`] if there is no memory for what is
-    /// kept.
+    /// - Returns [`ArrowError::Mask`] if the mask has another number of bits than there are rows.
+    /// - Returns [`ArrowError::Malformed`] if offsets of texts or lists go back, runs end before
+    ///   the rows do, or a row of a union names no child.
+    /// - Returns [`ArrowError::Memory`] if memory runs out for the copies.
     #[doc(alias("where", "compress", "select"))]
     pub fn filter(&self, mask: impl Mask) -> Result<Export, ArrowError> {
         self.is_for(&mask)?;
@@ -78,8 +78,8 @@ impl Array {
         }
     }
 
-    /// Returns the rows at indices, in their order, as [`filter`](Array::filter) returns those that
-    /// a mask keeps: an index may be there more than once.
+    /// Returns the rows at indices, in the order of the indices, as [`filter`](Array::filter)
+    /// returns those of a mask. An index may occur more than once. This is also called gather.
     ///
     /// ```
     /// use vortex_bits::arrow::Export;
@@ -97,20 +97,21 @@ impl Array {
     ///
     /// # Errors
     ///
-    /// Returns [`ArrowError::Take`] with the first index that isn't one of a row,
-    /// [`ArrowError::LongTexts`] and [`ArrowError::TooLong`] if offsets of 32 bits or the ends of
-    /// runs can't tell where the rows end, and the errors of `filter`.
+    /// - Returns [`ArrowError::Take`] with the first index that names no row.
+    /// - Returns [`ArrowError::LongTexts`] or [`ArrowError::TooLong`] if offsets of 32 bits or the
+    ///   ends of runs can't represent the ends of the rows.
+    /// - Returns the errors of `filter`.
     #[doc(alias = "gather")]
     pub fn take<I: BitIndex>(&self, indices: &[I]) -> Result<Export, ArrowError> {
         self.take_valid(indices, None::<Bits<'_>>)
     }
 
-    /// Returns the rows at the indices that are valid, and null rows for the others, whatever these
-    /// are: as of [`take`](Array::take), of a column that may have nulls if some are.
+    /// Returns the rows at the valid indices as [`take`](Array::take) does, and a null row for each
+    /// other index, whatever its number is. If there is such an index, the column may have nulls.
     ///
-    /// What a null row of a struct or of a list of one length has in its children is null too where
-    /// these may have nulls, else 0, false, an empty text or list. A null row of a union is one of
-    /// its first child.
+    /// Within a null row of a struct or of a fixed-size list, the children are null too if they may
+    /// have nulls; otherwise they are 0, false, an empty text or an empty list. A null row of a
+    /// union belongs to its first child.
     ///
     /// ```
     /// use vortex_bits::Bits;
@@ -126,10 +127,11 @@ impl Array {
     ///
     /// # Errors
     ///
-    /// Returns [`ArrowError::Take`] if the validity isn't as long as the indices, with the first
-    /// index that is valid and isn't one of a row, and if a null row would have to name an item of
-    /// a dictionary without items; [`ArrowError::Type`] of null rows of a union without children;
-    /// and the errors of `take`.
+    /// - Returns [`ArrowError::Take`] if the validity doesn't have one bit per index, with the
+    ///   first valid index that names no row, and if a null row would have to name an item of an
+    ///   empty dictionary.
+    /// - Returns [`ArrowError::Type`] for null rows of a union without children.
+    /// - Returns the errors of `take`.
     pub fn take_valid<I: BitIndex>(
         &self,
         indices: &[I],
@@ -147,7 +149,7 @@ impl Array {
         export(field, slice::from_ref(self), rows)
     }
 
-    /// Whether a mask has a bit for each row.
+    /// Tests that a mask has one bit per row.
     pub(in crate::arrow) fn is_for(&self, mask: &impl Mask) -> Result<(), ArrowError> {
         let (rows, bits) = (self.len, mask.mask_len().unwrap_or(self.len));
         if bits == rows {
@@ -157,7 +159,8 @@ impl Array {
         Err(ArrowError::Mask { column, bits, rows })
     }
 
-    /// The rows at indices: any, or 0, where an index isn't valid.
+    /// Returns the indices as row numbers. The number at an index that isn't valid is 0 or
+    /// arbitrary.
     fn places<I: BitIndex>(
         &self,
         indices: &[I],
@@ -190,12 +193,13 @@ impl Array {
 
 /// Rows of several arrays.
 impl Export {
-    /// Returns the rows of arrays, one behind the other, with the name, the type, the flags and the
-    /// metadata of a field, as of the stream whose batches they are: no rows where there is no
-    /// array.
+    /// Returns the rows of arrays, one array after the other, with the name, type, flags and
+    /// metadata of a field, such as that of the stream whose batches they are. Without arrays there
+    /// are no rows.
     ///
-    /// The rows are copied as by [`Array::filter`]. Arrays that share a dictionary go on sharing
-    /// it; of others the items are put one behind the other too, and the indices follow.
+    /// It copies the rows as [`Array::filter`] does. Arrays that share a dictionary continue to
+    /// share it. Otherwise the items of all dictionaries are put one after the other too, and the
+    /// indices are adjusted.
     ///
     /// ```
     /// use vortex_bits::arrow::{Export, Field};
@@ -216,10 +220,11 @@ impl Export {
     ///
     /// # Errors
     ///
-    /// Returns [`ArrowError::Field`] if an array isn't of the type of the field, or has a null
-    /// where the field has none; [`ArrowError::LongTexts`] and [`ArrowError::TooLong`] if offsets
-    /// of 32 bits, the ends of runs or the indices of a dictionary can't tell all rows; and the
-    /// errors of `filter`.
+    /// - Returns [`ArrowError::Field`] if an array doesn't have the type of the field, or has a
+    ///   null and the field allows none.
+    /// - Returns [`ArrowError::LongTexts`] or [`ArrowError::TooLong`] if offsets of 32 bits, the
+    ///   ends of runs or the indices of a dictionary can't represent all rows.
+    /// - Returns the errors of `filter`.
     pub fn concat(field: &Field, arrays: &[Array]) -> Result<Export, ArrowError> {
         for array in arrays {
             if let Some(difference) = difference_of(array, field, &OF_ARRAY) {
@@ -244,7 +249,7 @@ fn export(field: Field, of: &[Array], rows: Rows<'_>) -> Result<Export, ArrowErr
     })
 }
 
-/// Rows of arrays of a type.
+/// Copies rows of arrays of one type.
 fn selected(field: &Field, of: &[Array], rows: Rows<'_>) -> Result<Owned<ArrowArray>, ArrowError> {
     let nulls = match field.layout {
         Layout::Nulls => Nulls::Unmarked(rows.len()),
@@ -274,7 +279,7 @@ fn selected(field: &Field, of: &[Array], rows: Rows<'_>) -> Result<Owned<ArrowAr
     Ok(made.array(rows.len(), nulls))
 }
 
-/// An error of a child, as one of the column.
+/// Returns an error of a child with the names of the child and of the column.
 #[cold]
 fn below(field: &Field, place: usize, error: ArrowError) -> ArrowError {
     let error = match &field.children[place].name {
@@ -287,14 +292,14 @@ fn below(field: &Field, place: usize, error: ArrowError) -> ArrowError {
     }
 }
 
-/// The child at a place of each array, whole.
+/// Returns the child at `place` of each array, whole.
 fn whole(of: &[Array], place: usize) -> Vec<Array> {
     of.iter()
         .map(|it| Array::whole(&it.node.children[place]))
         .collect()
 }
 
-/// So many values of a width, all 0.
+/// Allocates `len` values of `width` bytes, all 0.
 fn zeroed(field: &Field, len: usize, width: usize) -> Result<AlignedBytes, ArrowError> {
     let bytes = len.checked_mul(width);
     bytes
@@ -305,7 +310,7 @@ fn zeroed(field: &Field, len: usize, width: usize) -> Result<AlignedBytes, Arrow
         })
 }
 
-/// No bytes, and memory for so many.
+/// Allocates capacity for `bytes` bytes, without contents.
 fn with_room(field: &Field, bytes: usize) -> Result<AlignedBytes, ArrowError> {
     AlignedBytes::try_with_capacity(bytes).ok_or_else(|| ArrowError::Memory {
         column: field.name.clone(),
@@ -313,7 +318,7 @@ fn with_room(field: &Field, bytes: usize) -> Result<AlignedBytes, ArrowError> {
     })
 }
 
-/// Writes a number of one of the widths of whole numbers, which holds it.
+/// Writes an integer of `width` bytes. The caller has tested that it fits.
 fn put(bytes: &mut [u8], place: usize, width: usize, number: usize) {
     let number = u64::try_from(number).unwrap_or(u64::MAX);
     let out = &mut bytes[place * width..][..width];

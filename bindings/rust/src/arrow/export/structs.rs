@@ -1,4 +1,4 @@
-//! Rows of columns that are handed on.
+//! Exports rows of several columns.
 
 use alloc::vec::Vec;
 use core::ptr;
@@ -10,12 +10,12 @@ use crate::arrow::field::Field;
 
 /// Structs.
 impl Export {
-    /// Rows of columns, which the consumer finds by their names. Of no column there are no rows:
-    /// [`structs`](Export::structs) has a number of them.
+    /// Returns a batch: rows of columns, which the consumer finds by their names. Without columns
+    /// the batch has no rows: [`structs`](Export::structs) has a parameter for the number of rows.
     ///
     /// # Panics
     ///
-    /// Where the columns are of different lengths.
+    /// Panics if the columns have different lengths.
     #[must_use]
     #[track_caller]
     pub fn batch(columns: impl IntoIterator<Item = Export>) -> Export {
@@ -24,8 +24,9 @@ impl Export {
         Export::structs(len, columns, None)
     }
 
-    /// Returns so many rows of columns, and which of them are valid: all where that is None, as of a
-    /// batch. A batch of which a query reads no column has its number of rows so.
+    /// Returns `len` rows of columns. `valid` has a bit per row, true if the row isn't null; None
+    /// means that all are valid, as in a batch. A batch of no columns can have rows this way, for a
+    /// query that reads none.
     ///
     /// ```
     /// use vortex_bits::Bitmap;

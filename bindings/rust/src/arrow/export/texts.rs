@@ -1,4 +1,4 @@
-//! Texts that are handed on.
+//! Exports texts.
 
 use alloc::sync::Arc;
 use alloc::vec;
@@ -17,13 +17,13 @@ use crate::{BitIndex, Bitmap, Bits, Mask, TakeError, TakeValuesError, Validity, 
 
 /// Texts.
 impl Export {
-    /// Texts, which are copied one behind the other, and which of them are valid; all are where
-    /// that is None. Their type is `U`, whose offsets have 64 bits: [`narrow`](Export::narrow)
-    /// makes it `u`.
+    /// Returns an array of texts, copied one after the other into one buffer. `valid` has a bit per
+    /// text, true if the text isn't null; None means that all are valid. The type is `U`, with
+    /// offsets of 64 bits; [`narrow`](Export::narrow) converts it to `u`.
     ///
     /// # Panics
     ///
-    /// Where there isn't a bit for each text.
+    /// Panics if there isn't one bit per text.
     #[must_use]
     #[track_caller]
     pub fn texts(
@@ -37,7 +37,8 @@ impl Export {
         rows.export(valid)
     }
 
-    /// [`Export::texts`] of items that may be null: None is one that is.
+    /// Returns an array of texts as [`Export::texts`] does. An item that is None becomes a null
+    /// row.
     ///
     /// ```
     /// use vortex_bits::arrow::Export;
@@ -56,9 +57,9 @@ impl Export {
         Export::from(rows)
     }
 
-    /// The rows of texts, or of binary values, that a mask keeps, in their order, with the name and
-    /// the type that they have, and with their validity. The bytes of those that are valid are
-    /// copied; of views the views alone are, and the buffers shared.
+    /// Returns the rows of texts or binary values that a mask selects, in their order, with their
+    /// name, type and validity. It copies the bytes of valid rows only. For views it copies the
+    /// views and shares the buffers.
     ///
     /// ```
     /// use vortex_bits::Bits;
@@ -74,17 +75,18 @@ impl Export {
     ///
     /// # Errors
     ///
-    /// As of [`Array::texts`].
+    /// Returns the errors of [`Array::texts`], and the errors of [`Array::filter`] for texts
+    /// between offsets.
     ///
     /// # Panics
     ///
-    /// Where `mask` isn't one for these rows.
+    /// Panics if the mask doesn't have one bit per row.
     #[track_caller]
     pub fn texts_kept(texts: &Array, mask: impl Mask) -> Result<Export, ArrowError> {
         let mask = mask.of_len(texts.len());
         let Some(views) = texts.views() else {
             texts.has_bytes()?;
-            // By runs the bytes of null rows would be copied too.
+            // Without a mask, `filter` would copy by runs, with the bytes of null rows.
             let all = mask.is_none() && texts.validity()?.bits().is_some();
             let all = all.then(|| Bitmap::new_set(texts.len()));
             return texts.filter(mask.or(all.as_ref().map(Bitmap::bits)));
@@ -102,9 +104,9 @@ impl Export {
         }))
     }
 
-    /// The rows of texts, or of binary values, at indices, with the name and the type that they
-    /// have, and with their validity. The bytes of those that are valid are copied; of views the
-    /// views alone are, and the buffers shared.
+    /// Returns the rows of texts or binary values at indices, with their name, type and validity.
+    /// It copies the bytes of valid rows only. For views it copies the views and shares the
+    /// buffers.
     ///
     /// ```
     /// use vortex_bits::arrow::Export;
@@ -117,14 +119,17 @@ impl Export {
     ///
     /// # Errors
     ///
-    /// As of [`Array::texts`], at the first index that isn't one of a row, and where the texts are
-    /// longer together than 2^31 - 1 bytes and their offsets have 32 bits, or than memory can hold.
+    /// Returns the errors of [`Array::texts`], and [`ArrowError::Take`] with the first index that
+    /// names no row. Returns [`ArrowError::LongTexts`] if the texts are longer together than 2^31 -
+    /// 1 bytes and their offsets have 32 bits, and [`ArrowError::Memory`] if memory can't hold
+    /// them.
     pub fn texts_taken<I: BitIndex>(texts: &Array, indices: &[I]) -> Result<Export, ArrowError> {
         Export::texts_taken_valid(texts, indices, None::<Bits<'_>>)
     }
 
-    /// [`Export::texts_taken`] of the indices that are valid: the others give null rows, whatever
-    /// they are. [`Array::dictionary_texts`] does it for a column whose dictionary has texts.
+    /// Returns the rows at the valid indices as [`Export::texts_taken`] does. The other indices
+    /// give null rows, whatever their numbers are. [`Array::dictionary_texts`] calls it for a
+    /// column with a dictionary of texts.
     ///
     /// ```
     /// use vortex_bits::Bits;
@@ -139,9 +144,10 @@ impl Export {
     ///
     /// # Errors
     ///
-    /// As of [`Array::texts`], where `validity` isn't as long as the indices, at the first index
-    /// that is valid and isn't one of a row, and where the texts are longer together than 2^31 - 1
-    /// bytes and their offsets have 32 bits, or than memory can hold.
+    /// Returns the errors of [`Array::texts`]. Returns [`ArrowError::Take`] if `validity` doesn't
+    /// have one bit per index, or with the first valid index that names no row. Returns
+    /// [`ArrowError::LongTexts`] if the texts are longer together than 2^31 - 1 bytes and their
+    /// offsets have 32 bits, and [`ArrowError::Memory`] if memory can't hold them.
     pub fn texts_taken_valid<I: BitIndex>(
         texts: &Array,
         indices: &[I],
@@ -160,8 +166,8 @@ impl Export {
         Ok(taken.or_null())
     }
 
-    /// The same texts with offsets of 32 bits, which are new: `u` in place of `U`, and `z` of `Z`.
-    /// The bytes of the texts stay where they are. What has such offsets comes back as it is.
+    /// Converts offsets of 64 bits to new ones of 32 bits: `U` to `u`, and `Z` to `z`. It does not
+    /// copy the bytes of the texts. Texts with offsets of 32 bits are returned unchanged.
     ///
     /// ```
     /// use vortex_bits::arrow::Export;
@@ -174,8 +180,9 @@ impl Export {
     ///
     /// # Errors
     ///
-    /// Of another type, views among them; where the texts are longer together than 2^31 - 1 bytes;
-    /// and, of texts that another part of the program made, as of [`Array::texts`].
+    /// - Returns [`ArrowError::Type`] if the array has another type, such as views.
+    /// - Returns [`ArrowError::LongTexts`] if the texts are longer together than 2^31 - 1 bytes.
+    /// - For texts of another part of the program, returns the errors of [`Array::texts`].
     pub fn narrow(self) -> Result<Export, ArrowError> {
         let format = match (self.field.layout, self.field.format()) {
             (Layout::Ranges(4, Of::Bytes), _) => return Ok(self),
@@ -212,25 +219,25 @@ impl Export {
         ))
     }
 
-    /// The same as a column that may have nulls.
+    /// Returns the same column, which may have nulls.
     fn or_null(mut self) -> Export {
         self.field = self.field.nullable(true);
         self
     }
 }
 
-/// Where the rows end, behind a 0.
+/// The end of each row, after a first 0.
 enum Ends {
     Narrow(Vec<i32>),
     Wide(Vec<i64>),
 }
 
 impl Ends {
-    /// Of rows that end at these places, none before the one before it.
+    /// Returns the offsets of rows with these ends, which ascend.
     ///
     /// # Errors
     ///
-    /// The first place that a number of 32 bits can't say, where they are to be such.
+    /// Returns the first end that 32 bits can't represent, if `is_narrow`.
     fn new(is_narrow: bool, ends: impl Iterator<Item = usize>) -> Result<Ends, usize> {
         let ends = [0].into_iter().chain(ends);
         if !is_narrow {
@@ -248,18 +255,17 @@ impl Ends {
     }
 }
 
-/// So many views of the buffers that another array of views has, which are written with regard to
-/// their validity.
+/// Returns `len` new views of the buffers of another array of views. `write` fills them in; it
+/// reads their validity.
 fn shown(
     of: &Array,
     len: usize,
     valid: Option<Bitmap>,
     write: impl FnOnce(&mut [View], Option<&Bitmap>),
 ) -> Export {
-    // Aligned as some consumers want them.
+    // The alignment of `u128` is the one that some consumers require.
     let mut views = vec![0u128; len];
-    // SAFETY: a number of 128 bits has as many bytes as a view, each arrangement of which is one of
-    // both.
+    // SAFETY: a number of 128 bits has the size of a view, and any such bytes are valid as either.
     let written = unsafe { slice::from_raw_parts_mut(views.as_mut_ptr().cast::<View>(), len) };
     write(written, valid.as_ref());
     let buffers = [&[views.as_ptr().cast()], &of.node.buffers[2..]].concat();
@@ -267,7 +273,7 @@ fn shown(
     Export::column(of.field().clone(), len, 0, &buffers, kept, valid)
 }
 
-/// Which rows are valid at the indices, of which those count that are valid themselves.
+/// Returns which rows at the indices are valid. An index that isn't valid gives a row that isn't.
 fn valid_at<I: BitIndex>(
     rows: Validity<'_>,
     indices: &[I],
@@ -277,7 +283,7 @@ fn valid_at<I: BitIndex>(
     rows.try_take_valid(indices, Validity::new(validity.mask(), indices.len()))
 }
 
-/// What is said of values in place of bits.
+/// Converts an error of bits to the one of values.
 pub(super) fn values_error(error: TakeError) -> TakeValuesError {
     match error {
         TakeError::Room { bits, indices } => TakeValuesError::Room {

@@ -1,17 +1,17 @@
-//! Keys and values beside a type.
+//! The metadata of a type: keys and values.
 
 use alloc::vec::Vec;
 
 use super::{Field, count};
 use crate::arrow::error::Fault;
 
-/// The bytes of a number in metadata.
+/// The size of a number in metadata, in bytes.
 const INT: usize = size_of::<i32>();
 
 /// Metadata.
 impl Field {
-    /// Returns the same with these keys and values in place of those that it has, as of extension
-    /// types.
+    /// Returns the same column with these keys and values as its metadata, instead of those it has.
+    /// Extension types use them.
     ///
     /// ```
     /// use vortex_bits::arrow::Field;
@@ -25,7 +25,7 @@ impl Field {
     ///
     /// # Panics
     ///
-    /// If there are 2^31 pairs or more, or a key or a value has 2^31 bytes or more.
+    /// Panics if there are 2^31 pairs or more, or if a key or a value has 2^31 bytes or more.
     #[must_use]
     #[track_caller]
     pub fn with_metadata<K: AsRef<[u8]>, V: AsRef<[u8]>>(
@@ -47,14 +47,14 @@ impl Field {
         self
     }
 
-    /// The keys of the metadata with their values, as of extension types.
+    /// Returns the keys of the metadata with their values. Extension types use them.
     pub fn metadata(&self) -> impl Iterator<Item = (&[u8], &[u8])> {
         let (_, mut rest) = self.metadata.split_at(self.metadata.len().min(INT));
         core::iter::from_fn(move || Some((text_of(&mut rest)?, text_of(&mut rest)?)))
     }
 }
 
-/// A number as metadata has it.
+/// Returns a number in the layout of metadata.
 #[track_caller]
 fn int(number: usize) -> [u8; INT] {
     let Ok(number) = i32::try_from(number) else {
@@ -63,7 +63,7 @@ fn int(number: usize) -> [u8; INT] {
     number.to_ne_bytes()
 }
 
-/// A text of metadata behind its length, which is cut off the rest; None where there is no more.
+/// Removes a text from the front of `rest`, with its length before it; None if there is none left.
 fn text_of<'a>(rest: &mut &'a [u8]) -> Option<&'a [u8]> {
     let (len, behind) = rest.split_first_chunk::<INT>()?;
     let len = usize::try_from(i32::from_ne_bytes(*len)).ok()?;
@@ -72,17 +72,17 @@ fn text_of<'a>(rest: &mut &'a [u8]) -> Option<&'a [u8]> {
     Some(text)
 }
 
-/// The bytes of metadata.
+/// Returns a copy of the bytes of metadata.
 ///
 /// # Safety
 ///
-/// The pointer is null, or to a number of pairs, and so many keys and values, each behind its
-/// length.
+/// The pointer is null, or leads to the number of pairs and then to these keys and values, each
+/// after its length.
 pub(super) unsafe fn read(pointer: *const u8) -> Result<Vec<u8>, Fault> {
     if pointer.is_null() {
         return Ok(Vec::new());
     }
-    // SAFETY: as of this function.
+    // SAFETY: the caller promises it.
     let length = |at: usize| unsafe {
         let number = pointer.add(at).cast::<i32>().read_unaligned();
         count("a length in metadata", number.into(), None)
@@ -93,6 +93,6 @@ pub(super) unsafe fn read(pointer: *const u8) -> Result<Vec<u8>, Fault> {
             size += INT + length(size)?;
         }
     }
-    // SAFETY: so many bytes were gone over.
+    // SAFETY: the loop read the lengths of all these bytes.
     Ok(unsafe { core::slice::from_raw_parts(pointer, size) }.to_vec())
 }

@@ -1,4 +1,4 @@
-//! The numbers between rows, of 32 or 64 bits.
+//! The offsets between rows, of 32 or 64 bits.
 
 use core::mem;
 use core::ops::Range;
@@ -6,26 +6,27 @@ use core::ops::Range;
 use crate::arrow::error::Fault;
 use crate::arrow::primitive::{Primitive, Unaligned};
 
-/// A number that says where rows begin or end.
+/// An offset: the number at which a row begins or ends.
 pub(in crate::arrow) trait Offset: Primitive + Into<i64> {
     type Bytes: AsRef<[u8]>;
 
     fn bytes(self) -> Self::Bytes;
 
-    /// That of so many of its bytes as it has.
+    /// Returns the offset in the first `size_of::<Self>()` bytes; 0 if there are fewer.
     fn of_bytes(bytes: &[u8]) -> Self;
 
-    /// That of a place, which it can tell; else any.
+    /// Returns the index as an offset. The result is arbitrary if the type can't represent the
+    /// index.
     fn cut(place: usize) -> Self;
 
-    /// The place, where it is none below 0; else any.
+    /// Returns the offset as an index. The result is arbitrary if the offset is negative.
     fn place(self) -> usize;
 
-    /// A number below 0 where this one is, or is below the one before it: what is further than its
-    /// type can tell is so only where one of both is below 0.
+    /// Returns a negative number if this offset is negative or below the one before it. The
+    /// subtraction wraps, so the result may also be negative if one of the two is negative.
     fn goes_back(self, before: Self) -> Self;
 
-    /// The difference of two.
+    /// Returns the difference, which wraps.
     fn minus(self, other: Self) -> Self;
 
     fn plus(self, further: Self) -> Self;
@@ -92,7 +93,8 @@ offsets! {
     i64, u64;
 }
 
-/// Numbers of a range, in vectors where a loop takes no branch.
+/// Returns the offsets of a range. The compiler makes vectors of a loop over them that doesn't
+/// branch.
 #[inline]
 fn numbers<T: Offset>(
     offsets: Unaligned<'_, T>,
@@ -102,8 +104,8 @@ fn numbers<T: Offset>(
     bytes.chunks_exact(size_of::<T>()).map(T::of_bytes)
 }
 
-/// Whether no number is negative, none is below the one before it, and each is an `isize`, as the
-/// size of a slice is.
+/// Tests that no offset is negative, none is below the one before it, and each fits in an `isize`,
+/// as the size of a slice does.
 pub(super) fn ascend<T: Offset>(offsets: Unaligned<'_, T>) -> Result<(), Fault> {
     let (Some(last), Some(first)) = (offsets.len().checked_sub(1), offsets.get(0)) else {
         return Ok(());
@@ -117,7 +119,7 @@ pub(super) fn ascend<T: Offset>(offsets: Unaligned<'_, T>) -> Result<(), Fault> 
     Ok(())
 }
 
-/// The first number that isn't as of [`ascend`].
+/// Returns the error of the first offset that [`ascend`] rejects.
 #[cold]
 fn first_wrong<T: Offset>(offsets: Unaligned<'_, T>) -> Result<(), Fault> {
     let mut start = 0;
@@ -131,7 +133,7 @@ fn first_wrong<T: Offset>(offsets: Unaligned<'_, T>) -> Result<(), Fault> {
     Ok(())
 }
 
-/// Writes where the rows of a range end that begin at some place in another buffer.
+/// Writes the end offsets of these rows as if the first of them began at `start`.
 pub(super) fn write_ends<T: Offset>(
     offsets: Unaligned<'_, T>,
     rows: Range<usize>,
@@ -146,7 +148,7 @@ pub(super) fn write_ends<T: Offset>(
     }
 }
 
-/// Folds where the rows of a range lie, of which the first one begins at a place.
+/// Folds the ranges of these rows. The first of them begins at `start`.
 #[inline]
 pub(super) fn fold_rows<T: Offset, A>(
     offsets: Unaligned<'_, T>,

@@ -1,18 +1,18 @@
-//! Which texts pass a test.
+//! Predicates over texts: bitmaps of the rows that pass.
 
 use alloc::vec::Vec;
 
 use super::{Rows, Texts, viewed};
 use crate::{Bitmap, portable};
 
-/// Which rows pass a test of their bytes.
+/// Predicates over the bytes of each row.
 ///
-/// A null row passes none, so that these masks are those of a `where`.
-/// [`validity`](Texts::validity) says which rows are null, for [`and_kleene`] and a `not`.
+/// A null row passes none of them, so these masks are those of a `where`.
+/// [`validity`](Texts::validity) returns which rows are null, for [`and_kleene`] and a `not`.
 ///
 /// [`and_kleene`]: crate::values::and_kleene
 impl Texts<'_> {
-    /// Returns which rows have these bytes.
+    /// Returns a bitmap of the rows that have exactly these bytes.
     ///
     /// ```
     /// use vortex_bits::Bitmap;
@@ -33,8 +33,8 @@ impl Texts<'_> {
         self.test(|row| row == text)
     }
 
-    /// Returns which rows come before a text in the order of their bytes, which is that of the
-    /// characters of UTF-8.
+    /// Returns a bitmap of the rows that come before a text in the order of their bytes. For UTF-8
+    /// that is the order of the code points.
     ///
     /// ```
     /// use vortex_bits::Bitmap;
@@ -50,7 +50,7 @@ impl Texts<'_> {
         self.test(|row| row < text)
     }
 
-    /// Returns which rows begin with these bytes, as `like 'b%'`.
+    /// Returns a bitmap of the rows that begin with these bytes, as `like 'b%'`.
     ///
     /// ```
     /// use vortex_bits::Bitmap;
@@ -66,7 +66,7 @@ impl Texts<'_> {
         self.test(|row| row.starts_with(start))
     }
 
-    /// Returns which rows end with these bytes, as `like '%b'`.
+    /// Returns a bitmap of the rows that end with these bytes, as `like '%b'`.
     ///
     /// ```
     /// use vortex_bits::Bitmap;
@@ -82,8 +82,8 @@ impl Texts<'_> {
         self.test(|row| row.ends_with(end))
     }
 
-    /// Returns which rows have these bytes in them, as `like '%b%'`. It takes up to the length of
-    /// the row times that of the bytes.
+    /// Returns a bitmap of the rows that contain these bytes, as `like '%b%'`. For each row it
+    /// takes at most the length of the row times the length of the bytes.
     ///
     /// ```
     /// use vortex_bits::Bitmap;
@@ -101,8 +101,8 @@ impl Texts<'_> {
         }
     }
 
-    /// Returns which rows are one of some texts, as `in ('a', 'c')`. It sorts the texts once, and
-    /// searches each row among them by halves.
+    /// Returns a bitmap of the rows that are one of the texts, as `in ('a', 'c')`. It sorts the
+    /// texts once and then does a binary search for each row.
     ///
     /// ```
     /// use vortex_bits::Bitmap;
@@ -119,7 +119,8 @@ impl Texts<'_> {
         self.test(|row| texts.binary_search_by(|it| it.as_ref().cmp(row)).is_ok())
     }
 
-    /// Which rows are valid and pass a test; that of null ones may be called too.
+    /// Returns a bitmap of the valid rows that pass the test. It may call the test for null rows
+    /// too.
     #[inline]
     fn test(&self, mut test: impl FnMut(&[u8]) -> bool) -> Bitmap {
         let mut passed = match &self.rows {
@@ -135,8 +136,8 @@ impl Texts<'_> {
     }
 }
 
-/// Whether bytes have a part that begins with one byte and goes on with others. It looks for the
-/// first one among eight at once.
+/// Returns whether the bytes contain `first` with `rest` after it. It looks for `first` in eight
+/// bytes at once.
 fn has(bytes: &[u8], first: u8, rest: &[u8]) -> bool {
     let is_there = |place: usize| {
         let found = bytes.get(place..).and_then(|behind| behind.split_first());
@@ -156,7 +157,7 @@ fn has(bytes: &[u8], first: u8, rest: &[u8]) -> bool {
     false
 }
 
-/// The highest digit of each byte of a word that is equal to one, and of some of those above it.
+/// Sets the highest bit of each byte of the word that equals `byte`, and of some bytes above it.
 #[inline]
 fn equal_to(word: u64, byte: u8) -> u64 {
     const ONES: u64 = u64::from_ne_bytes([1; 8]);

@@ -1,4 +1,4 @@
-//! Rows of bits and of values of one width.
+//! Selects rows of bits and of fixed-width values.
 
 use alloc::vec::Vec;
 
@@ -11,7 +11,7 @@ use crate::arrow::primitive::Primitive;
 use crate::bytes::AlignedBytes;
 use crate::{Bits, BitsMut, Validity, Value, values};
 
-/// Which of the rows are valid, and how many aren't; None where all are.
+/// Returns the validity of the rows and the number of nulls; None if all are valid.
 pub(super) fn validity(
     field: &Field,
     of: &[Array],
@@ -19,7 +19,7 @@ pub(super) fn validity(
 ) -> Result<Option<(AlignedBytes, usize)>, ArrowError> {
     let bits = of.iter().map(|it| it.validity().map(Validity::bits));
     let bits = bits.collect::<Result<Vec<_>, _>>()?;
-    // Null rows of a column without nulls are below a row that is null, and may be anything.
+    // Null rows of a column that allows no null are below a null row, and may be anything.
     let has_nulls = rows.has_nulls() && field.is_nullable();
     if !has_nulls && bits.iter().all(Option::is_none) {
         return Ok(None);
@@ -29,7 +29,7 @@ pub(super) fn validity(
     Ok((nulls > 0).then_some((kept, nulls)))
 }
 
-/// The truth values of the rows.
+/// Selects the rows of truth values.
 pub(super) fn bits(
     field: &Field,
     of: &[Array],
@@ -39,7 +39,7 @@ pub(super) fn bits(
     kept_bits(field, &bits.collect::<Result<Vec<_>, _>>()?, rows, false)
 }
 
-/// The rows' bits: true where an array has none, and `of_null` where a row is of no array.
+/// Selects rows of bits. Rows of an array without bits are true, and null rows are `of_null`.
 fn kept_bits(
     field: &Field,
     of: &[Option<Bits<'_>>],
@@ -73,7 +73,7 @@ fn kept_bits(
     Ok(bytes)
 }
 
-/// The rows' values of so many bytes each; those that are of no array are 0.
+/// Selects rows of values of `width` bytes. Null rows are 0.
 pub(super) fn values(
     field: &Field,
     width: usize,
@@ -107,10 +107,10 @@ pub(super) fn values(
     Ok(out)
 }
 
-/// Writes the values of one array where a call of this crate does it and they are aligned: whether
-/// it did.
+/// Writes the values of one array with a kernel of this crate, and returns true. Returns false, and
+/// writes nothing, if the values aren't aligned or there is no such kernel.
 fn by_kernel<T: Primitive + Value>(bytes: &[u8], rows: Rows<'_>, out: &mut [u8]) -> bool {
-    // SAFETY: each arrangement of bytes is a value of such a type.
+    // SAFETY: any bytes are a value of such a type.
     let (aligned, written) = unsafe { (bytes.align_to::<T>(), out.align_to_mut::<T>()) };
     let (([], of, []), ([], out, [])) = (aligned, written) else {
         return false;

@@ -1,5 +1,5 @@
-//! Rows of texts of one array, which are copied one by one: it takes less than by runs, but where
-//! these are long.
+//! Copies rows of texts of one array one by one. It is faster than copying by runs, unless the runs
+//! are long.
 
 use super::made::Made;
 use super::rows::Rows;
@@ -13,15 +13,15 @@ use crate::arrow::ranges::{Offset, Offsets};
 use crate::bytes::AlignedBytes;
 use crate::{Bits, portable};
 
-/// From so many rows a run on it is sooner to copy runs.
+/// From this average length of a run on, in rows, copying by runs is faster.
 const LONG: usize = 9;
-/// How many bytes are copied at once in place of fewer.
+/// A text of up to this number of bytes is copied with a copy of this fixed size.
 const FEW: usize = 32;
-/// How many rows are handed on at once.
+/// The greatest number of rows per call of [`Each::each`].
 const BLOCK: usize = 64;
 
-/// New offsets and the bytes of the rows that are valid, as bits say that have one for each; None
-/// where it is sooner to copy runs, whose null rows have their bytes.
+/// Returns new offsets and the bytes of the valid rows; `valid` has a bit per row. Returns None if
+/// copying by runs is faster, which copies the bytes of null rows too.
 pub(super) fn rows(
     field: &Field,
     of: &Array,
@@ -55,8 +55,8 @@ fn number_of_runs(mask: Bits<'_>) -> usize {
     begun.sum()
 }
 
-/// The texts of rows between offsets that ascend up to the number of bytes. The lengths are gone
-/// over before memory is taken for the bytes.
+/// Copies the texts of rows. The offsets ascend up to the number of bytes. It adds up the lengths
+/// before it allocates memory for the bytes.
 fn copied<T: Offset>(
     field: &Field,
     offsets: Unaligned<'_, T>,
@@ -95,13 +95,13 @@ fn copied<T: Offset>(
     Ok(Made::of([ends, texts.out]))
 }
 
-/// What is done with rows.
+/// One pass over the rows.
 trait Each {
-    /// Takes some of them, at most [`BLOCK`]: each is null where its digit of the word is 0.
+    /// Processes at most [`BLOCK`] rows. A row is null if its bit of `valid` is 0.
     fn each(&mut self, rows: impl Iterator<Item = usize>, valid: u64);
 }
 
-/// Where rows end.
+/// The pass that writes the ends of the rows.
 struct Ends<'a, T> {
     offsets: Unaligned<'a, T>,
     end: usize,
@@ -127,7 +127,7 @@ impl<T: Offset> Each for Ends<'_, T> {
     }
 }
 
-/// The first place where a row ends that an offset can't tell.
+/// The pass that finds the first end that an offset can't represent.
 struct Far<'a, T> {
     offsets: Unaligned<'a, T>,
     end: usize,
@@ -146,11 +146,11 @@ impl<T: Offset> Each for Far<'_, T> {
     }
 }
 
-/// The bytes of rows.
+/// The pass that copies the bytes of the rows.
 struct Texts<'a, T> {
     offsets: Unaligned<'a, T>,
     bytes: &'a [u8],
-    /// Those of rows that are put together before they are added.
+    /// The bytes of short rows, until they are appended together.
     block: [u8; BLOCK * FEW],
     out: AlignedBytes,
 }
@@ -164,7 +164,7 @@ impl<T: Offset> Each for Texts<'_, T> {
             let bytes = &self.bytes[start..];
             let room = self.block[size..].first_chunk_mut::<FEW>();
             match (room, bytes.first_chunk::<FEW>()) {
-                // The next row is written over what is behind this one.
+                // The next row overwrites the bytes after this one.
                 (Some(out), Some(few)) if len <= FEW => {
                     *out = *few;
                     size += len;
@@ -181,7 +181,8 @@ impl<T: Offset> Each for Texts<'_, T> {
     }
 }
 
-/// Where a row begins, and its length: 0 where it is null, as the lowest digit of a word says.
+/// Returns the start and the length of a row; 0 and 0 if it is null, which is when the lowest bit
+/// of `valid` is 0.
 #[inline]
 fn of_row<T: Offset>(offsets: Unaligned<'_, T>, row: usize, valid: u64) -> (usize, usize) {
     if valid & 1 == 0 {
@@ -191,7 +192,7 @@ fn of_row<T: Offset>(offsets: Unaligned<'_, T>, row: usize, valid: u64) -> (usiz
     (start, end.wrapping_sub(start))
 }
 
-/// The rows that are kept of an array, and a bit for each that says whether it is valid.
+/// The selected rows of an array, and a bit per row: whether it is valid.
 #[derive(Clone, Copy)]
 struct Chosen<'a> {
     rows: Rows<'a>,
@@ -199,7 +200,7 @@ struct Chosen<'a> {
 }
 
 impl Chosen<'_> {
-    /// Hands the rows on, a word of them at once.
+    /// Calls `take` with the rows of one word after the other.
     #[inline]
     fn each(self, take: &mut impl Each) {
         match self.rows {
@@ -229,13 +230,13 @@ impl Chosen<'_> {
     }
 }
 
-/// Bits of a part, as the lowest digits of a word; where there are none all are true.
+/// Returns bits of a part as the lowest bits of a word; all ones if there are no bits.
 #[inline]
 fn word_of(bits: Option<Bits<'_>>, start: usize, len: usize) -> u64 {
     bits.map_or(u64::MAX, |bits| portable::only_word(bits.part(start, len)))
 }
 
-/// The places of the digits 1 of a word, counted from a place on.
+/// An iterator over the indices of a word's set bits, which adds `base` to each.
 struct Places {
     base: usize,
     word: u64,

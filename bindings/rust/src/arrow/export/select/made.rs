@@ -1,4 +1,4 @@
-//! New rows, before they are an array.
+//! New rows, before they become an array.
 
 use alloc::sync::Arc;
 use alloc::vec::Vec;
@@ -18,14 +18,14 @@ use crate::bytes::AlignedBytes;
 
 /// Which rows are null.
 pub(super) enum Nulls {
-    /// So many, of a type whose arrays have no bits of validity.
+    /// This number of rows, in a type whose arrays have no validity bits.
     Unmarked(usize),
-    /// Those whose bit is false, which are so many: none where there are no bits.
+    /// The rows whose bit is false, and their number; None if no row is.
     Marked(Option<(AlignedBytes, usize)>),
 }
 
 impl Nulls {
-    /// A bit for each of so many rows; None where there are none.
+    /// Returns a bit for each of `len` rows; None if there are no bits.
     pub(super) fn valid(&self, len: usize) -> Option<Bits<'_>> {
         match self {
             Nulls::Marked(Some((bytes, _))) => Some(Bits::new(bytes, 0, len)),
@@ -34,12 +34,12 @@ impl Nulls {
     }
 }
 
-/// What new rows have beside their validity.
+/// The parts of new rows, except their validity.
 #[derive(Default)]
 pub(super) struct Made {
     /// New buffers, in their order.
     pub buffers: Vec<AlignedBytes>,
-    /// Those behind them, of what is kept.
+    /// Buffers after the new ones, which `kept` and `nodes` own.
     pub shared: Vec<*const c_void>,
     pub kept: Vec<AlignedBytes>,
     nodes: Vec<Arc<Node>>,
@@ -59,7 +59,7 @@ impl Made {
         self.nodes.extend(of.iter().map(|it| Arc::clone(&it.node)));
     }
 
-    /// Adds the rows of each child.
+    /// Adds the selected rows of each child.
     pub(super) fn children<'a>(
         &mut self,
         field: &Field,
@@ -74,7 +74,7 @@ impl Made {
         Ok(())
     }
 
-    /// An array of so many rows.
+    /// Returns an array of `len` rows.
     pub(super) fn array(self, len: usize, nulls: Nulls) -> Owned<ArrowArray> {
         let mut buffers: Vec<*const c_void> = Vec::new();
         let (number, valid) = match nulls {

@@ -1,4 +1,4 @@
-//! Rows of types whose items are in children, and of columns with a dictionary.
+//! Selects rows of types with children, and of columns with a dictionary.
 
 use alloc::sync::Arc;
 use alloc::vec::Vec;
@@ -13,7 +13,7 @@ use crate::arrow::field::Field;
 use crate::arrow::layout::{Kind, Layout};
 use crate::arrow::node::Node;
 
-/// Structs: the same rows of each column.
+/// Selects rows of structs: the same rows of each column.
 pub(super) fn structs(field: &Field, of: &[Array], rows: Rows<'_>) -> Result<Made, ArrowError> {
     let mut made = Made::default();
     let columns: Vec<Vec<Array>> = of.iter().map(|it| it.parts().collect()).collect();
@@ -22,7 +22,7 @@ pub(super) fn structs(field: &Field, of: &[Array], rows: Rows<'_>) -> Result<Mad
     Ok(made)
 }
 
-/// Lists of one length.
+/// Selects rows of fixed-size lists.
 pub(super) fn fixed_lists(
     field: &Field,
     each: usize,
@@ -52,7 +52,7 @@ pub(super) fn fixed_lists(
     Ok(made)
 }
 
-/// List views: where the rows lie among the items of all arrays.
+/// Selects rows of list views: their offsets and sizes. The items are those of all arrays.
 pub(super) fn list_views(
     field: &Field,
     width: usize,
@@ -88,7 +88,7 @@ pub(super) fn list_views(
     Ok(made)
 }
 
-/// Where list views begin whose items are behind so many others.
+/// Returns the offsets of list views, with `before` items in front of their own.
 fn moved_offsets(
     of: &Array,
     width: usize,
@@ -110,7 +110,7 @@ fn moved_offsets(
     Ok(moved)
 }
 
-/// A signed number of four or eight bytes.
+/// Reads a signed number of four or eight bytes.
 fn signed(bytes: &[u8], place: usize, width: usize) -> i64 {
     let bytes = &bytes[place * width..][..width];
     match (bytes.first_chunk(), bytes.first_chunk()) {
@@ -120,7 +120,7 @@ fn signed(bytes: &[u8], place: usize, width: usize) -> i64 {
     }
 }
 
-/// A column with a dictionary: its indices, and the items of all arrays.
+/// Selects rows of a column with a dictionary: the indices. The items are those of all arrays.
 pub(super) fn coded(
     field: &Field,
     items: &Field,
@@ -138,7 +138,7 @@ pub(super) fn coded(
         let mut made = Made::of([fixed::values(field, width, &bytes, rows)?]);
         let Node { offset, len, .. } = *one.node;
         made.dictionary = Some(shared(&one.node, offset, len));
-        // No row may name an item where there is none.
+        // If there is no item, no row can name one.
         if one.is_empty() && rows.has_nulls() && !field.is_nullable() {
             return Err(of[0].lost(0, 0, 0));
         }
@@ -158,7 +158,7 @@ pub(super) fn coded(
     Ok(made)
 }
 
-/// The indices of an array whose items are behind so many others: 0 in null rows.
+/// Returns the indices of an array, with `before` items in front of its own; 0 for null rows.
 fn moved_indices(field: &Field, of: &Array, before: usize) -> Result<Vec<u8>, ArrowError> {
     let (width, valid) = (field.layout.widest().0, of.validity()?);
     let is_signed = matches!(field.layout, Layout::Fixed(Kind::Signed, _));
@@ -179,7 +179,7 @@ fn moved_indices(field: &Field, of: &Array, before: usize) -> Result<Vec<u8>, Ar
     Ok(moved)
 }
 
-/// All rows of some arrays.
+/// Returns all rows of the arrays.
 fn all_rows(field: &Field, of: &[Array]) -> Result<Runs, ArrowError> {
     Runs::whole(of.iter().map(Array::len)).ok_or_else(|| too_many(field))
 }

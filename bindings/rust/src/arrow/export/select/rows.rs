@@ -1,10 +1,10 @@
-//! Which rows are kept.
+//! The rows that a selection copies.
 
 use alloc::vec::Vec;
 
 use crate::Bits;
 
-/// Rows of one of several arrays, one behind the other; None where they are null.
+/// Consecutive rows of one of several arrays. They are null if `of` is None.
 #[derive(Clone, Copy)]
 pub(super) struct Run {
     pub of: Option<usize>,
@@ -12,14 +12,14 @@ pub(super) struct Run {
     pub len: usize,
 }
 
-/// The rows that are kept, in their order.
+/// The selected rows, in their order.
 #[derive(Clone, Copy)]
 pub(super) enum Rows<'a> {
-    /// Those of one array that are true in a mask, which are so many.
+    /// The rows of one array that a mask selects, and their number.
     Mask(Bits<'a>, usize),
-    /// Those of one array at indices that are valid; the others are null.
+    /// The rows of one array at indices, with a bit per index. A row is null if its bit is false.
     Places(&'a [usize], Option<Bits<'a>>),
-    /// Those of runs, which are so many.
+    /// The rows of runs, and their number.
     Runs(&'a [Run], usize),
 }
 
@@ -31,7 +31,7 @@ impl Rows<'_> {
         }
     }
 
-    /// Whether some are null that are of no array.
+    /// Returns whether the selection adds null rows that are in no array.
     pub(super) fn has_nulls(self) -> bool {
         match self {
             Rows::Mask(..) => false,
@@ -40,7 +40,7 @@ impl Rows<'_> {
         }
     }
 
-    /// Hands each run on, behind the number of rows before it.
+    /// Calls `take` for each run, with the number of rows before it.
     pub(super) fn each<E>(
         self,
         mut take: impl FnMut(usize, Run) -> Result<(), E>,
@@ -72,7 +72,7 @@ impl Rows<'_> {
         }
     }
 
-    /// [`Rows::each`] of what can't fail.
+    /// Calls `take` for each run as [`Rows::each`] does, if it can't fail.
     pub(super) fn for_each(self, mut take: impl FnMut(usize, Run)) {
         let taken: Result<(), core::convert::Infallible> = self.each(|before, run| {
             take(before, run);
@@ -82,7 +82,7 @@ impl Rows<'_> {
     }
 }
 
-/// Runs that are added one by one; what is one behind the other becomes one.
+/// Runs that are added one by one. A run that continues the last one is merged with it.
 #[derive(Default)]
 pub(super) struct Runs {
     runs: Vec<Run>,
@@ -90,7 +90,7 @@ pub(super) struct Runs {
 }
 
 impl Runs {
-    /// All rows of arrays of these lengths.
+    /// Returns all rows of arrays of these lengths; None if their number isn't a `usize`.
     pub(super) fn whole(lens: impl IntoIterator<Item = usize>) -> Option<Runs> {
         let mut runs = Runs::default();
         for (of, len) in lens.into_iter().enumerate() {
@@ -111,7 +111,7 @@ impl Runs {
         Rows::Runs(&self.runs, self.len)
     }
 
-    /// None where they are more rows than a `usize` can tell.
+    /// Adds a run. Returns None if the number of rows isn't a `usize`.
     pub(super) fn push(&mut self, run: Run) -> Option<()> {
         self.len = self.len.checked_add(run.len)?;
         match self.runs.last_mut() {
@@ -124,7 +124,7 @@ impl Runs {
 }
 
 impl Run {
-    /// Whether the other one begins where this one ends.
+    /// Returns whether `other` begins at the end of this run.
     fn is_before(self, other: Run) -> bool {
         let is_next = self.of.is_none() || self.start + self.len == other.start;
         self.of == other.of && is_next

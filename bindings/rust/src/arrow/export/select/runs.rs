@@ -1,4 +1,4 @@
-//! Rows of runs.
+//! Selects rows of run-end-encoded arrays.
 
 use alloc::vec::Vec;
 
@@ -10,19 +10,19 @@ use crate::arrow::error::{ArrowError, Fault};
 use crate::arrow::field::Field;
 use crate::arrow::layout::{Kind, Layout};
 
-/// A value of one of the arrays; None where it is null.
+/// The index of an array, and of a value in it; None for a null row.
 type Value = Option<(usize, usize)>;
 
-/// Runs that are put together, of which no two neighbours have one value.
+/// New runs. Two neighbours never have the same value.
 #[derive(Default)]
 struct Kept {
     values: Runs,
-    /// How many rows there are up to the end of each.
+    /// The number of rows up to the end of each run.
     ends: Vec<usize>,
     last: Option<Value>,
 }
 
-/// Runs: new ends, and a value for each run that has a row.
+/// Selects rows: new ends, and one value for each run that still has a row.
 pub(super) fn runs(field: &Field, of: &[Array], rows: Rows<'_>) -> Result<Made, ArrowError> {
     let Layout::Fixed(Kind::Signed, width) = field.children[0].layout else {
         return Err(Fault::RunEnds(field.children[0].format.clone()).into());
@@ -48,7 +48,7 @@ pub(super) fn runs(field: &Field, of: &[Array], rows: Rows<'_>) -> Result<Made, 
 }
 
 impl Kept {
-    /// Adds rows of an array, behind so many others.
+    /// Adds rows of an array after the first `before` rows.
     fn add_rows(
         &mut self,
         field: &Field,
@@ -65,7 +65,7 @@ impl Kept {
         Ok(())
     }
 
-    /// Adds rows of one value up to this one.
+    /// Adds rows of one value up to row `end`.
     fn add(&mut self, field: &Field, value: Value, end: usize) -> Result<(), ArrowError> {
         if self.last == Some(value) {
             self.ends.pop();
@@ -80,8 +80,8 @@ impl Kept {
     }
 }
 
-/// The run of an item of an array, which counts those before its own too, and how many more rows of
-/// the run there are from it on.
+/// Returns the run that has an item, and how many rows of the run there are from the item on.
+/// `item` counts from the start of the array, including the items before its offset.
 fn run_at(of: &Array, ends: &Array, item: usize) -> Result<(usize, usize), ArrowError> {
     let width = ends.node.field.layout.widest().0;
     // SAFETY: there is an end for each run.

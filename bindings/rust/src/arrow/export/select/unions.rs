@@ -1,4 +1,4 @@
-//! Rows of unions.
+//! Selects rows of unions.
 
 use alloc::vec::Vec;
 
@@ -11,11 +11,11 @@ use crate::arrow::field::Field;
 use crate::arrow::layout;
 use crate::bytes::AlignedBytes;
 
-/// What each id of a type says.
+/// The children that type ids name.
 struct Ids {
-    /// The child that has the id.
+    /// The child of each id.
     children: [Option<u8>; 128],
-    /// The id of the first child, in which rows are null that are of no array.
+    /// The id of the first child. Null rows have it.
     first: Option<u8>,
 }
 
@@ -29,7 +29,7 @@ impl Ids {
         Ids { children, first }
     }
 
-    /// The child of a row.
+    /// Returns the child of a row.
     fn child(&self, of: &Array, row: usize, id: u8) -> Result<usize, ArrowError> {
         let child = self.children.get(usize::from(id)).copied().flatten();
         child.map(usize::from).ok_or_else(|| {
@@ -38,7 +38,7 @@ impl Ids {
         })
     }
 
-    /// The id of rows that are of no array.
+    /// Returns the id of null rows.
     fn of_nulls(&self, field: &Field) -> Result<u8, ArrowError> {
         self.first.ok_or_else(|| ArrowError::Type {
             column: field.name.clone(),
@@ -48,7 +48,7 @@ impl Ids {
     }
 }
 
-/// Sparse unions: the types of the rows, and the same rows of each child.
+/// Selects rows of a sparse union: the type ids of the rows, and the same rows of each child.
 pub(super) fn sparse(field: &Field, of: &[Array], rows: Rows<'_>) -> Result<Made, ArrowError> {
     let ids = Ids::of(field);
     let mut types = zeroed(field, rows.len(), 1)?;
@@ -69,15 +69,16 @@ pub(super) fn sparse(field: &Field, of: &[Array], rows: Rows<'_>) -> Result<Made
     Ok(made)
 }
 
-/// Rows of dense unions that are put together.
+/// New rows of a dense union.
 struct Dense {
     types: AlignedBytes,
     offsets: AlignedBytes,
-    /// Those of each child.
+    /// The selected items of each child.
     items: Vec<Runs>,
 }
 
-/// Dense unions: the types of the rows, new offsets, and of each child the items that are rows.
+/// Selects rows of a dense union: the type ids of the rows, new offsets, and of each child only the
+/// items that the rows name.
 pub(super) fn dense(field: &Field, of: &[Array], rows: Rows<'_>) -> Result<Made, ArrowError> {
     let ids = Ids::of(field);
     let mut kept = Dense {
@@ -128,7 +129,8 @@ impl Dense {
 }
 
 impl Array {
-    /// The id of a row of a dense union, its child, and the row's item among those of the child.
+    /// Returns the type id of a row of a dense union, its child, and the index of its item in the
+    /// child.
     fn item_of_union(&self, ids: &Ids, row: usize) -> Result<(u8, usize, usize), ArrowError> {
         let id = self.type_ids()[row];
         let child = ids.child(self, row, id)?;

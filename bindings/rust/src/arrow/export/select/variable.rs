@@ -1,4 +1,4 @@
-//! Rows of texts and lists, and those of views.
+//! Selects rows of texts, lists and views.
 
 use alloc::vec::Vec;
 use core::ffi::c_void;
@@ -15,7 +15,7 @@ use crate::arrow::ranges::Ranges;
 use crate::arrow::texts::View;
 use crate::bytes::AlignedBytes;
 
-/// Texts: new offsets, and the bytes of the rows, of which bits say which are valid.
+/// Selects rows of texts: new offsets, and the bytes of the rows. `valid` has a bit per row.
 pub(super) fn texts(
     field: &Field,
     width: usize,
@@ -36,7 +36,7 @@ pub(super) fn texts(
     Ok(Made::of([offsets, bytes]))
 }
 
-/// Lists: new offsets, and the items of the rows, those of null ones too.
+/// Selects rows of lists: new offsets, and the items of the rows, including those of null rows.
 pub(super) fn lists(
     field: &Field,
     width: usize,
@@ -53,8 +53,8 @@ pub(super) fn lists(
     Ok(made)
 }
 
-/// Where the rows lie behind one another, and which parts they are of the bytes or the items of
-/// arrays whose rows lie so.
+/// Returns the offsets of the rows one after the other, and the ranges of bytes or items that they
+/// have in the arrays.
 fn offsets(
     field: &Field,
     width: usize,
@@ -93,7 +93,7 @@ fn offsets(
     Ok((offsets, parts))
 }
 
-/// What is said of rows that end at these places, of which one is too far for an offset.
+/// Returns the error of rows with these ends, one of which 32 bits can't represent.
 #[cold]
 pub(super) fn long(field: &Field, mut ends: impl Iterator<Item = usize>) -> ArrowError {
     let column = field.name.clone();
@@ -108,7 +108,7 @@ pub(super) fn long(field: &Field, mut ends: impl Iterator<Item = usize>) -> Arro
     }
 }
 
-/// Views: those of the rows, and the buffers of all arrays.
+/// Selects rows of views: the views, and the buffers of all arrays.
 pub(super) fn views(field: &Field, of: &[Array], rows: Rows<'_>) -> Result<Made, ArrowError> {
     let width = size_of::<View>();
     let bytes: Vec<&[u8]> = of.iter().map(Array::value_bytes).collect();
@@ -141,7 +141,8 @@ pub(super) fn views(field: &Field, of: &[Array], rows: Rows<'_>) -> Result<Made,
     Ok(made)
 }
 
-/// The views of an array whose buffers are behind so many others: of null rows they are empty.
+/// Returns the views of an array, with `before` buffers in front of its own. Those of null rows are
+/// empty.
 fn moved_views(field: &Field, of: &Array, before: usize) -> Result<Vec<u8>, ArrowError> {
     let texts = of.texts()?;
     let mut views = of.value_bytes().to_vec();
