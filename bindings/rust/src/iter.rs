@@ -1,6 +1,5 @@
-//! Iterators over a window: its bits, its words, the indices and the runs of its set bits and of
-//! its unset ones, and its writable parts. C functions fill blocks of items, so most items need no
-//! call.
+//! Iterators over a window: its bits, its words, the indices and runs of its set and unset bits,
+//! and its writable parts. C functions fill blocks of items, so most items need no call.
 
 mod blocks;
 mod chunks;

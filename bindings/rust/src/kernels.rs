@@ -1,5 +1,5 @@
-//! Each call at the current level. Rust handles windows of at most one word directly, without a
-//! call by a pointer.
+//! Each call at the current level. Windows of at most one word stay in Rust, without a call through
+//! a pointer.
 
 #[macro_use]
 mod call;
@@ -33,8 +33,8 @@ pub struct Run {
     pub end: usize,
 }
 
-/// How two bits are combined. Each makes false of two false bits, since the padding of the last
-/// word is counted too.
+/// An operator on two bits. Each returns false for two false bits: the counts include the padding
+/// of the last word.
 #[derive(Clone, Copy)]
 pub enum Operator {
     And,
@@ -266,8 +266,8 @@ pub fn deposit(out: &mut Written<'_>, bits: Bits<'_>, mask: Bits<'_>) {
     portable::deposit(out, bits, mask);
 }
 
-/// Writes the number of set bits before each block; the table has one entry per block. Returns the
-/// number of entries.
+/// Writes the number of set bits before each block, and returns the number of entries. The table
+/// has one entry per block.
 pub fn block_counts(bits: Bits<'_>, table: &mut [usize]) -> usize {
     debug_assert_eq!(table.len(), blocks(bits.len()));
     native!(block_counts: slice_mut table, window bits);

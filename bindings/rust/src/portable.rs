@@ -1,6 +1,6 @@
-//! The calls in plain Rust, by words of 64 bits, for machines that there is no proved code for, and
-//! for windows of a word. They keep what that code promises; nothing here is `unsafe`, and nothing
-//! is proved.
+//! The calls in plain Rust, which process words of 64 bits. They run on machines without proved
+//! code, and for windows of one word. They keep the promises of the proved code, but are not
+//! proved. Nothing here is `unsafe`.
 
 mod compare;
 mod count;

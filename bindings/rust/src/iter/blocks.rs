@@ -1,28 +1,28 @@
-//! Items of a window, by blocks.
+//! Finds the items of a window in blocks.
 
 use crate::Bits;
 
-/// How many items are asked for at once.
+/// The number of items in a block.
 const ROOM: usize = 64;
 
-/// What is looked for in a window.
+/// An item to find in a window: an index or a run.
 pub trait Find: Clone {
     type Item: Copy + Default;
 
-    /// Writes the first ones to `out`, and answers how many have room.
+    /// Writes the first items of the window to `out`, as many as fit, and returns their number.
     fn find(bits: Bits<'_>, out: &mut [Self::Item]) -> usize;
 
-    /// The place behind one.
+    /// Returns the index after an item.
     fn end(item: Self::Item) -> usize;
 }
 
-/// Items of a window, a block at a time.
+/// An iterator over the items of a window, which finds a block of them at a time.
 #[derive(Clone)]
 pub struct Blocks<'a, F: Find> {
     bits: Bits<'a>,
-    /// The place from which those of the block are counted.
+    /// The index that the block's items count from.
     base: usize,
-    /// The place up to which the window has been walked.
+    /// The index up to which the window is searched.
     end: usize,
     found: [F::Item; ROOM],
     next: usize,
@@ -42,25 +42,25 @@ impl<'a, F: Find> Blocks<'a, F> {
         }
     }
 
-    /// What hasn't been walked.
+    /// Returns the bits that it hasn't searched.
     #[inline]
     pub fn rest(&self) -> Bits<'a> {
         self.bits.part(self.end, self.bits.len() - self.end)
     }
 
-    /// The place up to which the window has been walked.
+    /// Returns the index up to which the window is searched.
     #[inline]
     pub fn walked(&self) -> usize {
         self.end
     }
 
-    /// Leaves the bits out that are from a place on, which hasn't been walked.
+    /// Removes the bits from index `end` on. None of them is searched yet.
     #[inline]
     pub fn cut(&mut self, end: usize) {
         self.bits = self.bits.part(0, end);
     }
 
-    /// The last item of the block, and the place from which it is counted.
+    /// Removes the last item of the block, and returns it with the index that it counts from.
     #[inline]
     pub fn pop_last(&mut self) -> Option<(usize, F::Item)> {
         if self.next == self.filled {
@@ -70,13 +70,13 @@ impl<'a, F: Find> Blocks<'a, F> {
         Some((self.base, self.found[self.filled]))
     }
 
-    /// How many of the items that were found are left.
+    /// Returns the number of found items that are left.
     #[inline]
     pub fn found(&self) -> usize {
         self.filled - self.next
     }
 
-    /// Fills the next block, and answers whether there is something in it.
+    /// Fills the next block, and returns whether it found an item.
     fn refill(&mut self) -> bool {
         let rest = self.rest();
         self.base = self.end;
@@ -89,7 +89,7 @@ impl<'a, F: Find> Blocks<'a, F> {
         self.filled > 0
     }
 
-    /// The next item, and the place from which it is counted.
+    /// Returns the next item with the index that it counts from.
     #[inline]
     pub fn next(&mut self) -> Option<(usize, F::Item)> {
         if self.next == self.filled && (self.end == self.bits.len() || !self.refill()) {

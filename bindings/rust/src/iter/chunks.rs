@@ -5,12 +5,12 @@ use core::mem;
 
 use crate::BitsMut;
 
-/// The parts of a writable window, each over its own bytes: [`BitsMut::chunks_mut`].
+/// The parts of a writable window, each over its own bytes. [`BitsMut::chunks_mut`] returns it.
 #[derive(Debug)]
 pub struct ChunksMut<'a> {
-    /// The rest, over its own bytes.
+    /// The bits that are left, over their own bytes.
     rest: BitsMut<'a>,
-    /// The number of bits in a part that begins with a byte: a multiple of 8.
+    /// The number of bits in a part that starts at the first bit of a byte: a multiple of 8.
     bits: usize,
 }
 
@@ -23,7 +23,7 @@ impl<'a> ChunksMut<'a> {
         }
     }
 
-    /// The rest, before a border and from it on.
+    /// Splits the bits that are left at `border`.
     #[inline]
     fn split(&mut self, border: usize) -> (BitsMut<'a>, BitsMut<'a>) {
         mem::take(&mut self.rest).split(border)

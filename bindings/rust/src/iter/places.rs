@@ -1,5 +1,6 @@
-//! Indices of set bits and of unset ones. C functions, if there are any, find those of set bits,
-//! block by block; the others are found here, word by word, and so are those from the end.
+//! Iterators over the indices of set and of unset bits. C functions, if there are any, find the
+//! indices of set bits block by block. The indices of unset bits, and those from the end, are found
+//! here, word by word.
 
 use core::fmt;
 use core::iter::FusedIterator;
@@ -87,7 +88,7 @@ mod by_blocks {
     }
 }
 
-/// The indices that are left of a word: its set bits, counted from `base` on.
+/// The indices in a word that are left: its set bits, counted from `base`.
 #[derive(Clone, Copy, Default)]
 struct Left {
     base: usize,
@@ -143,7 +144,7 @@ struct ByWords<'a, const VALUE: bool> {
     /// The window up to the word in `back`.
     bits: Bits<'a>,
     front: Left,
-    /// The index after that word.
+    /// The index after the word in `front`.
     end: usize,
     back: Left,
 }
@@ -159,13 +160,13 @@ impl<'a, const VALUE: bool> ByWords<'a, VALUE> {
         }
     }
 
-    /// Returns the bits that haven't been walked.
+    /// Returns the bits that neither end has reached.
     #[inline]
     fn rest(&self) -> Bits<'a> {
         self.bits.part(self.end, self.bits.len() - self.end)
     }
 
-    /// Returns the indices of a part of at most 64 bits.
+    /// Returns the indices in a part of at most 64 bits.
     #[inline]
     fn word(&self, start: usize, len: usize) -> Left {
         let word = portable::only_word(self.bits.part(start, len));
@@ -177,7 +178,8 @@ impl<'a, const VALUE: bool> ByWords<'a, VALUE> {
         Left::new(start, word)
     }
 
-    /// Goes on to the next word, if there is one, and then to the one from the end.
+    /// Advances to the next word; if there is none, to the word from the end. Returns whether there
+    /// was one.
     #[inline]
     fn advance(&mut self) -> bool {
         let len = (self.bits.len() - self.end).min(64);
@@ -190,7 +192,7 @@ impl<'a, const VALUE: bool> ByWords<'a, VALUE> {
         true
     }
 
-    /// Returns the number of indices left; counts the bits.
+    /// Returns the number of indices left. Counts the bits.
     #[inline]
     fn left(&self) -> usize {
         let rest = self.rest();
@@ -265,7 +267,7 @@ macro_rules! indices {
                 self.0.next()
             }
 
-            /// Returns the number of indices left; counts the bits.
+            /// Returns the number of indices left. Counts the bits.
             #[inline]
             fn size_hint(&self) -> (usize, Option<usize>) {
                 let left = self.0.left();
@@ -307,8 +309,10 @@ macro_rules! indices {
 }
 
 indices! {
-    /// The indices of the set bits, in ascending order: [`Bits::set_indices`].
+    /// An iterator over the indices of the set bits, in ascending order. [`Bits::set_indices`]
+    /// returns it.
     SetIndices: Set;
-    /// The indices of the unset bits, in ascending order: [`Bits::unset_indices`].
+    /// An iterator over the indices of the unset bits, in ascending order. [`Bits::unset_indices`]
+    /// returns it.
     UnsetIndices: ByWords<false>;
 }

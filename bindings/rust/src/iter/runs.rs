@@ -1,4 +1,4 @@
-//! Runs of set bits and of unset ones. Those from the end are found here, word by word.
+//! Iterators over runs of set and of unset bits. Runs from the end are found here, word by word.
 
 use core::fmt;
 use core::iter::FusedIterator;
@@ -8,12 +8,12 @@ use super::blocks::{Blocks, Find};
 use crate::kernels::{Run, set_slices};
 use crate::{Bits, portable};
 
-/// What runs are of.
+/// The kind of bits in the runs.
 trait Seek: Find<Item = Run> {
-    /// A word of at most 64 bits, in which the bits of runs are 1.
+    /// Returns a word of at most 64 bits in which the bits of runs are 1.
     fn word(bits: Bits<'_>) -> u64;
 
-    /// Returns the index of the last bit of no run before an index.
+    /// Returns the index of the last bit before `place` that is in no run.
     fn before(bits: Bits<'_>, place: usize) -> Option<usize>;
 }
 
@@ -55,7 +55,7 @@ seek! {
     Unset: portable::unset_slices, |word: u64, len| !word & portable::low(len), Bits::previous_set;
 }
 
-/// The runs that are left of a word: its set bits, counted from `base` on.
+/// The runs in a word that are left: its set bits, counted from `base`.
 #[derive(Clone, Copy, Default)]
 struct Left {
     base: usize,
@@ -67,7 +67,7 @@ impl Left {
         (self.word & !(self.word << 1)).count_ones() as usize
     }
 
-    /// A run of so many digits from one on, which it leaves out from now on.
+    /// Returns the run of `len` bits at `start`, and removes it.
     #[inline]
     fn cut(&mut self, start: u32, len: u32) -> Range<usize> {
         let [start, len] = [start as usize, len as usize];
@@ -91,11 +91,11 @@ impl Left {
     }
 }
 
-/// The runs of a window.
+/// An iterator over the runs of a window.
 #[derive(Clone)]
 struct Runs<'a, F: Seek> {
     front: Blocks<'a, F>,
-    /// Of a word that begins with a bit of no run.
+    /// The runs of a word that begins with a bit of no run.
     back: Left,
 }
 
@@ -219,8 +219,9 @@ macro_rules! slices {
 }
 
 slices! {
-    /// The runs of set bits, from front to end: [`Bits::set_slices`].
+    /// An iterator over the runs of set bits, from front to end. [`Bits::set_slices`] returns it.
     SetSlices: Set;
-    /// The runs of unset bits, from front to end: [`Bits::unset_slices`].
+    /// An iterator over the runs of unset bits, from front to end. [`Bits::unset_slices`] returns
+    /// it.
     UnsetSlices: Unset;
 }

@@ -1,17 +1,18 @@
-//! 64-bit words, and single bits.
+//! Iterators over 64-bit words and over single bits.
 
 use core::iter::FusedIterator;
 use core::mem;
 
 use crate::{Bits, BitsMut, kernels, portable};
 
-/// The number of words copied at once.
+/// The number of words that it copies at once.
 const ROOM: usize = 32;
 
-/// The bits as 64-bit words, the first bit lowest: [`Bits::words`].
+/// An iterator over the bits as 64-bit words, with the first bit lowest. [`Bits::words`] returns
+/// it.
 #[derive(Clone, Debug)]
 pub struct Words<'a> {
-    /// The bits that haven't been copied.
+    /// The bits that it hasn't copied.
     rest: Bits<'a>,
     bytes: [u8; 8 * ROOM],
     next: usize,
@@ -83,7 +84,7 @@ impl DoubleEndedIterator for Words<'_> {
 impl ExactSizeIterator for Words<'_> {}
 impl FusedIterator for Words<'_> {}
 
-/// The bits, from front to end: [`Bits::iter`].
+/// An iterator over the bits, from front to end. [`Bits::iter`] returns it.
 #[derive(Clone, Debug)]
 pub struct Iter<'a> {
     words: Words<'a>,
@@ -92,7 +93,7 @@ pub struct Iter<'a> {
     left: usize,
 }
 
-/// The rest of a word: its lowest bits.
+/// The rest of a word, in its lowest bits.
 #[derive(Clone, Copy, Debug, Default)]
 struct Part {
     word: u64,
@@ -100,7 +101,7 @@ struct Part {
 }
 
 impl Part {
-    /// Removes the first bit.
+    /// Removes the first bit and returns it.
     #[inline]
     fn first(&mut self) -> bool {
         let bit = self.word & 1 == 1;
@@ -109,7 +110,7 @@ impl Part {
         bit
     }
 
-    /// Removes the last bit.
+    /// Removes the last bit and returns it.
     #[inline]
     fn last(&mut self) -> bool {
         self.len -= 1;
@@ -128,7 +129,7 @@ impl<'a> Iter<'a> {
         }
     }
 
-    /// The bits in words that neither end has reached.
+    /// Returns the number of bits in words that neither end has reached.
     #[inline]
     fn between(&self) -> usize {
         self.left - self.front.len - self.back.len

@@ -1,21 +1,20 @@
-//! How a C function is called.
+//! Calls the C functions.
 
-/// Answers the call of the level's C function, where the level has one. The arguments are made of
-/// what is named:
+/// Returns the result of the level's C function, if the level has one. The words before the
+/// arguments are:
 ///
-/// - `window bits`, the bytes, their number, the offset and the length;
-/// - `start bits`, the same without the length, since the other window is as long;
-/// - `start_mut written`, the same of a window that is written: the function sees the bytes in which
-///   a bit of it lies, and no others;
-/// - `slice items`, the items, of a type that is laid out as that of the function, and their
-///   number; `slice_mut` of those that are written, and `cast_mut` of another type that is laid out
-///   alike;
-/// - `value n`, the number itself.
+/// - `window bits`: the bytes, their number, the offset and the length;
+/// - `start bits`: the same without the length, which is that of another window;
+/// - `start_mut written`: the same for a writable window. The function sees only the bytes that
+///   have a bit of the window;
+/// - `slice items`: items with the layout of the function's type, and their number; `slice_mut` for
+///   items that it writes, and `cast_mut` for items of another type with the same layout;
+/// - `value n`: the number itself.
 ///
-/// What the function wants ([`crate::native`]) is so: a [`Bits`] and a [`Written`] lie in their
-/// bytes and end at a `usize`, references may be read and written, a `&mut` overlaps nothing, and
-/// only a level that the processor has is current. What else a function wants, its callers here
-/// have tested, as is said before each, and asserted where the crate is tested.
+/// The requirements of each function ([`crate::native`]) hold: a [`Bits`] and a [`Written`] are in
+/// bounds of their bytes and end at a `usize`, references may be read and written, a `&mut`
+/// overlaps nothing, and the current level is one that the processor has. Each function here
+/// documents its other requirements. Its callers have tested them, and debug builds assert them.
 #[cfg(vortex_bits_native)]
 macro_rules! native {
     ($name:ident: $($args:tt)*) => {
@@ -23,7 +22,7 @@ macro_rules! native {
             return native!(@call kernels.$name, [] $($args)*);
         }
     };
-    // SAFETY: as of the macro.
+    // SAFETY: see the macro's documentation.
     (@call $function:expr, [$($done:expr,)*]) => { unsafe { ($function)($($done),*) }.into() };
     (@call $function:expr, [$($done:expr,)*] window $bits:expr $(, $($rest:tt)*)?) => {
         native!(@call $function, [$($done,)* $bits.bytes().as_ptr(), $bits.bytes().len(),
@@ -54,7 +53,7 @@ macro_rules! native {
     };
 }
 
-/// There is no C function.
+/// Does nothing: there is no C function.
 #[cfg(not(vortex_bits_native))]
 macro_rules! native {
     ($($call:tt)*) => {};

@@ -1,4 +1,4 @@
-//! Values compared, into bits.
+//! Compares values, into bits.
 
 use crate::compare::{Compare, Comparison};
 use crate::portable;
@@ -7,7 +7,7 @@ use crate::written::Written;
 #[cfg(vortex_bits_native)]
 use crate::level::kernels;
 
-/// Of as many values as bits.
+/// There is one value per bit.
 #[inline]
 pub fn compare<T: Compare>(out: &mut Written<'_>, values: &[T], op: Comparison, number: T) {
     debug_assert_eq!(out.len(), values.len());
@@ -19,7 +19,7 @@ pub fn compare<T: Compare>(out: &mut Written<'_>, values: &[T], op: Comparison, 
     portable::compare(out, values, op, number);
 }
 
-/// Of as many values and others as bits.
+/// There is one value and one other per bit.
 #[inline]
 pub fn compare_with<T: Compare>(out: &mut Written<'_>, values: &[T], op: Comparison, others: &[T]) {
     debug_assert!(out.len() == values.len() && others.len() == values.len());

@@ -1,4 +1,4 @@
-//! Bits and values that a mask keeps.
+//! Selects bits and values by a mask.
 
 use crate::written::Written;
 use crate::{Bits, Value, portable};
@@ -10,7 +10,7 @@ use crate::level::kernels;
 #[cfg(vortex_bits_native)]
 use crate::value::Laid;
 
-/// Of a mask as long as the bits, and as many bits of `out` as are true in it.
+/// `mask` is as long as `bits`, and `out` has one bit per set bit of `mask`.
 #[inline]
 pub fn filter(out: &mut Written<'_>, bits: Bits<'_>, mask: Bits<'_>) {
     debug_assert_eq!(bits.len(), mask.len());
@@ -25,7 +25,7 @@ pub fn filter(out: &mut Written<'_>, bits: Bits<'_>, mask: Bits<'_>) {
     portable::filter(out, bits, mask);
 }
 
-/// Of as many values as bits of the mask, and an item of `out` for each whose bit is true.
+/// There is one value per bit of the mask, and one item of `out` per set bit. Returns their number.
 #[inline]
 pub fn keep<T: Value>(out: &mut [T], values: &[T], mask: Bits<'_>) -> usize {
     debug_assert_eq!(values.len(), mask.len());

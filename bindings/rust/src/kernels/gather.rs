@@ -1,4 +1,4 @@
-//! Truth values packed into bits, and bits taken at indices.
+//! Packs truth values into bits, and takes bits at indices.
 
 use crate::take::BitIndex;
 use crate::written::Written;
@@ -11,7 +11,7 @@ use crate::native::Kernels;
 #[cfg(vortex_bits_native)]
 use crate::value::Laid;
 
-/// Of as many values as bits. A `bool` is a byte 0 or 1.
+/// There is one value per bit. A `bool` is a byte 0 or 1.
 #[inline]
 pub fn pack_bools(out: &mut Written<'_>, bools: &[bool]) {
     debug_assert_eq!(out.len(), bools.len());
@@ -19,7 +19,7 @@ pub fn pack_bools(out: &mut Written<'_>, bools: &[bool]) {
     portable::pack(out, bools, |value| value);
 }
 
-/// Of as many bytes as bits.
+/// There is one byte per bit.
 #[inline]
 pub fn pack_truthy(out: &mut Written<'_>, truthy: &[u8]) {
     debug_assert_eq!(out.len(), truthy.len());
@@ -27,8 +27,8 @@ pub fn pack_truthy(out: &mut Written<'_>, truthy: &[u8]) {
     portable::pack(out, truthy, |value| value != 0);
 }
 
-/// Writes the bits at the indices, of which there are as many as bits of `out` and of `validity`;
-/// or answers the first position that counts and whose index isn't a place.
+/// Writes the bits at the indices. There is one index per bit of `out` and of `validity`. Returns
+/// the first valid position whose index is out of bounds; None if there is none.
 #[inline]
 pub fn take<I: BitIndex>(
     out: &mut Written<'_>,
@@ -46,7 +46,7 @@ pub fn take<I: BitIndex>(
     portable::take(out, bits, indices, validity)
 }
 
-/// By the C function for indices that are laid out so.
+/// Calls the C function for the layout of the indices.
 #[cfg(vortex_bits_native)]
 #[inline]
 fn take_by_width<I: BitIndex>(

@@ -1,4 +1,4 @@
-//! Truth values that may be null, combined by three-valued logic.
+//! Combines truth values that may be null by three-valued logic.
 
 use crate::written::Written;
 use crate::{Bits, portable};
@@ -6,18 +6,18 @@ use crate::{Bits, portable};
 #[cfg(vortex_bits_native)]
 use crate::level::kernels;
 
-/// Truth values that may be null: bits, and which are valid; None where all are.
+/// Truth values that may be null: their bits, and which are valid. None means that all are valid.
 pub type Column<'a> = (Bits<'a>, Option<Bits<'a>>);
 
-/// How two truth values that may be null are combined.
+/// An operator on two truth values that may be null.
 #[derive(Clone, Copy, PartialEq, Eq)]
 pub enum Logic {
     And,
     Or,
 }
 
-/// Writes which are true and which aren't null of the two columns' truth values, combined. All six
-/// windows are as long.
+/// Combines the truth values of two columns, and writes which are true and which aren't null. All
+/// windows have one length.
 #[inline]
 pub fn combine_truths(
     trues: &mut Written<'_>,

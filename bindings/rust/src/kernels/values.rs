@@ -1,4 +1,4 @@
-//! Values at indices.
+//! Takes values at indices.
 
 use crate::take::BitIndex;
 use crate::{Bits, Value, portable};
@@ -10,12 +10,12 @@ use crate::native::Kernels;
 #[cfg(vortex_bits_native)]
 use crate::value::Laid;
 
-/// Up to so many values a call by a pointer costs more than they do.
+/// For up to this number of values a call through a pointer costs more than taking them.
 #[cfg(vortex_bits_native)]
 const FEW: usize = 16;
 
-/// Writes the values at the indices, of which there are as many as items of `out` and bits of
-/// `validity`; or answers the first position that counts and whose index names no value.
+/// Writes the values at the indices. There is one index per item of `out` and per bit of
+/// `validity`. Returns the first valid position whose index names no value; None if there is none.
 #[inline]
 pub fn take_values<T: Value, I: BitIndex>(
     out: &mut [T],
@@ -37,7 +37,7 @@ pub fn take_values<T: Value, I: BitIndex>(
     portable::take_values(out, values, indices, validity)
 }
 
-/// By the C function for values and indices that are laid out so.
+/// Calls the C function for the layouts of the values and the indices.
 #[cfg(vortex_bits_native)]
 #[inline]
 fn by_kind<T: Value, I: BitIndex>(

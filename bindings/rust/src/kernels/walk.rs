@@ -1,5 +1,6 @@
-//! Places and runs of true bits, written into a slice. The C functions pass four words of zeros at
-//! once, which may lie on two pages of memory: so they go by pages.
+//! Writes the indices and runs of set bits into a slice. The C functions skip four words of zeros
+//! at once, and these words may lie on two pages of memory. So the calls here pass a window page by
+//! page, and pass no further page once the slice is full.
 
 use super::Run;
 use crate::{Bits, portable};
@@ -11,7 +12,8 @@ use crate::level::kernels;
 #[cfg(vortex_bits_native)]
 use crate::native::Kernels;
 
-/// Writes the places of the true bits to the front of `out`, and answers how many have room.
+/// Writes the indices of the set bits to the front of `out`, as many as fit, and returns their
+/// number.
 #[inline]
 pub fn set_indices(bits: Bits<'_>, out: &mut [usize]) -> usize {
     #[cfg(vortex_bits_native)]
@@ -21,7 +23,7 @@ pub fn set_indices(bits: Bits<'_>, out: &mut [usize]) -> usize {
     portable::set_indices(bits, out)
 }
 
-/// Writes the runs of true bits to the front of `out`, and answers how many have room.
+/// Writes the runs of set bits to the front of `out`, as many as fit, and returns their number.
 #[inline]
 pub fn set_slices(bits: Bits<'_>, out: &mut [Run]) -> usize {
     #[cfg(vortex_bits_native)]
@@ -31,7 +33,7 @@ pub fn set_slices(bits: Bits<'_>, out: &mut [Run]) -> usize {
     portable::set_slices(bits, out)
 }
 
-/// The bits from place `start` on up to the end of their page, over bytes that end there.
+/// Returns the bits from index `start` up to the end of their page, over bytes that end there.
 #[cfg(vortex_bits_native)]
 fn in_page(bits: Bits<'_>, start: usize) -> Bits<'_> {
     const PAGE: usize = 4096;
@@ -73,7 +75,7 @@ fn slices_by_pages(kernels: &Kernels, bits: Bits<'_>, out: &mut [Run]) -> usize 
     written
 }
 
-/// Where a run of true bits ends that reaches this place, or ends there.
+/// Returns the end of a run of set bits that contains index `start` or ends there.
 #[cfg(vortex_bits_native)]
 fn run_end(bits: Bits<'_>, start: usize) -> usize {
     let mut at = start;
@@ -87,7 +89,7 @@ fn run_end(bits: Bits<'_>, start: usize) -> usize {
     at
 }
 
-/// The places of a page, counted from `base` on.
+/// Writes the indices of a page's set bits, plus `base`.
 #[cfg(vortex_bits_native)]
 fn indices(kernels: &Kernels, page: Bits<'_>, base: usize, out: &mut [usize]) -> usize {
     let found = native!(@call kernels.set_indices, [] slice_mut out, window page);
@@ -98,7 +100,7 @@ fn indices(kernels: &Kernels, page: Bits<'_>, base: usize, out: &mut [usize]) ->
     found
 }
 
-/// The runs of a page, counted from `base` on.
+/// Writes the runs of a page, plus `base`.
 #[cfg(vortex_bits_native)]
 fn slices(kernels: &Kernels, page: Bits<'_>, base: usize, out: &mut [Run]) -> usize {
     let found = native!(@call kernels.set_slices, [] slice_mut out, window page);

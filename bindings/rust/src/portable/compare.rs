@@ -1,4 +1,4 @@
-//! Values compared, 64 into a word.
+//! Compares values, 64 into a word.
 
 use core::array;
 
@@ -6,7 +6,8 @@ use super::write::pack;
 use crate::compare::Comparison;
 use crate::written::Written;
 
-/// Writes which of the values compare so with the number; there are as many as bits.
+/// Writes a bit per value: the result of its comparison with the number. There is one value per
+/// bit.
 pub fn compare<T: PartialOrd + Copy>(
     out: &mut Written<'_>,
     values: &[T],
@@ -23,7 +24,8 @@ pub fn compare<T: PartialOrd + Copy>(
     }
 }
 
-/// Writes which of the values compare so with the others, of which there are as many.
+/// Writes a bit per value: the result of its comparison with the other value at the same index.
+/// There is one value and one other per bit.
 pub fn compare_with<T: PartialOrd + Copy>(
     out: &mut Written<'_>,
     values: &[T],
@@ -60,7 +62,7 @@ fn word_of<T: Copy>(values: &[T; 64], others: &[T; 64], hold: impl Fn(T, T) -> b
     super::write::word_of(&answers, |answer| answer)
 }
 
-/// Of less than 64.
+/// The same for fewer than 64 values.
 fn few<T: Copy>(values: &[T], others: &[T], hold: impl Fn(T, T) -> bool) -> u64 {
     let digits = values.iter().zip(others).enumerate();
     digits.fold(0, |word, (at, (&value, &other))| {

@@ -1,4 +1,4 @@
-//! Questions on windows.
+//! Read-only calls on windows: counts, searches and comparisons.
 
 use super::word::{first_eight, low, only_word, quick_words, word_at, words};
 use crate::Bits;
@@ -8,8 +8,8 @@ fn ones(word: u64) -> usize {
     word.count_ones() as usize
 }
 
-/// It goes by whole bytes between the first one that the window begins and the last one that it
-/// ends.
+/// Counts whole bytes between the first byte that begins in the window and the last one that ends
+/// in it.
 pub fn count_ones(bits: Bits<'_>) -> usize {
     let head = bits.len().min(bits.offset().wrapping_neg() % 8);
     let whole = (bits.len() - head) / 8;
@@ -35,9 +35,9 @@ pub fn select_unset(bits: Bits<'_>, n: usize) -> Option<usize> {
     )
 }
 
-/// The place of the `n`-th bit that is true in the words that `seen` makes of those of the window,
-/// where `count` says how many a part of it has. What is behind the first words goes by blocks, of
-/// which the one that has it is looked through.
+/// Returns the index of the `n`-th set bit after `seen` maps each word of the window. `count`
+/// counts the mapped bits of a part. After the first bits it counts block by block, and searches
+/// the words of one block only.
 #[inline]
 fn nth(
     bits: Bits<'_>,
@@ -65,7 +65,7 @@ fn nth(
     None
 }
 
-/// The same word by word; or how many of `n` are left behind the window.
+/// The same word by word. If there are too few bits, the error is `n` minus their number.
 #[inline]
 fn nth_by_words(bits: Bits<'_>, n: usize, seen: impl Fn(u64) -> u64) -> Result<usize, usize> {
     let mut left = n;
@@ -79,7 +79,7 @@ fn nth_by_words(bits: Bits<'_>, n: usize, seen: impl Fn(u64) -> u64) -> Result<u
     Err(left)
 }
 
-/// The place of the `n`-th digit 1, of which there are more.
+/// Returns the index of the `n`-th set bit of a word that has more than `n`.
 fn nth_one(word: u64, n: usize) -> usize {
     (0..n)
         .fold(word, |word, _| word & (word - 1))
@@ -106,8 +106,8 @@ pub fn next_unset(bits: Bits<'_>, from: usize) -> Option<usize> {
     next(bits, from, |word| !word)
 }
 
-/// The place of the first bit from place `from` on that is true in the words that `seen` makes of
-/// those of the window.
+/// Returns the index of the first set bit at or after `from`, after `seen` maps each word of the
+/// window.
 #[inline]
 fn next(bits: Bits<'_>, from: usize, seen: impl Fn(u64) -> u64) -> Option<usize> {
     let from = from.min(bits.len());
@@ -119,7 +119,7 @@ fn next(bits: Bits<'_>, from: usize, seen: impl Fn(u64) -> u64) -> Option<usize>
         .map(|(i, word)| from + 64 * i + word.trailing_zeros() as usize)
 }
 
-/// The place of the last bit that is true in the words that `seen` makes of those of the window.
+/// Returns the index of the last set bit, after `seen` maps each word of the window.
 fn last(bits: Bits<'_>, seen: impl Fn(u64) -> u64) -> Option<usize> {
     words(bits)
         .enumerate()
@@ -129,7 +129,7 @@ fn last(bits: Bits<'_>, seen: impl Fn(u64) -> u64) -> Option<usize> {
         .map(|(i, word)| 64 * i + word.ilog2() as usize)
 }
 
-/// Of windows of one length. No block behind the one with the first difference is read.
+/// The windows have one length. It reads no block after the one with the first difference.
 pub fn equal(left: Bits<'_>, right: Bits<'_>) -> bool {
     const BLOCK: usize = 4096;
     let differences = |start: usize| {
@@ -141,21 +141,22 @@ pub fn equal(left: Bits<'_>, right: Bits<'_>) -> bool {
     blocks.all(|start| differences(start) == 0)
 }
 
-/// Of windows of one length. No word behind the first one with such a bit is read.
+/// The windows have one length. It reads no word after the first one with a bit set in both.
 pub fn is_disjoint(left: Bits<'_>, right: Bits<'_>) -> bool {
     words(left)
         .zip(words(right))
         .all(|(left, right)| left & right == 0)
 }
 
-/// Of windows of one length. No word behind the first one with another bit is read.
+/// The windows have one length. It reads no word after the first one with a bit set only on the
+/// left.
 pub fn is_subset(left: Bits<'_>, right: Bits<'_>) -> bool {
     words(left)
         .zip(words(right))
         .all(|(left, right)| left & !right == 0)
 }
 
-/// How many bits the operator makes true, of windows of one length.
+/// Returns the number of bits that the operator sets, for windows of one length.
 pub fn combined_count(left: Bits<'_>, right: Bits<'_>, operator: Operator) -> usize {
     match operator {
         Operator::And => count_by(left, right, |left, right| left & right),
@@ -165,15 +166,16 @@ pub fn combined_count(left: Bits<'_>, right: Bits<'_>, operator: Operator) -> us
     }
 }
 
-/// How many bits are true in the words that `of` makes of those of two windows, of which it makes
-/// false of false ones.
+/// Returns the number of set bits after `of` combines the words of two windows. `of` returns 0 for
+/// two zero bits.
 fn count_by(left: Bits<'_>, right: Bits<'_>, of: impl Fn(u64, u64) -> u64) -> usize {
     fold(left, right, 0, |count, left, right| {
         count + ones(of(left, right))
     })
 }
 
-/// Folds the words of two windows of one length: first those that are quick, and then the others.
+/// Folds the words of two windows of one length: first whole words by [`quick_words`], then the
+/// rest.
 #[inline]
 fn fold<A>(left: Bits<'_>, right: Bits<'_>, first: A, f: impl Fn(A, u64, u64) -> A) -> A {
     let quick = quick_words(left).zip(quick_words(right));

@@ -1,11 +1,11 @@
-//! The bits and values that a mask keeps, and bits that go back to where it kept them.
+//! Filters bits and values by a mask, and deposits bits at the indices of a mask's set bits.
 
 use super::word::{only_word, words};
 use crate::Bits;
 use crate::written::Written;
 
-/// Writes the bits of `source` at the places that are true in `mask`, which is as long, to the
-/// front of `out`, which has room for them.
+/// Writes the bits of `source` that `mask` selects to the front of `out`. `mask` is as long as
+/// `source`, and `out` has space for the selected bits.
 pub fn filter(out: &mut Written<'_>, source: Bits<'_>, mask: Bits<'_>) {
     let mut at = 0;
     for (word, mask) in words(source).zip(words(mask)) {
@@ -15,12 +15,12 @@ pub fn filter(out: &mut Written<'_>, source: Bits<'_>, mask: Bits<'_>) {
     }
 }
 
-/// Writes the values at the true places of `mask`, which is as long, to `out`, which has an item for
-/// each of them, and answers how many they are.
+/// Writes the values that `mask` selects to `out`, and returns their number. There is one value per
+/// bit of `mask`, and one item of `out` per set bit.
 #[inline]
 pub fn keep<T: Copy>(out: &mut [T], values: &[T], mask: Bits<'_>) -> usize {
-    /// From so many kept values of 64 on it is sooner to write each value. That the next word keeps
-    /// as many as the last one is taken on trust.
+    /// If a word of 64 selects at least this number of values, it is faster to write each value.
+    /// The code expects each word to select the same number as the last one did.
     const MANY: usize = 28;
     let (mut at, mut last) = (0, 0);
     for (mask, values) in words(mask).zip(values.chunks(64)) {
@@ -42,13 +42,13 @@ pub fn keep<T: Copy>(out: &mut [T], values: &[T], mask: Bits<'_>) -> usize {
     at
 }
 
-/// Each value over the last one where that isn't kept, without a branch; items behind those that are
-/// kept hold anything. It answers how many these are.
+/// Writes each value over the last one if that isn't selected, without a branch. The items after
+/// the selected ones hold anything. Returns the number of selected values.
 #[inline]
 fn write_each<T: Copy>(out: &mut [T; 64], values: &[T; 64], mask: u64) -> usize {
     let mut at = 0;
     for (values, mask) in values.chunks_exact(8).zip(mask.to_le_bytes()) {
-        // There is room, since no more values are kept than have been looked at.
+        // There is space: no more values are selected than it has read.
         let Some(out) = out[at..].first_chunk_mut::<8>() else {
             return at;
         };
@@ -62,7 +62,7 @@ fn write_each<T: Copy>(out: &mut [T; 64], values: &[T; 64], mask: u64) -> usize 
     at
 }
 
-/// One after the other; it answers how many.
+/// Writes the selected values one by one, and returns their number.
 #[inline]
 fn write_kept<T: Copy>(out: &mut [T], values: &[T], mask: u64) -> usize {
     let (mut at, mut left) = (0, mask);
@@ -74,10 +74,9 @@ fn write_kept<T: Copy>(out: &mut [T], values: &[T], mask: u64) -> usize {
     at
 }
 
-/// The digits of `word` at the places where `mask` has 1, moved together at the low end.
+/// Returns the bits of `word` at the set bits of `mask`, moved together at the low end (`pext`).
 ///
-/// Each round moves the digits that have an odd number of gaps below them, counted in the power of
-/// two that the round stands for (Hacker's Delight, 7-4).
+/// Round k moves the bits whose number of gaps below them has bit k set (Hacker's Delight, 7-4).
 fn compress(word: u64, mask: u64) -> u64 {
     if mask == u64::MAX || mask == 0 {
         return word & mask;
@@ -96,8 +95,8 @@ fn compress(word: u64, mask: u64) -> u64 {
     word
 }
 
-/// Writes the bits of `source`, one for each true bit of `mask`, to the places where these are, and
-/// false to the others. `out` is as long as `mask`.
+/// Writes the bits of `source` to the indices of the set bits of `mask`, and false elsewhere.
+/// `source` has one bit per set bit of `mask`, and `out` is as long as `mask`.
 pub fn deposit(out: &mut Written<'_>, source: Bits<'_>, mask: Bits<'_>) {
     let mut at = 0;
     for (i, mask) in words(mask).enumerate() {
@@ -108,7 +107,7 @@ pub fn deposit(out: &mut Written<'_>, source: Bits<'_>, mask: Bits<'_>) {
     }
 }
 
-/// The lowest digits of `word`, one for each digit 1 of `mask`, at the places of these.
+/// Returns the lowest bits of `word`, one per set bit of `mask`, at the indices of those (`pdep`).
 fn expand(word: u64, mask: u64) -> u64 {
     let (mut digits, mut left, mut placed) = (word, mask, 0);
     while left != 0 {

@@ -1,5 +1,5 @@
-//! Truth values that may be null, combined by three-valued logic: by operators, each of which goes
-//! by words, and those of a word at once.
+//! Combines truth values that may be null by three-valued logic: long columns by operators on
+//! words, columns of at most one word at once.
 
 use super::word::{low, only_word};
 use super::{combine, combine_into, copy, fill, negate};
@@ -7,7 +7,7 @@ use crate::Bits;
 use crate::kernels::{Column, Logic, Operator};
 use crate::written::Written;
 
-/// Writes which are true, and which aren't null.
+/// Writes which truth values are true, and which aren't null.
 pub fn combine_truths(
     trues: &mut Written<'_>,
     valid: &mut Written<'_>,
@@ -16,7 +16,7 @@ pub fn combine_truths(
     logic: Logic,
 ) {
     let decides = logic == Logic::Or;
-    // Where one of the two decides alone.
+    // The bits that one of the two columns decides alone.
     write_where(trues, left, decides);
     write_where(valid, right, decides);
     combine(trues, valid.as_bits(), Operator::Or);
@@ -27,12 +27,12 @@ pub fn combine_truths(
     }
     combine(valid, trues.as_bits(), Operator::Or);
     if !decides {
-        // What is valid and isn't false, since all that is false is valid.
+        // True is valid and not false: all that is false is valid.
         combine(trues, valid.as_bits(), Operator::Xor);
     }
 }
 
-/// Writes which are valid and `which`.
+/// Writes which truth values are valid and equal to `which`.
 fn write_where(out: &mut Written<'_>, (bits, valid): Column<'_>, which: bool) {
     match (valid, which) {
         (Some(valid), true) => combine_into(out, valid, bits, Operator::And),
@@ -45,7 +45,7 @@ fn write_where(out: &mut Written<'_>, (bits, valid): Column<'_>, which: bool) {
     }
 }
 
-/// The same of at most 64.
+/// The same for at most 64 truth values.
 #[inline]
 pub fn combine_truth_word(
     trues: &mut Written<'_>,
@@ -64,7 +64,7 @@ pub fn combine_truth_word(
     valid.write(0, len, are_true | are_false);
 }
 
-/// Which are true, and which are false, as the lowest digits of words.
+/// Returns which truth values are true, and which are false, as the lowest bits of words.
 #[inline]
 fn known(bits: Bits<'_>, valid: Option<Bits<'_>>, len: usize) -> (u64, u64) {
     let (bits, valid) = (only_word(bits), valid.map_or(low(len), only_word));

@@ -1,5 +1,5 @@
-//! Ranks, and places of ranks, over a table with an entry for each block of 512 bits. Of a table
-//! that isn't the window's own an answer says nothing.
+//! Rank and select over a table with an entry for each block of 512 bits. With a table of another
+//! window the results mean nothing.
 
 use super::count::{count_ones, select, select_unset};
 use crate::Bits;
@@ -9,7 +9,7 @@ fn block(bits: Bits<'_>, i: usize) -> Bits<'_> {
     bits.part(BLOCK * i, (bits.len() - BLOCK * i).min(BLOCK))
 }
 
-/// Writes how many bits before each block are true, and answers how many blocks there are.
+/// Writes the number of set bits before each block, and returns the number of blocks.
 pub fn block_counts(bits: Bits<'_>, table: &mut [usize]) -> usize {
     let mut before = 0;
     for (i, entry) in table.iter_mut().enumerate() {
@@ -19,7 +19,7 @@ pub fn block_counts(bits: Bits<'_>, table: &mut [usize]) -> usize {
     table.len()
 }
 
-/// How many of the first `place` bits, of which there are as many, are true.
+/// Returns the number of set bits among the first `place` bits, which is at most the length.
 pub fn rank(bits: Bits<'_>, table: &[usize], place: usize) -> usize {
     let Some(last) = table.len().checked_sub(1) else {
         return 0;
@@ -38,7 +38,7 @@ pub fn ranked_select_unset(bits: Bits<'_>, table: &[usize], n: usize) -> Option<
     Some(BLOCK * i + select_unset(block(bits, i), n - before)?)
 }
 
-/// The last of some blocks before which there are at most `n`, and how many there are, by halves.
+/// Returns the last block with at most `n` bits before it, and their number. Does a binary search.
 fn last_block(blocks: usize, n: usize, before: impl Fn(usize) -> usize) -> Option<(usize, usize)> {
     let (mut start, mut end) = (0, blocks);
     while start < end {

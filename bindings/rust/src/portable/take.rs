@@ -1,12 +1,12 @@
-//! Bits and values taken at indices, and bits set there.
+//! Takes bits and values at indices, and sets bits there.
 
 use super::word::word_at;
 use crate::take::BitIndex;
 use crate::written::Written;
 use crate::{Bits, Value};
 
-/// Writes the bits at the indices, of which there are as many as bits of `out` and of `validity`;
-/// or answers the first position that counts and whose index isn't a place.
+/// Writes the bits at the indices. There is one index per bit of `out` and of `validity`. Returns
+/// the first valid position whose index is out of bounds; None if there is none.
 pub fn take<I: BitIndex>(
     out: &mut Written<'_>,
     bits: Bits<'_>,
@@ -29,7 +29,7 @@ pub fn take<I: BitIndex>(
     None
 }
 
-/// The bits at up to 64 indices, all of them places, as the lowest digits of a word.
+/// Returns the bits at up to 64 indices, all in bounds, as the lowest bits of a word.
 #[inline]
 fn none_past<I: BitIndex>(bits: Bits<'_>, indices: &[I]) -> u64 {
     let (bytes, offset) = (bits.bytes(), bits.offset());
@@ -40,7 +40,8 @@ fn none_past<I: BitIndex>(bits: Bits<'_>, indices: &[I]) -> u64 {
     word >> (64 - indices.len())
 }
 
-/// The same, and which of the indices are no places, whose digits hold anything; without a branch.
+/// The same, with a second word of the indices that are out of bounds, whose bits in the first word
+/// are arbitrary. It has no branch.
 fn some_past<I: BitIndex>(bits: Bits<'_>, indices: &[I]) -> (u64, u64) {
     let (mut word, mut past) = (0, 0);
     for index in indices {
@@ -55,8 +56,8 @@ fn some_past<I: BitIndex>(bits: Bits<'_>, indices: &[I]) -> (u64, u64) {
     (word >> behind, past >> behind)
 }
 
-/// Writes the values at the indices, of which there are as many as items of `out` and bits of
-/// `validity`; or answers the first position that counts and whose index names no value.
+/// Writes the values at the indices. There is one index per item of `out` and per bit of
+/// `validity`. Returns the first valid position whose index names no value; None if there is none.
 #[inline]
 pub fn take_values<T: Value, I: BitIndex>(
     out: &mut [T],
@@ -88,7 +89,8 @@ pub fn take_values<T: Value, I: BitIndex>(
     None
 }
 
-/// Makes the bits at the indices true; or answers the first position whose index isn't a place.
+/// Sets the bits at the indices. Returns the first position whose index is out of bounds; None if
+/// there is none.
 #[cfg(feature = "alloc")]
 pub fn set_all<I: BitIndex>(out: &mut Written<'_>, indices: &[I]) -> Option<usize> {
     let (offset, len) = (out.offset(), out.len());

@@ -1,5 +1,5 @@
-//! Places of true bits, and runs of these and of false ones, written into a slice. Nothing is read once the
-//! room is full.
+//! Writes the indices of set bits, and runs of set and unset bits, into a slice. It reads nothing
+//! once the slice is full.
 
 use super::word::{low, word_at};
 use crate::Bits;
@@ -13,7 +13,7 @@ pub fn unset_slices(bits: Bits<'_>, out: &mut [Run]) -> usize {
     slices(bits, out, |word| !word)
 }
 
-/// The `i`-th word that `seen` makes of those of a window; what is behind its end is false.
+/// Returns the `i`-th word of a window after `seen` maps it, with zeros after the window's end.
 #[inline]
 fn seen_at(bits: Bits<'_>, i: usize, seen: impl Fn(u64) -> u64) -> u64 {
     seen(word_at(bits, i)) & low(bits.len() - 64 * i)
@@ -36,8 +36,8 @@ pub fn set_indices(bits: Bits<'_>, out: &mut [usize]) -> usize {
     written
 }
 
-/// The runs of these bits. A run begins at each bit that differs from the one before it, and ends
-/// at the next one.
+/// Writes the runs of set bits after `seen` maps each word. Each bit that differs from the one
+/// before it begins or ends a run.
 #[inline]
 fn slices(bits: Bits<'_>, out: &mut [Run], seen: impl Fn(u64) -> u64 + Copy) -> usize {
     let (mut written, mut i) = (0, 0);

@@ -1,14 +1,14 @@
-//! Words of up to 64 bits, read and written at any place.
+//! Reads and writes words of up to 64 bits at any bit index.
 
 use crate::Bits;
 
-/// A word whose `len` lowest digits, at most 64, are 1.
+/// Returns a word whose `len` lowest bits are 1, for a `len` of at most 64.
 #[inline]
 pub fn low(len: usize) -> u64 {
     if len < 64 { (1 << len) - 1 } else { u64::MAX }
 }
 
-/// The first eight bytes as a number, lowest first; those that are missing are 0.
+/// Returns the first eight bytes as a little-endian number. Missing bytes are 0.
 #[inline]
 pub fn first_eight(bytes: &[u8]) -> u64 {
     match bytes.first_chunk() {
@@ -17,7 +17,8 @@ pub fn first_eight(bytes: &[u8]) -> u64 {
     }
 }
 
-/// Less than eight bytes as a number; where there are four, by two halves that may overlap.
+/// Returns fewer than eight bytes as a number. With at least four it reads two halves that may
+/// overlap.
 #[inline]
 fn few(bytes: &[u8]) -> u64 {
     if let (Some(low), Some(high)) = (bytes.first_chunk(), bytes.last_chunk()) {
@@ -28,7 +29,7 @@ fn few(bytes: &[u8]) -> u64 {
     digits.fold(0, |word, &byte| word << 8 | u64::from(byte))
 }
 
-/// Makes less than eight bytes the lowest ones of a number.
+/// Writes the lowest bytes of a number to fewer than eight bytes.
 #[inline]
 fn store_few(bytes: &mut [u8], word: u64) {
     let behind = bytes.len().saturating_sub(4);
@@ -52,13 +53,13 @@ fn lowest_four(word: u64) -> [u8; 4] {
     [a, b, c, d]
 }
 
-/// The bits from place `64 * i` on, at most 64 of them, as the lowest digits of a word.
+/// Returns up to 64 bits from index `64 * i` on, as the lowest bits of a word.
 #[inline]
 pub fn word_at(bits: Bits<'_>, i: usize) -> u64 {
     only_word(bits.part(64 * i, (bits.len() - 64 * i).min(64)))
 }
 
-/// The bits of a window of at most 64, as the lowest digits of a word.
+/// Returns a window of at most 64 bits as the lowest bits of a word.
 #[inline]
 pub fn only_word(bits: Bits<'_>) -> u64 {
     let (first, shift) = (bits.offset() / 8, bits.offset() % 8);
@@ -73,8 +74,9 @@ pub fn only_word(bits: Bits<'_>) -> u64 {
     word & low(bits.len())
 }
 
-/// The whole words of a window. Each is put together from the two words of bytes that have it, the
-/// second of which begins at the next byte; where one has it, that one stands for both.
+/// Returns an iterator over the whole words of a window. It combines each from two words of bytes,
+/// the second of which begins one byte later. If one word of bytes has all 64 bits, it reads that
+/// one twice.
 #[inline]
 pub fn quick_words(bits: Bits<'_>) -> impl ExactSizeIterator<Item = u64> {
     let (first, shift) = (bits.offset() / 8, bits.offset() % 8);
@@ -86,7 +88,8 @@ pub fn quick_words(bits: Bits<'_>) -> impl ExactSizeIterator<Item = u64> {
     words.map(move |(low, high)| eight_of(low) >> shift | eight_of(high) << back)
 }
 
-/// Eight bytes as a number, lowest first, with no way for fewer: so that a loop becomes vectors.
+/// Returns eight bytes as a little-endian number. It doesn't branch for fewer bytes, so that the
+/// compiler makes vectors of a loop.
 #[inline]
 pub fn eight_of(bytes: &[u8]) -> u64 {
     bytes
@@ -94,14 +97,14 @@ pub fn eight_of(bytes: &[u8]) -> u64 {
         .map_or(0, |eight| u64::from_le_bytes(*eight))
 }
 
-/// The bits as words of 64, the last one filled up with false.
+/// Returns an iterator over the bits as words of 64. Zeros fill up the last one.
 #[inline]
 pub fn words(bits: Bits<'_>) -> impl DoubleEndedIterator<Item = u64> + ExactSizeIterator {
     (0..bits.len().div_ceil(64)).map(move |i| word_at(bits, i))
 }
 
-/// Makes the `len` bits from bit `offset` on, at most 64, the lowest digits of the word. Bytes behind
-/// them may be stored again as they were: all are the window's.
+/// Writes the lowest `len` bits of the word, at most 64, from bit `offset` on. It may store later
+/// bytes again unchanged: all of them belong to the window.
 #[inline]
 pub fn write(bytes: &mut [u8], offset: usize, len: usize, word: u64) {
     let (first, shift) = (offset / 8, offset % 8);
@@ -112,7 +115,7 @@ pub fn write(bytes: &mut [u8], offset: usize, len: usize, word: u64) {
     }
 }
 
-/// The same from digit `shift` of the first byte on. It is a function of its own, so that loops over
+/// The same from bit `shift` of the first byte on. It is a separate function, so that loops over
 /// whole words stay small.
 #[inline(never)]
 fn merge(bytes: &mut [u8], shift: usize, len: usize, word: u64) {

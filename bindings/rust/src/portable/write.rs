@@ -1,4 +1,4 @@
-//! Windows filled, negated, copied, combined and packed, by words.
+//! Fills, negates, copies, combines and packs windows, by words.
 
 use super::word::{eight_of, low, only_word, quick_words};
 use crate::Bits;
@@ -14,7 +14,7 @@ pub fn fill(out: &mut Written<'_>, value: bool) {
     each_byte(out, |_| all);
 }
 
-/// The bits of the window in the first byte of one that isn't empty, and in the last one.
+/// Returns the bits of the window in its first byte and in its last one. The window isn't empty.
 #[inline]
 fn ends(out: &Written<'_>) -> (u8, u8) {
     let end = out.offset() + out.len();
@@ -22,8 +22,8 @@ fn ends(out: &Written<'_>) -> (u8, u8) {
     (head.to_le_bytes()[0], tail.to_le_bytes()[0])
 }
 
-/// Makes each byte of a window of more than 64 bits what `of` answers for it; of the first and the
-/// last byte only the bits of the window.
+/// Replaces each byte of a window of more than 64 bits by `of(byte)`. In the first and the last
+/// byte it replaces only the bits of the window.
 #[inline]
 fn each_byte(out: &mut Written<'_>, of: impl Fn(u8) -> u8) {
     let (head, tail) = ends(out);
@@ -37,21 +37,21 @@ fn each_byte(out: &mut Written<'_>, of: impl Fn(u8) -> u8) {
     }
 }
 
-/// Bits that are written, or combined with those that are there, read by words.
+/// Bits to write, or to combine with those that are present, which are read by words.
 trait Source: Copy {
-    /// Whether the first bit is this digit of its byte.
+    /// Returns whether the first bit is bit `digit` of its byte.
     fn is_at(self, digit: usize) -> bool;
 
-    /// The `len` bits from place `start` on.
+    /// Returns the `len` bits from index `start` on.
     fn part(self, start: usize, len: usize) -> Self;
 
-    /// At most 64 bits, as the lowest digits of a word.
+    /// Returns at most 64 bits as the lowest bits of a word.
     fn only_word(self) -> u64;
 
-    /// The whole words, of a first bit that begins a byte.
+    /// Returns the whole words. The first bit is the first one of a byte.
     fn byte_words(self) -> impl ExactSizeIterator<Item = u64>;
 
-    /// The whole words, wherever the first bit is.
+    /// Returns the whole words, for a first bit at any offset.
     fn quick_words(self) -> impl ExactSizeIterator<Item = u64>;
 }
 
@@ -83,7 +83,7 @@ impl Source for Bits<'_> {
     }
 }
 
-/// What an operator makes of two windows of one length.
+/// The result of an operator on two windows of one length.
 #[derive(Clone, Copy)]
 struct Both<'a, F> {
     left: Bits<'a>,
@@ -125,8 +125,8 @@ impl<F: Fn(u64, u64) -> u64 + Copy> Source for Both<'_, F> {
     }
 }
 
-/// Makes each bit what `of` answers for it and for the bit at the same place of a source of the
-/// same length.
+/// Replaces each bit by `of(bit, other)`, where the other bit is at the same index of a source of
+/// the same length.
 #[inline]
 fn each(out: &mut Written<'_>, source: impl Source, of: impl Fn(u64, u64) -> u64 + Copy) {
     if out.len() > 64 {
@@ -149,14 +149,14 @@ fn each(out: &mut Written<'_>, source: impl Source, of: impl Fn(u64, u64) -> u64
     }
 }
 
-/// The bytes of a word, of which the bits that are true in `mask` are what `of` answers for them.
+/// Returns the bytes of a word whose bits are replaced by `of` at the set bits of `mask`.
 #[inline]
 fn merged(own: u64, mask: u64, right: u64, of: impl Fn(u64, u64) -> u64) -> [u8; 8] {
     (own & !mask | of(own, right) & mask).to_le_bytes()
 }
 
-/// The same as [`each`] of more than 64 bits: the rest of the first byte, whole words of bytes, and
-/// the bits behind them, which are among the last eight bytes.
+/// The same as [`each`] for more than 64 bits: first the rest of the first byte, then whole words
+/// of bytes, then the last bits, which are among the last eight bytes.
 #[inline]
 fn each_of_many(out: &mut Written<'_>, source: impl Source, of: impl Fn(u64, u64) -> u64 + Copy) {
     let (digit, len) = (out.offset(), out.len());
@@ -181,8 +181,8 @@ fn each_of_many(out: &mut Written<'_>, source: impl Source, of: impl Fn(u64, u64
     }
 }
 
-/// The same of the whole words of some bytes, in a function of its own, where the compiler sees that
-/// what is written overlaps nothing that is read, and how many bytes a word has.
+/// The same for the whole words of some bytes. In a separate function the compiler sees that the
+/// written bytes overlap none that are read, and that each word has eight bytes.
 #[inline(never)]
 fn each_whole<W: Iterator<Item = u64>>(
     bytes: &mut [u8],
@@ -195,8 +195,7 @@ fn each_whole<W: Iterator<Item = u64>>(
     }
 }
 
-/// Makes each bit what `of` answers for the bits at the same place of two windows of the same
-/// length.
+/// Replaces each bit by `of` of the bits at the same index of two windows of the same length.
 #[inline]
 fn each_of(
     out: &mut Written<'_>,
@@ -214,12 +213,12 @@ pub fn negate(out: &mut Written<'_>) {
     each_byte(out, |byte| !byte);
 }
 
-/// Of windows of one length.
+/// The windows have one length.
 pub fn copy(out: &mut Written<'_>, source: Bits<'_>) {
     each(out, source, |_, word| word);
 }
 
-/// Of windows of one length. Each operator has a loop of its own.
+/// The windows have one length. Each operator has its own loop.
 pub fn combine(out: &mut Written<'_>, right: Bits<'_>, operator: Operator) {
     match operator {
         Operator::And => each(out, right, |left, right| left & right),
@@ -229,7 +228,7 @@ pub fn combine(out: &mut Written<'_>, right: Bits<'_>, operator: Operator) {
     }
 }
 
-/// Of windows of one length. Each operator has a loop of its own.
+/// The windows have one length. Each operator has its own loop.
 pub fn combine_into(out: &mut Written<'_>, left: Bits<'_>, right: Bits<'_>, operator: Operator) {
     match operator {
         Operator::And => each_of(out, left, right, |left, right| left & right),
@@ -239,7 +238,7 @@ pub fn combine_into(out: &mut Written<'_>, left: Bits<'_>, right: Bits<'_>, oper
     }
 }
 
-/// Of as many values as bits.
+/// There is one value per bit.
 pub fn pack<T: Copy>(out: &mut Written<'_>, values: &[T], is_true: impl Fn(T) -> bool) {
     for (i, values) in values.chunks(64).enumerate() {
         let word = match values.first_chunk() {
@@ -250,7 +249,7 @@ pub fn pack<T: Copy>(out: &mut Written<'_>, values: &[T], is_true: impl Fn(T) ->
     }
 }
 
-/// Eight bytes of 0 or 1 are multiplied by a number that moves each of them to its digit of the
+/// It multiplies eight bytes of 0 or 1 by a number that moves each of them to its bit of the
 /// highest byte.
 #[inline]
 pub(super) fn word_of<T: Copy>(values: &[T; 64], is_true: impl Fn(T) -> bool) -> u64 {
@@ -264,7 +263,7 @@ pub(super) fn word_of<T: Copy>(values: &[T; 64], is_true: impl Fn(T) -> bool) ->
     u64::from_le_bytes(packed)
 }
 
-/// Of less than 64.
+/// The same for fewer than 64 values.
 fn few<T: Copy>(values: &[T], is_true: impl Fn(T) -> bool) -> u64 {
     let digits = values.iter().enumerate();
     digits.fold(0, |word, (at, &value)| {
