@@ -1,4 +1,4 @@
-//! Bits with their bytes.
+//! Bits that own their bytes.
 
 mod ask;
 mod grow;
@@ -12,9 +12,9 @@ use crate::error::{BadIndex, OutOfBounds, expect};
 use crate::rank::Ranked;
 use crate::{BitIndex, Bits, BitsMut, portable};
 
-/// Bits with the bytes that hold them, to keep and to return. The bytes are shared ones, of which a
-/// slice is another window, or an engine's own buffer `B`. A bitmap has the calls of [`Bits`]; in
-/// [`SharedBytes`] and in [`AlignedBytes`] it also grows and can be edited.
+/// Bits with their bytes, to keep and to return. By default the bytes are shared: a slice is
+/// another window of them. They can also be an engine's own buffer `B`. A bitmap has the calls of
+/// [`Bits`]. In [`SharedBytes`] and in [`AlignedBytes`] it also grows and can be edited.
 ///
 /// ```
 /// use vortex_bits::{Bits, Bitmap};
@@ -30,7 +30,7 @@ use crate::{BitIndex, Bits, BitsMut, portable};
 /// let (a, b, c) = (part.bits(), valid.slice(0..38), valid.slice(1..39));
 /// assert_eq!((a & &b & c).count_ones(), a.and_count(&(&b & valid.slice(1..39))));
 ///
-/// // Over bytes of another's.
+/// // Over the bytes of another owner.
 /// let lent = Bitmap::new(vec![0b1110_1000u8, 0b0000_0110], 3, 10);
 /// assert_eq!(lent.select(1), Some(2));
 /// ```
@@ -42,17 +42,18 @@ pub struct Bitmap<B = SharedBytes> {
     len: usize,
 }
 
-/// A [`Bitmap`] with its own bytes, which grows without a test for other owners: for bits that come
-/// one by one. [`Bitmap::growing`] returns one.
+/// A [`Bitmap`] with its own bytes. It appends without a test for other owners, so it is the one to
+/// append single bits to. [`Bitmap::growing`] returns one.
 #[doc(alias("BitBufferMut", "BooleanBufferBuilder"))]
 pub type BitmapMut = Bitmap<AlignedBytes>;
 
 impl<B: AsRef<[u8]>> Bitmap<B> {
-    /// Returns the window of these bits.
+    /// Returns a window of `len` bits from bit `offset` of the bytes on. Does not allocate.
     ///
     /// # Panics
     ///
-    /// If it isn't in the bytes; [`try_new`](Bitmap::try_new) returns an error instead.
+    /// Panics if the window isn't in bounds of the bytes; [`try_new`](Bitmap::try_new) returns an
+    /// error instead.
     #[inline]
     #[must_use]
     #[track_caller]
@@ -60,11 +61,12 @@ impl<B: AsRef<[u8]>> Bitmap<B> {
         expect(Bitmap::try_new(bytes, offset, len))
     }
 
-    /// Returns the window of these bits.
+    /// Returns a window of `len` bits from bit `offset` of the bytes on. Does not allocate.
     ///
     /// # Errors
     ///
-    /// If it isn't in the bytes, or its end is no `usize`; the bytes are then dropped.
+    /// Returns [`OutOfBounds`] if the window isn't in bounds of the bytes, or its end isn't a
+    /// `usize`. The bytes are dropped on an error.
     ///
     /// ```
     /// use vortex_bits::Bitmap;
@@ -81,7 +83,7 @@ impl<B: AsRef<[u8]>> Bitmap<B> {
     ///
     /// # Panics
     ///
-    /// If `B` returns fewer bytes than it did before.
+    /// Panics if `B` returns fewer bytes than it did before.
     #[inline]
     #[must_use]
     #[track_caller]
@@ -96,19 +98,19 @@ impl<B: AsRef<[u8]>> Bitmap<B> {
         self.len
     }
 
-    /// Returns whether there are none.
+    /// Returns whether there are no bits.
     #[inline]
     #[must_use]
     pub const fn is_empty(&self) -> bool {
         self.len == 0
     }
 
-    /// Returns the bits of a range of indices, in a clone of `B`, which shares the bytes of
-    /// [`SharedBytes`] and of an [`Arc`](alloc::sync::Arc).
+    /// Returns the bits of a range of indices, in a clone of `B`. A clone of [`SharedBytes`] or of
+    /// an [`Arc`](alloc::sync::Arc) shares the bytes.
     ///
     /// # Panics
     ///
-    /// If the range starts after its end, or ends after the bits.
+    /// Panics if the range starts after its end, or ends after the bits.
     #[must_use]
     #[track_caller]
     pub fn slice(&self, range: impl RangeBounds<usize>) -> Bitmap<B>
@@ -118,7 +120,7 @@ impl<B: AsRef<[u8]>> Bitmap<B> {
         expect(self.try_slice(range))
     }
 
-    /// [`Bitmap::slice`].
+    /// Returns the bits of a range of indices, as [`Bitmap::slice`] does.
     ///
     /// ```
     /// use vortex_bits::Bitmap;
@@ -128,7 +130,7 @@ impl<B: AsRef<[u8]>> Bitmap<B> {
     ///
     /// # Errors
     ///
-    /// If the range starts after its end, or ends after the bits.
+    /// Returns [`OutOfBounds`] if the range starts after its end, or ends after the bits.
     pub fn try_slice(&self, range: impl RangeBounds<usize>) -> Result<Bitmap<B>, OutOfBounds>
     where
         B: Clone,
@@ -141,7 +143,7 @@ impl<B: AsRef<[u8]>> Bitmap<B> {
         })
     }
 
-    /// Returns the bits with a table for ranks, which it allocates. Counts the bits once.
+    /// Returns the bits with a table for ranks. Allocates the table, and counts the bits once.
     #[doc(alias("rank", "select"))]
     #[must_use]
     pub fn ranked(self) -> Ranked<B> {
@@ -160,8 +162,8 @@ impl<B: AsRef<[u8]>> Bitmap<B> {
         self.bytes
     }
 
-    /// Returns the owner of the bytes, the index of the first bit in them, and the length, as
-    /// [`new`](Bitmap::new) takes them.
+    /// Returns the arguments of [`new`](Bitmap::new): the owner of the bytes, the index of the
+    /// first bit in them, and the length in bits.
     ///
     /// ```
     /// use vortex_bits::Bitmap;
@@ -177,7 +179,7 @@ impl<B: AsRef<[u8]>> Bitmap<B> {
 }
 
 impl Bitmap {
-    /// Returns new bits, which `write` writes; all others are false.
+    /// Returns `len` new bits. `write` gets them as a writable window, all false.
     ///
     /// ```
     /// use vortex_bits::{Bitmap, Bits};
@@ -197,7 +199,7 @@ impl Bitmap {
         expect(made)
     }
 
-    /// Returns `len` bits, all true, as the validity of a column without a null.
+    /// Returns `len` bits, all true, such as the validity of a column without nulls.
     ///
     /// ```
     /// use vortex_bits::Bitmap;
@@ -216,7 +218,7 @@ impl Bitmap {
         Bitmap::make(len, |_| ())
     }
 
-    /// Returns `len` bits, set at the indices only; an index may occur more than once.
+    /// Returns `len` bits that are set only at the indices. An index may occur more than once.
     ///
     /// ```
     /// use vortex_bits::Bitmap;
@@ -227,7 +229,7 @@ impl Bitmap {
     ///
     /// # Panics
     ///
-    /// If an index isn't below `len`.
+    /// Panics if an index isn't below `len`.
     #[doc(alias("scatter"))]
     #[must_use]
     #[track_caller]
@@ -235,7 +237,7 @@ impl Bitmap {
         expect(Bitmap::try_from_indices(len, indices))
     }
 
-    /// [`Bitmap::from_indices`].
+    /// Returns `len` bits that are set only at the indices, as [`Bitmap::from_indices`] does.
     ///
     /// ```
     /// use vortex_bits::Bitmap;
@@ -246,7 +248,7 @@ impl Bitmap {
     ///
     /// # Errors
     ///
-    /// If an index isn't below `len`: the first such one.
+    /// Returns [`BadIndex`] with the first index that isn't below `len`.
     pub fn try_from_indices<I: BitIndex>(len: usize, indices: &[I]) -> Result<Bitmap, BadIndex> {
         Bitmap::try_make(len, |mut out| {
             let refused = portable::set_all(&mut out.written(), indices);
@@ -260,8 +262,8 @@ impl Bitmap {
         })
     }
 
-    /// Returns no bits, with capacity for `bits`, in its own bytes; [`share`](BitmapMut::share)
-    /// makes it a bitmap that clones share.
+    /// Returns an empty bitmap with its own bytes, and capacity for `bits` bits.
+    /// [`share`](BitmapMut::share) turns it into a bitmap that clones share.
     ///
     /// ```
     /// use vortex_bits::{Bitmap, BitmapMut};
@@ -282,7 +284,7 @@ impl Bitmap {
         }
     }
 
-    /// Returns the bits in their own bytes: a copy of these if they have other owners too.
+    /// Returns the bits in their own bytes. Copies them only if the bytes have other owners.
     ///
     /// ```
     /// use vortex_bits::Bitmap;
@@ -315,7 +317,7 @@ impl Bitmap {
 }
 
 impl BitmapMut {
-    /// Returns the bits in bytes that clones and slices share. Copies nothing.
+    /// Returns the bits in bytes that clones and slices share. Does not copy them.
     ///
     /// ```
     /// use vortex_bits::Bitmap;

@@ -6,11 +6,12 @@ use crate::error::{OutOfBounds, expect};
 use crate::iter::{Iter, SetIndices, SetSlices, UnsetIndices, UnsetSlices, Words};
 use crate::kernels;
 
-/// The `len` bits starting at bit `offset` of some bytes, least significant bit first: bit `i` of
-/// the bytes is bit `i % 8` of byte `i / 8`, and index `i` of the window is bit `offset + i`.
+/// A read-only window: the `len` bits starting at bit `offset` of some bytes, least significant bit
+/// first. Bit `i` of the bytes is bit `i % 8` of byte `i / 8`, and index `i` of the window is bit
+/// `offset + i` of the bytes.
 ///
-/// Results depend on these bits alone, whatever else the bytes hold: two windows are equal if they
-/// have the same bits, at whatever offsets.
+/// Results depend on these bits alone, and not on other bits of the bytes. Two windows are equal if
+/// they have the same bits, at any offsets.
 ///
 /// ```
 /// use vortex_bits::Bits;
@@ -62,11 +63,12 @@ pub(crate) fn within(
 }
 
 impl<'a> Bits<'a> {
-    /// Returns the window of these bits.
+    /// Returns a window of `len` bits from bit `offset` of the bytes on. Does not allocate.
     ///
     /// # Panics
     ///
-    /// If it isn't in the bytes; [`try_new`](Bits::try_new) returns an error instead.
+    /// Panics if the window isn't in bounds of the bytes; [`try_new`](Bits::try_new) returns an
+    /// error instead.
     #[inline]
     #[must_use]
     #[track_caller]
@@ -74,11 +76,12 @@ impl<'a> Bits<'a> {
         expect(Bits::try_new(bytes, offset, len))
     }
 
-    /// Returns the window of these bits.
+    /// Returns a window of `len` bits from bit `offset` of the bytes on. Does not allocate.
     ///
     /// # Errors
     ///
-    /// If it isn't in the bytes, or its end is no `usize`.
+    /// Returns [`OutOfBounds`] if the window isn't in bounds of the bytes, or its end isn't a
+    /// `usize`.
     ///
     /// ```
     /// use vortex_bits::Bits;
@@ -103,7 +106,8 @@ impl<'a> Bits<'a> {
     ///
     /// # Panics
     ///
-    /// If their number overflows a `usize`, which takes an eighth of the address space.
+    /// Panics if their number overflows a `usize`: the bytes are then at least an eighth of the
+    /// address space.
     #[inline]
     #[must_use]
     #[track_caller]
@@ -111,7 +115,7 @@ impl<'a> Bits<'a> {
         Bits::new(bytes, 0, bytes.len().saturating_mul(8))
     }
 
-    /// Returns the bytes that hold the window, those outside of it too.
+    /// Returns the bytes of the constructor, including those outside of the window.
     #[inline]
     #[must_use]
     pub const fn bytes(self) -> &'a [u8] {
@@ -132,7 +136,7 @@ impl<'a> Bits<'a> {
         self.len
     }
 
-    /// Returns whether it has none.
+    /// Returns whether the window has no bits.
     #[inline]
     #[must_use]
     pub const fn is_empty(self) -> bool {
@@ -143,7 +147,7 @@ impl<'a> Bits<'a> {
     ///
     /// # Panics
     ///
-    /// If the range starts after its end, or ends after the window.
+    /// Panics if the range starts after its end, or ends after the window.
     #[doc(alias("view"))]
     #[inline]
     #[must_use]
@@ -156,14 +160,14 @@ impl<'a> Bits<'a> {
     ///
     /// # Errors
     ///
-    /// If the range starts after its end, or ends after the window.
+    /// Returns [`OutOfBounds`] if the range starts after its end, or ends after the window.
     #[inline]
     pub fn try_slice(self, range: impl RangeBounds<usize>) -> Result<Bits<'a>, OutOfBounds> {
         let (start, len) = within(&range, self.len)?;
         Ok(self.part(start, len))
     }
 
-    /// Returns the `len` bits from index `start` on, which must be in the window.
+    /// Returns the `len` bits from index `start` on. They must be in the window.
     #[inline]
     pub(crate) fn part(self, start: usize, len: usize) -> Bits<'a> {
         debug_assert!(start <= self.len && len <= self.len - start);
@@ -205,8 +209,8 @@ impl<'a> Bits<'a> {
     }
 
     /// Returns the index of the `n`-th set bit, counted from 0; None if at most `n` are set. Counts
-    /// from the front, up to the bytes that have it: [`Ranks`](crate::Ranks) is faster for more
-    /// than a few calls.
+    /// the bits from the front up to the one it returns: for more than a few calls
+    /// [`Ranks`](crate::Ranks) is faster.
     ///
     /// ```
     /// use vortex_bits::Bits;
@@ -307,29 +311,29 @@ impl<'a> Bits<'a> {
         kernels::previous_unset(self, before)
     }
 
-    /// Returns whether any bit is set: false for no bits. Reads up to the first one.
+    /// Returns whether any bit is set: false for no bits. Reads up to the first set bit.
     #[inline]
     #[must_use]
     pub fn any(self) -> bool {
         kernels::any_set(self)
     }
 
-    /// Returns whether all bits are set: true for no bits. Reads up to the first one that isn't.
+    /// Returns whether all bits are set: true for no bits. Reads up to the first unset bit.
     #[inline]
     #[must_use]
     pub fn all(self) -> bool {
         kernels::all_set(self)
     }
 
-    /// Returns the bits, from front to end.
+    /// Returns an iterator over the bits, from front to end.
     #[inline]
     #[must_use]
     pub fn iter(self) -> Iter<'a> {
         Iter::new(self)
     }
 
-    /// Returns the indices of the set bits, in ascending order. Like the other walks it also runs
-    /// from the end.
+    /// Returns an iterator over the indices of the set bits, in ascending order. Like the other
+    /// iterators it also runs from the end.
     ///
     /// ```
     /// use vortex_bits::Bits;
@@ -345,7 +349,8 @@ impl<'a> Bits<'a> {
         SetIndices::new(self)
     }
 
-    /// Returns the maximal runs of set bits, from front to end, as ranges of indices.
+    /// Returns an iterator over the maximal runs of set bits, from front to end, as ranges of
+    /// indices.
     ///
     /// ```
     /// use vortex_bits::Bits;
@@ -360,7 +365,8 @@ impl<'a> Bits<'a> {
         SetSlices::new(self)
     }
 
-    /// Returns the indices of the unset bits, in ascending order, such as the nulls of a column.
+    /// Returns an iterator over the indices of the unset bits, in ascending order, such as the
+    /// nulls of a column.
     ///
     /// ```
     /// use vortex_bits::Bits;
@@ -375,7 +381,8 @@ impl<'a> Bits<'a> {
         UnsetIndices::new(self)
     }
 
-    /// Returns the maximal runs of unset bits, from front to end, as ranges of indices.
+    /// Returns an iterator over the maximal runs of unset bits, from front to end, as ranges of
+    /// indices.
     ///
     /// ```
     /// use vortex_bits::Bits;
@@ -389,7 +396,8 @@ impl<'a> Bits<'a> {
         UnsetSlices::new(self)
     }
 
-    /// Returns the bits as 64-bit words, the first bit lowest; pads the last word with false.
+    /// Returns an iterator over the bits as 64-bit words, with the first bit lowest. False bits pad
+    /// the last word.
     ///
     /// ```
     /// use vortex_bits::Bits;
@@ -403,8 +411,8 @@ impl<'a> Bits<'a> {
         Words::new(self)
     }
 
-    /// Writes the indices of the set bits, in ascending order, to the front of `out`, up to its
-    /// capacity, and returns the number written. The rest of `out` is unchanged.
+    /// Writes the indices of the set bits to the front of `out`, in ascending order and as many as
+    /// fit, and returns their number. The rest of `out` is unchanged.
     ///
     /// ```
     /// use vortex_bits::Bits;

@@ -8,9 +8,9 @@ use crate::error::{OutOfBounds, expect};
 use crate::kernels::{self, Operator};
 use crate::written::Written;
 
-/// A writable window of the `len` bits starting at bit `offset` of some bytes, as in [`Bits`].
-/// Every other bit of the bytes is unchanged. No call stores a byte that has no bit of its window,
-/// not even the value that the byte had.
+/// A writable window: the `len` bits starting at bit `offset` of some bytes, as in [`Bits`]. Every
+/// other bit of the bytes is unchanged. No call stores a byte that has no bit of its window, not
+/// even with the value that it had.
 ///
 /// ```
 /// use vortex_bits::{Bits, BitsMut};
@@ -31,11 +31,12 @@ pub struct BitsMut<'a> {
 }
 
 impl<'a> BitsMut<'a> {
-    /// Returns the window of these bits.
+    /// Returns a window of `len` bits from bit `offset` of the bytes on. Does not allocate.
     ///
     /// # Panics
     ///
-    /// If it isn't in the bytes; [`try_new`](BitsMut::try_new) returns an error instead.
+    /// Panics if the window isn't in bounds of the bytes; [`try_new`](BitsMut::try_new) returns an
+    /// error instead.
     #[inline]
     #[must_use]
     #[track_caller]
@@ -43,11 +44,12 @@ impl<'a> BitsMut<'a> {
         expect(BitsMut::try_new(bytes, offset, len))
     }
 
-    /// Returns the window of these bits.
+    /// Returns a window of `len` bits from bit `offset` of the bytes on. Does not allocate.
     ///
     /// # Errors
     ///
-    /// If it isn't in the bytes, or its end is no `usize`.
+    /// Returns [`OutOfBounds`] if the window isn't in bounds of the bytes, or its end isn't a
+    /// `usize`.
     ///
     /// ```
     /// use vortex_bits::BitsMut;
@@ -70,7 +72,8 @@ impl<'a> BitsMut<'a> {
     ///
     /// # Panics
     ///
-    /// If their number overflows a `usize`, which takes an eighth of the address space.
+    /// Panics if their number overflows a `usize`: the bytes are then at least an eighth of the
+    /// address space.
     #[inline]
     #[must_use]
     #[track_caller]
@@ -79,7 +82,7 @@ impl<'a> BitsMut<'a> {
         BitsMut::new(bytes, 0, len)
     }
 
-    /// Returns the window as a read-only one.
+    /// Returns a read-only window of the same bits.
     ///
     /// ```
     /// use vortex_bits::BitsMut;
@@ -95,7 +98,7 @@ impl<'a> BitsMut<'a> {
         }
     }
 
-    /// Returns the window as a read-only one, with the lifetime of its bytes.
+    /// Returns a read-only window of the same bits, with the lifetime of its bytes.
     ///
     /// ```
     /// use vortex_bits::{Bits, BitsMut};
@@ -113,7 +116,7 @@ impl<'a> BitsMut<'a> {
         Bits::new(self.bytes, self.offset, self.len)
     }
 
-    /// Returns the bytes that hold the window, those outside of it too.
+    /// Returns the bytes of the constructor, including those outside of the window.
     ///
     /// ```
     /// use vortex_bits::BitsMut;
@@ -141,7 +144,7 @@ impl<'a> BitsMut<'a> {
         self.len
     }
 
-    /// Returns whether it has none.
+    /// Returns whether the window has no bits.
     #[inline]
     #[must_use]
     pub const fn is_empty(&self) -> bool {
@@ -152,7 +155,7 @@ impl<'a> BitsMut<'a> {
     ///
     /// # Panics
     ///
-    /// If the range starts after its end, or ends after the window.
+    /// Panics if the range starts after its end, or ends after the window.
     #[inline]
     #[must_use]
     #[track_caller]
@@ -164,7 +167,7 @@ impl<'a> BitsMut<'a> {
     ///
     /// # Errors
     ///
-    /// If the range starts after its end, or ends after the window.
+    /// Returns [`OutOfBounds`] if the range starts after its end, or ends after the window.
     #[inline]
     pub fn try_slice(
         &mut self,
@@ -174,7 +177,7 @@ impl<'a> BitsMut<'a> {
         Ok(self.part(start, len))
     }
 
-    /// Returns the `len` bits from index `start` on, which must be in the window.
+    /// Returns the `len` bits from index `start` on. They must be in the window.
     #[inline]
     pub(crate) fn part(&mut self, start: usize, len: usize) -> BitsMut<'_> {
         debug_assert!(start <= self.len && len <= self.len - start);
@@ -185,7 +188,7 @@ impl<'a> BitsMut<'a> {
         }
     }
 
-    /// Returns the window over the bytes that have a bit of it, and no others.
+    /// Returns the same window over only the bytes that have a bit of it.
     #[inline]
     pub(crate) fn narrowed(self) -> BitsMut<'a> {
         let BitsMut { bytes, offset, len } = self;
@@ -199,7 +202,7 @@ impl<'a> BitsMut<'a> {
         }
     }
 
-    /// Returns the bits before index `mid` and those from it on, each over its own bytes; `mid` is
+    /// Returns the bits before index `mid` and those from it on, each over its own bytes. `mid` is
     /// 0, the length, or a border between two bytes.
     #[inline]
     pub(crate) fn split(self, mid: usize) -> (BitsMut<'a>, BitsMut<'a>) {
@@ -212,7 +215,7 @@ impl<'a> BitsMut<'a> {
         (part(low, offset, mid), part(high, 0, len - mid))
     }
 
-    /// Returns the bytes that calls may store when they write it.
+    /// Returns the bytes that a call may store when it writes the window.
     #[inline]
     pub(crate) fn written(&mut self) -> Written<'_> {
         Written::of(self.part(0, self.len))
@@ -235,7 +238,7 @@ impl<'a> BitsMut<'a> {
     ///
     /// # Panics
     ///
-    /// If the index is out of bounds.
+    /// Panics if the index is out of bounds.
     #[inline]
     #[track_caller]
     pub fn set(&mut self, place: usize, value: bool) {
@@ -253,7 +256,7 @@ impl<'a> BitsMut<'a> {
         }
     }
 
-    /// Sets each bit to `value`; to fill a part, `bits.slice(6..11).fill(true)`.
+    /// Sets each bit to `value`. `bits.slice(6..11).fill(true)` fills a part.
     #[doc(alias("set_range"))]
     #[inline]
     pub fn fill(&mut self, value: bool) {
@@ -275,7 +278,7 @@ impl<'a> BitsMut<'a> {
         kernels::negate(&mut self.written());
     }
 
-    /// Sets each bit to `bit(index)`; calls `bit` once per index, in ascending order.
+    /// Sets each bit to `bit(index)`. Calls `bit` once per index, in ascending order.
     ///
     /// ```
     /// use vortex_bits::BitsMut;
@@ -297,7 +300,7 @@ impl<'a> BitsMut<'a> {
         }
     }
 
-    /// Copies the truth values.
+    /// Copies the truth values, one per bit.
     ///
     /// ```
     /// use vortex_bits::BitsMut;
@@ -310,7 +313,7 @@ impl<'a> BitsMut<'a> {
     ///
     /// # Panics
     ///
-    /// If their number is not that of the bits.
+    /// Panics if there isn't one truth value per bit.
     #[doc(alias("pack"))]
     #[inline]
     #[track_caller]
@@ -319,11 +322,11 @@ impl<'a> BitsMut<'a> {
         kernels::pack_bools(&mut self.written(), bools);
     }
 
-    /// Sets each bit to whether its byte isn't 0.
+    /// Sets each bit to true if its byte isn't 0, and to false otherwise.
     ///
     /// # Panics
     ///
-    /// If there is not one byte per bit.
+    /// Panics if there isn't one byte per bit.
     #[inline]
     #[track_caller]
     pub fn copy_from_truthy(&mut self, truthy: &[u8]) {
@@ -335,7 +338,7 @@ impl<'a> BitsMut<'a> {
     ///
     /// # Panics
     ///
-    /// If the windows differ in length, as in all calls below.
+    /// Panics if the windows differ in length, as do all calls below.
     #[inline]
     #[track_caller]
     pub fn copy_from(&mut self, source: Bits<'_>) {
@@ -359,7 +362,7 @@ impl<'a> BitsMut<'a> {
     }
 }
 
-/// The calls by an operator: of these bits and others, and of two others.
+/// The calls by an operator: on these bits and others, and on two others.
 macro_rules! operators {
     ($($(#[$doc:meta])* $name:ident, $of:ident: $operator:ident;)*) => {
         impl BitsMut<'_> {
@@ -368,16 +371,16 @@ macro_rules! operators {
                 ///
                 /// # Panics
                 ///
-                /// If the windows differ in length.
+                /// Panics if the windows differ in length.
                 #[inline]
                 #[track_caller]
                 pub fn $name(&mut self, right: Bits<'_>) {
                     self.combine(right, Operator::$operator);
                 }
 
-                /// Makes the bits those of `left`, and at the same time does
+                /// Writes the bits of `left`, combined by
                 #[doc = concat!("[`", stringify!($name), "`](BitsMut::", stringify!($name), ")")]
-                /// of `right`: neither of the two is changed.
+                /// with those of `right`. Both operands stay unchanged.
                 ///
                 /// ```
                 /// use vortex_bits::{Bits, BitsMut};
@@ -393,7 +396,7 @@ macro_rules! operators {
                 ///
                 /// # Panics
                 ///
-                /// If the windows differ in length.
+                /// Panics if the windows differ in length.
                 #[inline]
                 #[track_caller]
                 pub fn $of(&mut self, left: Bits<'_>, right: Bits<'_>) {
@@ -405,7 +408,7 @@ macro_rules! operators {
 }
 
 operators! {
-    /// Keeps only the bits set that are set on the right too.
+    /// Clears the bits that aren't set in `right`.
     ///
     /// ```
     /// use vortex_bits::{Bits, BitsMut};
@@ -416,7 +419,7 @@ operators! {
     /// ```
     #[doc(alias = "intersection")]
     and, and_of: And;
-    /// Sets the bits that are set on the right.
+    /// Sets the bits that are set in `right`.
     ///
     /// ```
     /// use vortex_bits::{Bits, BitsMut};
@@ -427,7 +430,7 @@ operators! {
     /// ```
     #[doc(alias = "union")]
     or, or_of: Or;
-    /// Negates the bits that are set on the right.
+    /// Negates the bits that are set in `right`.
     ///
     /// ```
     /// use vortex_bits::{Bits, BitsMut};
@@ -438,7 +441,7 @@ operators! {
     /// ```
     #[doc(alias = "symmetric_difference")]
     xor, xor_of: Xor;
-    /// Clears the bits that are set on the right.
+    /// Clears the bits that are set in `right`.
     ///
     /// ```
     /// use vortex_bits::{Bits, BitsMut};
@@ -453,7 +456,7 @@ operators! {
 
 /// # Panics
 ///
-/// If the two lengths differ.
+/// Panics if the two lengths differ.
 #[inline]
 #[track_caller]
 pub(crate) fn alike(written: usize, read: usize) {

@@ -1,4 +1,4 @@
-//! Bytes aligned to 64, with one owner and with several.
+//! Bytes aligned to 64, for one owner or several.
 
 use alloc::sync::Arc;
 use alloc::vec;
@@ -22,13 +22,13 @@ const ALIGNMENT: usize = 64;
 /// ```
 #[derive(Default)]
 pub struct AlignedBytes {
-    /// Up to 63 bytes that aren't used, and the bytes.
+    /// Up to 63 unused bytes, then the bytes.
     all: Vec<u8>,
     start: usize,
 }
 
 impl AlignedBytes {
-    /// Returns no bytes, with capacity for `bytes`.
+    /// Returns an empty buffer with capacity for `bytes` bytes.
     ///
     /// ```
     /// assert!(vortex_bits::AlignedBytes::with_capacity(100).is_empty());
@@ -36,7 +36,7 @@ impl AlignedBytes {
     ///
     /// # Panics
     ///
-    /// If they exceed the memory that a [`Vec`] can have; so below.
+    /// Panics if they exceed the memory that a [`Vec`] can have, as do the calls below.
     #[must_use]
     pub fn with_capacity(bytes: usize) -> AlignedBytes {
         if bytes == 0 {
@@ -66,7 +66,7 @@ impl AlignedBytes {
         Some(zeros)
     }
 
-    /// Returns no bytes, with capacity for `bytes`; None if memory runs out.
+    /// Returns an empty buffer with capacity for `bytes` bytes; None if memory runs out.
     #[cfg(feature = "arrow")]
     pub(crate) fn try_with_capacity(bytes: usize) -> Option<AlignedBytes> {
         if bytes == 0 {
@@ -78,21 +78,21 @@ impl AlignedBytes {
         Some(AlignedBytes::cut(all, 0))
     }
 
-    /// Appends bytes; there must be capacity for them.
+    /// Appends bytes. There must be capacity for them.
     #[cfg(feature = "arrow")]
     #[inline(never)]
     pub(crate) fn extend(&mut self, bytes: &[u8]) {
         self.all.extend_from_slice(bytes);
     }
 
-    /// Returns the first `len` aligned bytes of some memory, which has capacity for 63 more.
+    /// Returns the first `len` aligned bytes of some memory, which has capacity for 63 bytes more.
     fn cut(mut all: Vec<u8>, len: usize) -> AlignedBytes {
         let start = all.as_ptr().align_offset(ALIGNMENT).min(ALIGNMENT - 1);
         all.resize(start + len, 0);
         AlignedBytes { all, start }
     }
 
-    /// Reserves capacity for `more` bytes; new memory at least doubles the length.
+    /// Reserves capacity for `more` bytes. A new allocation at least doubles the length.
     #[inline]
     pub(crate) fn reserve(&mut self, more: usize) {
         if self.all.capacity() - self.all.len() < more {
@@ -108,7 +108,7 @@ impl AlignedBytes {
         *self = moved;
     }
 
-    /// Returns one of the bytes.
+    /// Returns the byte at an index; None if the index is out of bounds.
     #[inline]
     pub(crate) fn byte_mut(&mut self, place: usize) -> Option<&mut u8> {
         self.all.get_mut(self.start + place)
@@ -123,7 +123,7 @@ impl AlignedBytes {
         self.all.push(byte);
     }
 
-    /// Resizes to `len` bytes; new ones are 0.
+    /// Resizes to `len` bytes. New bytes are 0.
     #[inline]
     pub(crate) fn resize(&mut self, len: usize) {
         self.reserve(len.saturating_sub(self.len()));
@@ -170,7 +170,7 @@ impl From<&[u8]> for AlignedBytes {
     }
 }
 
-/// Copies, since the memory of a [`Vec`] may have any address.
+/// Copies the bytes, because the memory of a [`Vec`] may have any address.
 impl From<Vec<u8>> for AlignedBytes {
     fn from(bytes: Vec<u8>) -> AlignedBytes {
         AlignedBytes::from(&bytes[..])
@@ -195,7 +195,7 @@ impl fmt::Debug for AlignedBytes {
 pub struct SharedBytes(Arc<AlignedBytes>);
 
 impl SharedBytes {
-    /// Returns the bytes with one owner: a copy of them if they have others too.
+    /// Returns the bytes with one owner. Copies them if they have other owners.
     ///
     /// ```
     /// use vortex_bits::{AlignedBytes, SharedBytes};
@@ -232,7 +232,8 @@ impl From<AlignedBytes> for SharedBytes {
     }
 }
 
-/// Copies, since the memory of a [`Vec`] may have any address; a `Bitmap<Vec<u8>>` copies nothing.
+/// Copies the bytes, because the memory of a [`Vec`] may have any address. A `Bitmap<Vec<u8>>`
+/// copies nothing.
 ///
 /// ```
 /// use vortex_bits::{Bitmap, SharedBytes};
@@ -259,14 +260,14 @@ impl fmt::Debug for SharedBytes {
     }
 }
 
-/// A shared [`Vec`] as a slice: `Arc<Vec<T>>` has no `AsRef<[T]>`, which owners of bits and of
-/// values need. Clones share the `Vec`.
+/// A shared [`Vec`] as a slice. Owners of bits and of values need `AsRef<[T]>`, which `Arc<Vec<T>>`
+/// doesn't implement. Clones share the `Vec`.
 ///
 /// ```
 /// use std::sync::Arc;
 /// use vortex_bits::{Bitmap, SharedVec};
 ///
-/// // The buffer of an engine, whose bits from bit 3 on say which rows are valid.
+/// // An engine's buffer. From bit 3 on it has the validity of the rows.
 /// let buffer = Arc::new(vec![0b1110_1000]);
 /// let valid = Bitmap::new(SharedVec(Arc::clone(&buffer)), 3, 5);
 /// assert_eq!(valid.count_ones(), 4);
@@ -309,8 +310,8 @@ impl<T> From<Vec<T>> for SharedVec<T> {
     }
 }
 
-/// Bytes in which a [`Bitmap`](crate::Bitmap) grows and is edited: [`AlignedBytes`] in place, and
-/// [`SharedBytes`] in place if no one else shares them, else in a copy.
+/// Bytes in which a [`Bitmap`](crate::Bitmap) grows and can be edited: [`AlignedBytes`] in place,
+/// and [`SharedBytes`] in place if they have no other owner, otherwise in a copy.
 #[diagnostic::on_unimplemented(
     message = "the bits of a `Bitmap<{Self}>` are read, and don't grow",
     label = "bits in `{Self}`",
@@ -325,10 +326,10 @@ pub(crate) mod sealed {
     use super::{AlignedBytes, Arc, SharedBytes};
 
     pub trait Grow: AsRef<[u8]> + From<AlignedBytes> {
-        /// Returns whether they have no other owner.
+        /// Returns whether the bytes have no other owner.
         fn is_owned(&self) -> bool;
 
-        /// Returns the bytes, if they have no other owner.
+        /// Returns the bytes; None if they have another owner.
         fn owned(&mut self) -> Option<&mut AlignedBytes>;
     }
 

@@ -1,4 +1,4 @@
-//! Comparisons of values with a number or with other values, into bits.
+//! Compares values with a number or with other values, into bits.
 
 use crate::bits_mut::alike;
 use crate::{BitsMut, Value, kernels};
@@ -8,7 +8,8 @@ use crate::Bitmap;
 
 /// The comparison of a value with another one.
 ///
-/// Floats compare as Rust's operators do: a NaN isn't equal to anything, nor below or above it.
+/// Floats compare as Rust's operators do: a NaN isn't equal to, below or above any number, so only
+/// `NotEqual` is true of it.
 #[derive(Clone, Copy, Debug, PartialEq, Eq, Hash)]
 #[repr(u8)]
 pub enum Comparison {
@@ -26,8 +27,8 @@ pub enum Comparison {
     GreaterOrEqual,
 }
 
-/// A type of values that can be compared: whole numbers and floats. The C functions compare 64 at
-/// once of every type except whole numbers of 128 bits.
+/// A type of values that can be compared: integers and floats. The C functions compare 64 values at
+/// once, of every type except integers of 128 bits.
 #[diagnostic::on_unimplemented(
     message = "values of `{Self}` aren't compared",
     label = "values are whole numbers or floats",
@@ -39,17 +40,17 @@ pub(crate) mod sealed {
     #[cfg(vortex_bits_native)]
     use crate::native::{CompareNumber, CompareOthers, Kernels};
 
-    /// What a type of values that can be compared provides.
+    /// The parts that a type of compared values provides.
     pub trait Compare: Sized {
-        /// The type that the C functions compare, with the same layout and order as this one.
+        /// The type that the C functions compare. It has the same layout and order as this one.
         #[cfg(vortex_bits_native)]
         type Laid;
 
-        /// Returns the C function that compares with a number, and the number as it takes it.
+        /// Returns the C function that compares with a number, and the number in its type.
         #[cfg(vortex_bits_native)]
         fn with_number(self, kernels: &Kernels) -> Option<(CompareNumber<Self::Laid>, Self::Laid)>;
 
-        /// Returns the C function that compares with others.
+        /// Returns the C function that compares with other values.
         #[cfg(vortex_bits_native)]
         fn with_others(kernels: &Kernels) -> Option<CompareOthers<Self::Laid>>;
     }
@@ -120,7 +121,7 @@ pub(crate) mod sealed {
     one_by_one! { u128 i128 }
 }
 
-/// Writes to `out` which of the values compare with `number` by `op`.
+/// Writes a bit per value to `out`: the result of `value op number`.
 ///
 /// ```
 /// use vortex_bits::{BitsMut, Comparison, values};
@@ -133,14 +134,15 @@ pub(crate) mod sealed {
 ///
 /// # Panics
 ///
-/// If `out` hasn't one bit per value.
+/// Panics if `out` doesn't have one bit per value.
 #[track_caller]
 pub fn compare_into<T: Compare>(values: &[T], op: Comparison, number: T, mut out: BitsMut<'_>) {
     alike(out.len(), values.len());
     kernels::compare(&mut out.written(), values, op, number);
 }
 
-/// Writes to `out` which of the values compare by `op` with the one of `others` at the same index.
+/// Writes a bit per value to `out`: the result of `value op other`, with the one of `others` at the
+/// same index.
 ///
 /// ```
 /// use vortex_bits::{BitsMut, Comparison, values};
@@ -154,7 +156,7 @@ pub fn compare_into<T: Compare>(values: &[T], op: Comparison, number: T, mut out
 ///
 /// # Panics
 ///
-/// If there isn't one other per value, or `out` hasn't one bit per value.
+/// Panics if there isn't one other per value, or `out` doesn't have one bit per value.
 #[track_caller]
 pub fn compare_with_into<T: Compare>(
     values: &[T],
@@ -167,7 +169,8 @@ pub fn compare_with_into<T: Compare>(
     kernels::compare_with(&mut out.written(), values, op, others);
 }
 
-/// Returns which of the values compare with `number` by `op`. With a validity, nulls are false:
+/// Returns a bit per value: the result of `value op number`. Combine it with a validity to make
+/// nulls false:
 ///
 /// ```
 /// use vortex_bits::{Bits, Comparison, Validity, values};
@@ -186,7 +189,8 @@ pub fn compare<T: Compare>(values: &[T], op: Comparison, number: T) -> Bitmap {
     })
 }
 
-/// Returns which of the values compare by `op` with the one of `others` at the same index.
+/// Returns a bit per value: the result of `value op other`, with the one of `others` at the same
+/// index.
 ///
 /// ```
 /// use vortex_bits::{Bitmap, Comparison, values};
@@ -198,7 +202,7 @@ pub fn compare<T: Compare>(values: &[T], op: Comparison, number: T) -> Bitmap {
 ///
 /// # Panics
 ///
-/// If there isn't one other per value.
+/// Panics if there isn't one other per value.
 #[doc(alias("eq", "lt", "gt"))]
 #[cfg(feature = "alloc")]
 #[must_use]

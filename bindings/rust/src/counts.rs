@@ -1,4 +1,4 @@
-//! Counts and tests of two windows without building a third one.
+//! Counts and tests two windows without a third one.
 
 use crate::kernels::{self, Operator};
 use crate::{Bits, Mask};
@@ -16,7 +16,7 @@ impl Bits<'_> {
     ///
     /// # Panics
     ///
-    /// If the windows differ in length, as in all calls below.
+    /// Panics if the windows differ in length, as do all calls below.
     #[doc(alias("intersection", "popcount"))]
     #[inline]
     #[must_use]
@@ -52,7 +52,7 @@ impl Bits<'_> {
         self.count(right.of_len(self.len()), Operator::AndNot)
     }
 
-    /// Returns whether no bit is set both here and in `right`. Reads up to the first one that is.
+    /// Returns whether no bit is set both here and in `right`. Reads up to the first bit that is.
     ///
     /// ```
     /// use vortex_bits::Bits;
@@ -72,7 +72,7 @@ impl Bits<'_> {
         }
     }
 
-    /// Returns whether each bit set here is set in `right`. Reads up to the first one that isn't.
+    /// Returns whether each bit set here is set in `right`. Reads up to the first bit that isn't.
     #[doc(alias("contains"))]
     #[inline]
     #[must_use]

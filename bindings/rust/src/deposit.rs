@@ -1,4 +1,4 @@
-//! Deposits: bits scattered to the indices that a mask selects.
+//! Deposits: bits scattered to the set bits of a mask.
 
 use crate::bits_mut::alike;
 use crate::{Bits, BitsMut, kernels};
@@ -7,9 +7,9 @@ use crate::{Bits, BitsMut, kernels};
 use crate::Bitmap;
 
 impl Bits<'_> {
-    /// Writes the bits, one per set bit of `mask`, to the indices of these, and false at the
-    /// others. It undoes a [`filter_into`](Bits::filter_into): the rows that a second filter
-    /// selects among those of a first one become a mask of all rows.
+    /// Undoes a filter: writes these bits, in order, to `out` at the set bits of `mask`, and false
+    /// elsewhere. If a second filter selects among the rows of a first one, this turns its result
+    /// into a mask of all rows.
     ///
     /// ```
     /// use vortex_bits::{Bits, BitsMut};
@@ -21,7 +21,7 @@ impl Bits<'_> {
     ///
     /// # Panics
     ///
-    /// If there isn't one bit per set bit of `mask`, or `out` isn't as long as `mask`.
+    /// Panics if there isn't one bit per set bit of `mask`, or `out` isn't as long as `mask`.
     #[doc(alias("pdep", "scatter", "expand"))]
     #[track_caller]
     pub fn deposit_into(self, mask: Bits<'_>, mut out: BitsMut<'_>) {
@@ -30,8 +30,8 @@ impl Bits<'_> {
         kernels::deposit(&mut out.written(), self, mask);
     }
 
-    /// Returns the bits at the indices that `mask` selects, as [`deposit_into`](Bits::deposit_into)
-    /// writes them.
+    /// Returns `mask.len()` bits, with these bits in order at the set bits of `mask`, and false
+    /// elsewhere, as [`deposit_into`](Bits::deposit_into) writes them.
     ///
     /// ```
     /// use vortex_bits::Bits;
@@ -42,7 +42,7 @@ impl Bits<'_> {
     ///
     /// # Panics
     ///
-    /// If there isn't one bit per set bit of `mask`.
+    /// Panics if there isn't one bit per set bit of `mask`.
     #[doc(alias("pdep", "scatter", "expand"))]
     #[cfg(feature = "alloc")]
     #[must_use]

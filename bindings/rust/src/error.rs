@@ -3,15 +3,15 @@
 use core::error::Error;
 use core::fmt;
 
-/// The error of a window that isn't in its bytes, or whose end is no `usize`.
+/// The error of a window that isn't in bounds of its bytes, or whose end isn't a `usize`.
 #[derive(Clone, Copy, Debug, PartialEq, Eq, Hash)]
 #[non_exhaustive]
 pub struct OutOfBounds {
     /// The index of the first bit.
     pub offset: usize,
-    /// The number of bits.
+    /// The number of bits in the window.
     pub len: usize,
-    /// The number of bits in all.
+    /// The number of bits of the bytes, or of the window that was sliced.
     pub bits: usize,
 }
 
@@ -37,22 +37,22 @@ impl Error for OutOfBounds {}
 #[derive(Clone, Copy, Debug, PartialEq, Eq, Hash)]
 #[non_exhaustive]
 pub enum TakeError {
-    /// The output window hasn't one bit per index; it is unchanged.
+    /// The output window doesn't have one bit per index. It is unchanged.
     Room {
-        /// Its number of bits.
+        /// The number of bits in the output.
         bits: usize,
         /// The number of indices.
         indices: usize,
     },
-    /// The validity hasn't one bit per index; the output is unchanged.
+    /// The validity doesn't have one bit per index. The output is unchanged.
     Validity {
-        /// Its number of bits.
+        /// The number of bits in the validity.
         bits: usize,
         /// The number of indices.
         indices: usize,
     },
-    /// The index at this position is negative, or isn't below the length of the window that is
-    /// read. It is the first such index that counts; the output window holds any bits.
+    /// The index at this position is negative, or isn't below the length of the window. It is the
+    /// first such index among the valid ones. The bits of the output are arbitrary.
     Index {
         /// The position among the indices.
         position: usize,
@@ -92,22 +92,22 @@ fn no_place(f: &mut fmt::Formatter<'_>, position: usize, index: i128, len: usize
 #[derive(Clone, Copy, Debug, PartialEq, Eq, Hash)]
 #[non_exhaustive]
 pub enum TakeValuesError {
-    /// The output isn't as long as the indices; it is unchanged.
+    /// The output isn't as long as the indices. It is unchanged.
     Room {
-        /// Its number of values.
+        /// The number of values in the output.
         room: usize,
         /// The number of indices.
         indices: usize,
     },
-    /// The validity hasn't one bit per index; the output is unchanged.
+    /// The validity doesn't have one bit per index. The output is unchanged.
     Validity {
-        /// Its number of bits.
+        /// The number of bits in the validity.
         bits: usize,
         /// The number of indices.
         indices: usize,
     },
     /// The index at this position is negative, or isn't below the number of values. It is the first
-    /// such index that counts; the output holds any values.
+    /// such index among the valid ones. The items of the output are arbitrary.
     Index {
         /// The position among the indices.
         position: usize,
@@ -143,7 +143,7 @@ fn no_validity(f: &mut fmt::Formatter<'_>, indices: usize, bits: usize) -> fmt::
     write!(f, "{indices} indices and {bits} bits of validity")
 }
 
-/// The error of an index that isn't below the number of bits to be built; it is the first one.
+/// The error of the first index that isn't below the number of bits of a new bitmap.
 #[derive(Clone, Copy, Debug, PartialEq, Eq, Hash)]
 #[non_exhaustive]
 pub struct BadIndex {
@@ -151,7 +151,7 @@ pub struct BadIndex {
     pub position: usize,
     /// The index; `i128::MAX` if it is above that.
     pub index: i128,
-    /// The number of bits to be built.
+    /// The number of bits of the new bitmap.
     pub len: usize,
 }
 
@@ -174,7 +174,7 @@ pub enum SplitError {
         /// The number of bits in the window.
         len: usize,
     },
-    /// The bits before the index and those from it on have a byte in common.
+    /// The parts before the index and from it on share a byte.
     WithinByte {
         /// The index.
         place: usize,
@@ -219,11 +219,11 @@ impl fmt::Display for ShortTable {
 
 impl Error for ShortTable {}
 
-/// Returns the value of a call that succeeds.
+/// Returns the value of a call that succeeded.
 ///
 /// # Panics
 ///
-/// With the text of the error.
+/// Panics with the text of the error.
 #[inline]
 #[track_caller]
 pub(crate) fn expect<T, E: fmt::Display>(answer: Result<T, E>) -> T {

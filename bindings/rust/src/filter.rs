@@ -12,7 +12,8 @@ impl Bits<'_> {
     ///
     /// # Panics
     ///
-    /// If `mask` isn't as long as the window, or `out` hasn't one bit per set bit of it.
+    /// Panics if `mask` isn't as long as the window, or `out` doesn't have one bit per set bit of
+    /// `mask`.
     ///
     /// ```
     /// use vortex_bits::{Bits, BitsMut};
@@ -32,12 +33,12 @@ impl Bits<'_> {
         kernels::filter(&mut out.written(), self, mask);
     }
 
-    /// Writes the values whose bit is set, in their order, to the front of `out`, and returns their
+    /// Writes the values at the set bits to the front of `out`, in their order, and returns their
     /// number. The items of `out` after them are unchanged.
     ///
     /// # Panics
     ///
-    /// If there isn't one value per bit, or `out` hasn't capacity for one per set bit.
+    /// Panics if there isn't one value per bit, or `out` has fewer items than there are set bits.
     ///
     /// ```
     /// use vortex_bits::Bits;
@@ -57,7 +58,7 @@ impl Bits<'_> {
     }
 }
 
-/// Returns the values that `mask` selects, in their order: all if it is None.
+/// Returns the values that `mask` selects, in their order; all values if `mask` is None.
 ///
 /// ```
 /// use vortex_bits::{Bits, values};
@@ -68,7 +69,7 @@ impl Bits<'_> {
 ///
 /// # Panics
 ///
-/// If `mask` isn't as long as the values.
+/// Panics if `mask` isn't as long as the values.
 #[doc(alias("compress", "select"))]
 #[cfg(feature = "alloc")]
 #[must_use]
@@ -79,8 +80,8 @@ pub fn filter<T: Value>(values: &[T], mask: impl Mask) -> Vec<T> {
     kept
 }
 
-/// Appends the values that `mask` selects, in their order, to `kept`: all if it is None. This joins
-/// the filtered rows of batches into one column.
+/// Appends the values that `mask` selects to `kept`, in their order; all values if `mask` is None.
+/// Call it for each batch to join the filtered rows into one column.
 ///
 /// ```
 /// use vortex_bits::{Bits, values};
@@ -92,7 +93,7 @@ pub fn filter<T: Value>(values: &[T], mask: impl Mask) -> Vec<T> {
 ///
 /// # Panics
 ///
-/// If `mask` isn't as long as the values; `kept` is unchanged.
+/// Panics if `mask` isn't as long as the values. `kept` is then unchanged.
 #[doc(alias("compress", "concat"))]
 #[cfg(feature = "alloc")]
 #[track_caller]

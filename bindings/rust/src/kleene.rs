@@ -1,4 +1,4 @@
-//! Truth values that may be null, combined as in SQL.
+//! Combines truth values that may be null, as SQL does.
 
 use crate::bits_mut::alike;
 use crate::kernels::{self, Column, Logic};
@@ -8,15 +8,16 @@ use crate::{Bits, BitsMut, Mask};
 #[cfg(feature = "alloc")]
 use crate::Bitmap;
 
-/// Writes `a and b` of truth values that may be null, by three-valued logic, Kleene's, as in SQL:
-/// false if one of the two is false, even if the other one is null; else null if one is null.
+/// Writes `a and b` of truth values that may be null, by three-valued (Kleene's) logic, as in SQL.
+/// A result is false if one of the two is false, even if the other one is null. Otherwise it is
+/// null if one is null.
 ///
-/// `a` and `b` are windows, or bitmaps by reference. `a_valid` and `b_valid` are masks that say
-/// which of their bits aren't null; None means all (write `None::<Bits>` if the type cannot be
-/// inferred).
+/// `a` and `b` are windows, or bitmaps by reference. `a_valid` and `b_valid` have a bit per truth
+/// value, true if it isn't null. None means that no value is null (write `None::<Bits>` if the type
+/// cannot be inferred).
 ///
-/// `trues` gets which results are true (false if null), and `valid` which are valid. The bits of
-/// `a` and `b` at nulls are ignored.
+/// It writes to `trues` which results are true (false if null), and to `valid` which are valid. It
+/// ignores the bits of `a` and `b` at nulls.
 ///
 /// ```
 /// use vortex_bits::{Bits, BitsMut, values};
@@ -31,7 +32,7 @@ use crate::Bitmap;
 ///
 /// # Panics
 ///
-/// If the windows and masks differ in length.
+/// Panics if the windows and masks differ in length.
 #[doc(alias("null", "3VL"))]
 #[track_caller]
 pub fn and_kleene_into<'a, 'b>(
@@ -46,9 +47,9 @@ pub fn and_kleene_into<'a, 'b>(
     combine_into(both, Logic::And, trues, valid);
 }
 
-/// Writes `a or b` of truth values that may be null, by three-valued logic: true if one of the two
-/// is true, even if the other one is null; else null if one is null. The rest is as in
-/// [`and_kleene_into`].
+/// Writes `a or b` of truth values that may be null, by three-valued logic. A result is true if one
+/// of the two is true, even if the other one is null. Otherwise it is null if one is null. The
+/// parameters are those of [`and_kleene_into`].
 ///
 /// ```
 /// use vortex_bits::{Bits, BitsMut, values};
@@ -62,7 +63,7 @@ pub fn and_kleene_into<'a, 'b>(
 ///
 /// # Panics
 ///
-/// If the windows and masks differ in length.
+/// Panics if the windows and masks differ in length.
 #[doc(alias("null", "3VL"))]
 #[track_caller]
 pub fn or_kleene_into<'a, 'b>(
@@ -77,23 +78,25 @@ pub fn or_kleene_into<'a, 'b>(
     combine_into(both, Logic::Or, trues, valid);
 }
 
-/// Returns `a and b` of truth values that may be null, by Kleene's three-valued logic, as in SQL:
-/// false if one of the two is false, even if the other one is null; else null if one is null.
+/// Returns `a and b` of truth values that may be null, by three-valued (Kleene's) logic, as in SQL.
+/// A result is false if one of the two is false, even if the other one is null. Otherwise it is
+/// null if one is null.
 ///
-/// `a` and `b` are windows, or bitmaps by reference. `a_valid` and `b_valid` are masks that say
-/// which of their bits aren't null; None means all (write `None::<Bits>` if the type cannot be
-/// inferred).
+/// `a` and `b` are windows, or bitmaps by reference. `a_valid` and `b_valid` have a bit per truth
+/// value, true if it isn't null. None means that no value is null (write `None::<Bits>` if the type
+/// cannot be inferred).
 ///
-/// Returns which results are true (false if null), and which are valid: None if all are. The bits
-/// of `a` and `b` at nulls are ignored.
+/// Returns which results are true (false if null), and which are valid: None if all are. It ignores
+/// the bits of `a` and `b` at nulls.
 ///
-/// A `where` clause needs three-valued logic only if it has a `not`. Otherwise the rows are the
-/// same if you and each truth value with its validity first, and combine them by `&` and `|`.
+/// A `where` clause needs three-valued logic only if it has a `not`. Without one you get the same
+/// rows if you first `&` each column of truth values with its validity, and then combine the
+/// columns by `&` and `|`.
 ///
 /// ```
 /// use vortex_bits::{Bits, Comparison, values};
 ///
-/// // Whose age is above 17 and whose height is below 190, of five, where nulls are 0.
+/// // Which of five people are above 17 and below 190 cm? A null is 0.
 /// let (ages, heights) = ([19, 64, 7, 0, 30], [180, 0, 0, 195, 192]);
 /// let (ages_valid, heights_valid) = (Bits::new(&[0b10111], 0, 5), Bits::new(&[0b11001], 0, 5));
 /// let grown = values::compare(&ages, Comparison::Greater, 17);
@@ -107,7 +110,7 @@ pub fn or_kleene_into<'a, 'b>(
 ///
 /// # Panics
 ///
-/// If the windows and masks differ in length.
+/// Panics if the windows and masks differ in length.
 #[doc(alias("null", "3VL"))]
 #[cfg(feature = "alloc")]
 #[must_use]
@@ -124,9 +127,9 @@ pub fn and_kleene<'a, 'b>(
     }
 }
 
-/// Returns `a or b` of truth values that may be null, by three-valued logic: true if one of the two
-/// is true, even if the other one is null; else null if one is null. The rest is as in
-/// [`and_kleene`].
+/// Returns `a or b` of truth values that may be null, by three-valued logic. A result is true if
+/// one of the two is true, even if the other one is null. Otherwise it is null if one is null. The
+/// parameters and the results are those of [`and_kleene`].
 ///
 /// ```
 /// use vortex_bits::{Bits, values};
@@ -144,7 +147,7 @@ pub fn and_kleene<'a, 'b>(
 ///
 /// # Panics
 ///
-/// If the windows and masks differ in length.
+/// Panics if the windows and masks differ in length.
 #[doc(alias("null", "3VL"))]
 #[cfg(feature = "alloc")]
 #[must_use]
@@ -161,7 +164,7 @@ pub fn or_kleene<'a, 'b>(
     }
 }
 
-/// Two columns of the same length.
+/// Returns two columns, after a test that their lengths are the same.
 #[track_caller]
 fn columns<'a>(
     a: Bits<'a>,
@@ -187,7 +190,7 @@ fn combine_into(
     kernels::combine_truths(trues, valid, a, b, logic);
 }
 
-/// Returns which results are true, and which are valid, of columns of the same length.
+/// Combines two columns of the same length: returns which results are true, and which are valid.
 #[cfg(feature = "alloc")]
 fn combined(a: Column<'_>, b: Column<'_>, logic: Logic) -> (Bitmap, Option<Bitmap>) {
     let mut valid = Bitmap::new_unset(a.0.len());

@@ -9,7 +9,8 @@ use crate::native::{Kernels, V2, V3};
 #[derive(Clone, Copy, Debug, PartialEq, Eq, PartialOrd, Ord, Hash)]
 #[non_exhaustive]
 pub enum Level {
-    /// Rust of this crate, on any target: compared with loops over single bits, and not proved.
+    /// Rust of this crate, on any target. It is tested against loops over single bits, and not
+    /// proved.
     Portable,
     /// Proved code for x86-64-v2: SSE4.2 and `popcnt`.
     V2,
@@ -20,7 +21,7 @@ pub enum Level {
 /// All levels, the lowest first.
 const LEVELS: [Level; 3] = [Level::Portable, Level::V2, Level::V3];
 
-/// The level if it is known at compile time, as by `-C target-cpu=x86-64-v3`: calls then go
+/// The level, if the compiler's target fixes it, such as `-C target-cpu=x86-64-v3`. Calls then go
 /// straight to its functions.
 const FIXED: Option<Level> = if cfg!(not(vortex_bits_native)) {
     Some(Level::Portable)
@@ -59,11 +60,11 @@ compile_error!(
      told counts: `-C target-cpu=x86-64-v2` or a higher one"
 );
 
-/// The level that calls use, as its index plus 1; 0 until the first call has chosen it.
+/// The level that calls use, as its index plus 1; 0 before the first call chooses it.
 static CURRENT: AtomicU8 = AtomicU8::new(0);
 
-/// Whether the processor has each feature: tested when the program runs, or without `std` by the
-/// compiler's target.
+/// Tests whether the processor has each feature. The test is at run time with `std`, and at compile
+/// time without it.
 #[cfg(vortex_bits_native)]
 macro_rules! has {
     ($($feature:tt),*) => {{
@@ -76,8 +77,8 @@ macro_rules! has {
 }
 
 impl Level {
-    /// Returns the level that calls use: the highest one that has code here and that the processor
-    /// has, unless `make_current` set another.
+    /// Returns the level that calls use. It is the highest level whose code is linked and that the
+    /// processor has, unless `make_current` set another.
     #[inline]
     #[must_use]
     pub fn current() -> Level {
@@ -90,7 +91,7 @@ impl Level {
         }
     }
 
-    /// Returns whether there is code for the level here, and the processor has it.
+    /// Returns whether the code of the level is linked, and the processor has the level.
     #[must_use]
     pub fn is_available(self) -> bool {
         match self {
@@ -104,8 +105,9 @@ impl Level {
         }
     }
 
-    /// Makes all calls from now on, on any thread, use the code of this level, to measure or to
-    /// test it. Returns whether it is available, and changes nothing if it isn't.
+    /// Makes all calls on all threads use the code of this level from now on, for measurements and
+    /// tests. Returns true if the level is available. Otherwise it returns false and changes
+    /// nothing.
     #[cfg(feature = "levels")]
     #[must_use]
     pub fn make_current(self) -> bool {
@@ -116,7 +118,7 @@ impl Level {
         available
     }
 
-    /// Returns all levels that are available, the lowest first.
+    /// Returns the available levels, the lowest first.
     #[cfg(feature = "levels")]
     pub fn available() -> impl Iterator<Item = Level> {
         LEVELS.into_iter().filter(|level| level.is_available())
@@ -127,7 +129,7 @@ impl Level {
     }
 }
 
-/// The C functions that calls go to; None if Rust does them.
+/// Returns the C functions of the current level; None if Rust runs instead.
 #[cfg(vortex_bits_native)]
 #[inline]
 pub(crate) fn kernels() -> Option<&'static Kernels> {
@@ -145,7 +147,7 @@ fn choose() -> Level {
     let best = levels
         .rfind(|level| level.is_available())
         .unwrap_or(Level::Portable);
-    // Another thread may have made a level the current one meanwhile: that one stays.
+    // If another thread has made a level current in the meantime, that one stays.
     match CURRENT.compare_exchange(0, best.stored(), Ordering::Relaxed, Ordering::Relaxed) {
         Ok(_) => best,
         Err(place) => LEVELS[usize::from(place) - 1],

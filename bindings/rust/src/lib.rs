@@ -1,11 +1,11 @@
 //! Functions over windows of bits in byte slices, least significant bit first. They count, search,
-//! compare, walk, fill, negate, copy, combine, pack, take (gather), filter and rank bits.
+//! compare, iterate over, fill, negate, copy, combine, pack, take (gather), filter and rank bits.
 //! [`values`] filters, compares and takes values.
 //!
 //! ```
 //! use vortex_bits::{Bitmap, Bits, Comparison, values};
 //!
-//! // Which of five rows are valid, from bit 3 of a byte on, and the rows of them that are above 2.
+//! // Which of five rows are valid, from bit 3 of a byte on, and which of these are above 2.
 //! let (valid, column) = (Bits::new(&[0b1110_1000], 3, 5), [7, 0, 9, 2, 8]);
 //! let mask = values::compare(&column, Comparison::Greater, 2) & valid;
 //! assert_eq!((values::filter(&column, &mask), mask.select(1)), (vec![7, 9, 8], Some(2)));
@@ -16,47 +16,46 @@
 //! ```
 //!
 //! Bit `i` of some bytes is bit `i % 8` of byte `i / 8`. A window is the `len` bits starting at bit
-//! `offset`: [`Bits`] reads one, [`BitsMut`] writes one, and [`Validity`] may be without one. No
-//! call reads or changes a bit outside of its windows, whatever the bytes hold there. Lengths,
-//! offsets and indices are in bits.
+//! `offset`. [`Bits`] reads one, [`BitsMut`] writes one, and a [`Validity`] has one or none. No
+//! call reads or changes a bit outside of its windows. Lengths, offsets and indices are in bits.
 //!
-//! A window is tested once, by its constructor: it must be in its bytes. Later calls panic, with a
-//! message, only for what a window can't know: that two windows have one length, or that an index
-//! is in bounds. Calls that return a `Bitmap` (bits with their bytes) allocate memory, as do those
-//! that let one grow, write one with shared bytes, or make it `Ranked`.
+//! The constructor of a window tests that it is in bounds of its bytes. Later calls panic, with a
+//! message, only for conditions that involve more than one window: that two lengths are the same,
+//! or that an index is in bounds. Calls that return a `Bitmap` (bits with their bytes) allocate
+//! memory. So do calls that let one grow, write one with shared bytes, or make it `Ranked`.
 //!
 //! # What is proved
 //!
-//! On x86-64 Linux, calls over more than 64 bits run C functions that are proved in Rattle to meet
-//! their definitions at every offset and length, at level x86-64-v2 or x86-64-v3 as the processor
-//! has. Comparisons, packing, bits at indices and ranks run them at any length, values at indices
-//! for more than 16 of these. The rest is Rust of this crate, which is not proved, but compared
-//! with loops over single bits:
+//! On x86-64 Linux, calls over more than 64 bits run C functions. They are proved in Rattle to meet
+//! their definitions at every offset and length, at the level x86-64-v2 or x86-64-v3, depending on
+//! the processor. Comparisons, packing, bits at indices and ranks run them at any length, values at
+//! indices for more than 16 indices. The rest is Rust of this crate, which isn't proved, but tested
+//! against loops over single bits:
 //!
-//! - single bits, other windows of at most 64, values at up to 16 indices, and values and indices
-//!   for which [`Value`], [`Compare`] and [`BitIndex`] say so;
+//! - single bits, other windows of at most 64, values at up to 16 indices, and types of values and
+//!   indices that [`Value`], [`Compare`] and [`BitIndex`] exclude;
 //! - code that joins calls: `fill_with`, and the blocks that iterators fill;
-//! - walks over false bits and from the end, the building and growth of bitmaps, [`Validity`], and
-//!   `arrow`;
-//! - everything on other targets, under Miri, and if the archives of those functions are missing
-//!   when the crate is built.
+//! - iterators over false bits and from the end, the building and growth of bitmaps, [`Validity`],
+//!   and `arrow`;
+//! - everything on other targets, under Miri, and if the archives of those functions are missing at
+//!   build time.
 //!
 //! [`Level::current`] returns the level of the code that runs.
 //!
 //! # Features
 //!
 //! - `proved`: the build fails if the archives of the proved functions are missing, or if the
-//!   target isn't x86-64 Linux; Miri, which can't run them, is exempt. Without this feature cargo
-//!   warns of missing archives for path dependencies alone. Archives of other sources than this
-//!   version's fail the build either way. The processor is known when the program runs: assert
-//!   there that [`Level::current`] isn't [`Level::Portable`].
-//! - `std` (default): the processor is tested when the program runs. Without it, the compiler's
-//!   target (`-C target-cpu`) decides.
-//! - `alloc` (with `std`): `Bitmap`, bits with their bytes, `Ranked`, those with their ranks, and
-//!   the calls that return one.
+//!   target isn't x86-64 Linux. Miri can't run them and is exempt. Without this feature, cargo
+//!   shows the warning about missing archives only for path dependencies. Archives of another
+//!   version's sources always fail the build. The processor is known only at run time: assert there
+//!   that [`Level::current`] isn't [`Level::Portable`].
+//! - `std` (default): tests the processor at run time. Without it, the compiler's target
+//!   (`-C target-cpu`) decides.
+//! - `alloc` (with `std`): adds `Bitmap`, which owns its bytes, `Ranked`, a bitmap with its ranks,
+//!   and the calls that return one.
 //! - `arrow` (with `alloc`): reads arrays and streams of Arrow's C interfaces in place, and exports
-//!   them. It is the only part with `unsafe` besides the calls of proved functions.
-//! - `levels`: `Level::make_current`, to measure and to test.
+//!   them. Only this part and the calls of proved functions use `unsafe`.
+//! - `levels`: adds `Level::make_current`, for measurements and tests.
 #![no_std]
 #![cfg_attr(docsrs, feature(doc_cfg))]
 #![cfg_attr(not(any(vortex_bits_native, feature = "arrow")), forbid(unsafe_code))]

@@ -1,4 +1,4 @@
-//! How windows compare, and how they look.
+//! Comparison, hashes, output and indexing of windows.
 
 use core::fmt;
 use core::hash::{Hash, Hasher};
@@ -7,7 +7,7 @@ use core::ops::Index;
 use crate::iter::Iter;
 use crate::{Bits, BitsMut, kernels};
 
-/// The same bits, wherever these lie.
+/// Compares the bits, at any offsets.
 impl PartialEq for Bits<'_> {
     #[inline]
     fn eq(&self, other: &Bits<'_>) -> bool {
@@ -40,7 +40,7 @@ impl PartialEq<BitsMut<'_>> for Bits<'_> {
     }
 }
 
-/// The same window, for calls that take one by [`Into`].
+/// Returns the same window, for calls with an [`Into`] parameter.
 impl<'a> From<&Bits<'a>> for Bits<'a> {
     #[inline]
     fn from(bits: &Bits<'a>) -> Bits<'a> {
@@ -55,7 +55,7 @@ impl Hash for Bits<'_> {
     }
 }
 
-/// The digits, that of place 0 first: `Bits(1101)`.
+/// Writes the bits as digits, with index 0 first: `Bits(1101)`.
 impl fmt::Debug for Bits<'_> {
     fn fmt(&self, f: &mut fmt::Formatter<'_>) -> fmt::Result {
         f.write_str("Bits(")?;
@@ -63,7 +63,7 @@ impl fmt::Debug for Bits<'_> {
     }
 }
 
-/// The digits, that of place 0 first: `BitsMut(1101)`.
+/// Writes the bits as digits, with index 0 first: `BitsMut(1101)`.
 impl fmt::Debug for BitsMut<'_> {
     fn fmt(&self, f: &mut fmt::Formatter<'_>) -> fmt::Result {
         f.write_str("BitsMut(")?;
@@ -80,7 +80,7 @@ fn digits(bits: Bits<'_>, f: &mut fmt::Formatter<'_>) -> fmt::Result {
 
 /// # Panics
 ///
-/// Where the window has no such place: [`get`](Bits::get) answers that.
+/// Panics if the index is out of bounds; [`get`](Bits::get) returns None instead.
 impl Index<usize> for Bits<'_> {
     type Output = bool;
 
@@ -93,7 +93,7 @@ impl Index<usize> for Bits<'_> {
 
 /// # Panics
 ///
-/// Where the window has no such place: [`get`](BitsMut::get) answers that.
+/// Panics if the index is out of bounds; [`get`](BitsMut::get) returns None instead.
 impl Index<usize> for BitsMut<'_> {
     type Output = bool;
 
@@ -105,7 +105,7 @@ impl Index<usize> for BitsMut<'_> {
 }
 
 impl Bits<'_> {
-    /// The bit at a place, as what `[]` answers.
+    /// Returns the bit at an index as a reference, which `[]` needs.
     #[inline]
     #[track_caller]
     pub(crate) fn at(self, place: usize) -> &'static bool {

@@ -1,12 +1,12 @@
-//! The right side of a call: bits, or something with bits.
+//! The right-hand operand of a call: bits, or something with bits.
 
 #[cfg(feature = "alloc")]
 use crate::Bitmap;
 use crate::{Bits, Validity};
 
-/// Types with bits: [`Bits`], a `Bitmap` and a [`Validity`](crate::Validity), by reference too, and
-/// an [`Option`] of these. None means that all bits are true, whatever their number, as the missing
-/// validity of a column that has no null.
+/// Types with bits: [`Bits`], a `Bitmap` and a [`Validity`](crate::Validity), also by reference,
+/// and an [`Option`] of these. None means that all bits are true, for any length, like the missing
+/// validity of a column without nulls.
 ///
 /// ```
 /// use vortex_bits::Bits;
@@ -39,17 +39,17 @@ pub(crate) mod sealed {
         /// Returns the bits; None if all are true.
         fn mask(&self) -> Option<Bits<'_>>;
 
-        /// Returns their number, if that is known.
+        /// Returns the number of bits; None if any length fits.
         #[inline]
         fn mask_len(&self) -> Option<usize> {
             self.mask().map(Bits::len)
         }
 
-        /// Returns the bits of a mask for `len` bits or values.
+        /// Returns the bits, for a call over `len` bits or values.
         ///
         /// # Panics
         ///
-        /// If it is one for another number of them.
+        /// Panics if the mask has another length.
         #[inline]
         #[track_caller]
         fn of_len(&self, len: usize) -> Option<Bits<'_>> {

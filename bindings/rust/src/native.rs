@@ -1,20 +1,24 @@
-//! The C functions of the archives, a table for each processor level.
+//! The C functions of the archives, with a table for each processor level.
 //!
 //! # Safety
 //!
-//! Of each function: a pointer is followed by the number of items that it points to, and isn't
-//! null; they may be read, and written where it is `*mut`; nothing else writes them during the
-//! call. Windows end within their bytes, and at a `usize`; those of takes, packs and filters have a
-//! bit for each item, or for each that is kept. There is room for a value at each index, and a bit
-//! of validity for each unless all are valid; a deposit has a bit for each true one of its mask; a
-//! comparison is a number below 6, and there are as many others as values. A table has as many
-//! entries as the window has blocks of 512 bits, whatever they are. The processor has the level.
+//! The caller of each function promises:
 //!
-//! A function changes only the windows and the items that it is said to write.
+//! - Each pointer is followed by the number of items that it leads to, and isn't null. The items
+//!   may be read, or written if the pointer is `*mut`. No one else writes them during the call.
+//! - Windows are in bounds of their bytes, and end at a `usize`.
+//! - Windows of takes and packs have one bit per item. The output of a filter has one bit or item
+//!   per selected one. There is space for a value at each index. There is a bit of validity per
+//!   index, unless all are valid. A deposit has one bit per set bit of its mask.
+//! - A comparison is a number below 6, and there are as many others as values.
+//! - A table has one entry per block of 512 bits of the window, with any contents.
+//! - The processor has the level.
+//!
+//! A function changes only the windows and the items that its documentation says it writes.
 
 use crate::kernels::Run;
 
-/// The place of a bit: `index` says something only where `found` is true.
+/// The index of a bit. `index` has a meaning only if `found` is true.
 #[repr(C)]
 #[derive(Clone, Copy)]
 pub struct Place {
@@ -29,8 +33,8 @@ impl From<Place> for Option<usize> {
     }
 }
 
-/// How a take ended: `position` is the first one whose index is out of range, and says something
-/// only where `out_of_range` is true.
+/// The result of a take. `position` is the first one whose index is out of range; it has a meaning
+/// only if `out_of_range` is true.
 #[repr(C)]
 #[derive(Clone, Copy)]
 pub struct Taken {
@@ -45,14 +49,14 @@ impl From<Taken> for Option<usize> {
     }
 }
 
-/// An operator on one window and another of the same length.
+/// Applies an operator to a window and another one of the same length.
 pub type Combine = unsafe extern "C" fn(*mut u8, usize, usize, *const u8, usize, usize, usize);
 
-/// How many bits an operator makes true of two windows of one length.
+/// Returns the number of bits that an operator sets, for two windows of one length.
 pub type CountCombined =
     unsafe extern "C" fn(*const u8, usize, usize, *const u8, usize, usize, usize) -> usize;
 
-/// An operator on two windows, into a third of the same length.
+/// Writes the result of an operator on two windows to a third one of the same length.
 pub type CombineInto = unsafe extern "C" fn(
     *mut u8,
     usize,
@@ -66,11 +70,11 @@ pub type CombineInto = unsafe extern "C" fn(
     usize,
 );
 
-/// A comparison of values of this type with a number: `out`, the values, the comparison and the
-/// number.
+/// Compares values of this type with a number. The parameters are `out`, the values, the comparison
+/// and the number.
 pub type CompareNumber<T> = unsafe extern "C" fn(*mut u8, usize, usize, *const T, usize, u8, T);
 
-/// The same with others, of which there are as many.
+/// Compares values with others, one per value.
 pub type CompareOthers<T> =
     unsafe extern "C" fn(*mut u8, usize, usize, *const T, usize, u8, *const T, usize);
 
@@ -115,8 +119,8 @@ macro_rules! kernels {
         /// The functions of one level.
         pub struct Kernels {
             $(pub $name: unsafe extern "C" fn($($arg: $kind),*) $(-> $result)?,)*
-            /// A symbol that only an archive of the sources has that this crate is for: another
-            /// one isn't linked.
+            /// A symbol that only an archive of this crate's own sources has. The linker finds it
+            /// in no other archive.
             #[expect(dead_code, reason = "it is there to be linked")]
             sources: &'static u8,
         }

@@ -1,4 +1,5 @@
-//! `&`, `|`, `^` and `!`, which return new bits, and `&=`, `|=` and `^=`, which write.
+//! The operators `&`, `|`, `^` and `!`, which return new bits, and `&=`, `|=` and `^=`, which write
+//! in place.
 
 use core::ops::{BitAndAssign, BitOrAssign, BitXorAssign};
 
@@ -10,11 +11,12 @@ use crate::{Bitmap, Grow, Validity};
 #[cfg(feature = "alloc")]
 use core::ops::{BitAnd, BitOr, BitXor, Not};
 
-/// Returns the bits of the right side, which must have `left` bits if it has a length.
+/// Returns the bits of the right-hand operand, after a test that its length, if it has one, is
+/// `left`.
 ///
 /// # Panics
 ///
-/// If its length differs.
+/// Panics if the lengths differ.
 #[track_caller]
 fn right_of(left: usize, right: &impl Mask) -> Option<Bits<'_>> {
     let len = right.mask_len().unwrap_or(left);
@@ -22,8 +24,7 @@ fn right_of(left: usize, right: &impl Mask) -> Option<Bits<'_>> {
     right.mask()
 }
 
-/// Returns the operator's result on the bits of the left side, which are all true if it has none,
-/// and those of the right side.
+/// Returns the operator's result. A left-hand operand without bits is all true.
 #[cfg(feature = "alloc")]
 #[track_caller]
 fn combined(left: Validity<'_>, right: &impl Mask, operator: Operator) -> Bitmap {
@@ -40,7 +41,7 @@ fn combined(left: Validity<'_>, right: &impl Mask, operator: Operator) -> Bitmap
     })
 }
 
-/// The operator with a right side of the same length, or all true.
+/// Applies the operator with a right-hand operand of the same length, or all true.
 fn apply(bits: &mut BitsMut<'_>, right: Option<Bits<'_>>, operator: Operator) {
     match right {
         Some(right) => bits.combine(right, operator),
@@ -48,7 +49,7 @@ fn apply(bits: &mut BitsMut<'_>, right: Option<Bits<'_>>, operator: Operator) {
     }
 }
 
-/// The operator with a right side that is all true.
+/// Applies the operator with a right-hand operand that is all true.
 fn by_all(bits: &mut BitsMut<'_>, operator: Operator) {
     match operator {
         Operator::And => (),
@@ -64,15 +65,15 @@ fn write(bits: &mut BitsMut<'_>, right: &impl Mask, operator: Operator) {
     apply(bits, right, operator);
 }
 
-/// An operator on this left side, which returns new bits.
+/// Implements an operator for a type of left-hand operands. It returns new bits.
 #[cfg(feature = "alloc")]
 macro_rules! on {
     ($operator:ident, $trait:ident, $name:ident, [$($generic:tt)*] $left:ty, $rows:expr) => {
-        /// Returns new bits. The right side has bits, by value or by reference.
+        /// Returns new bits. The right-hand operand has bits, by value or by reference.
         ///
         /// # Panics
         ///
-        /// If the lengths differ.
+        /// Panics if the lengths differ.
         impl<$($generic)* R: Mask> $trait<R> for $left {
             type Output = Bitmap;
 
@@ -102,7 +103,7 @@ macro_rules! operators {
 
         /// # Panics
         ///
-        /// If the lengths differ.
+        /// Panics if the lengths differ.
         impl<R: Mask> $assign<R> for BitsMut<'_> {
             #[track_caller]
             fn $assign_name(&mut self, right: R) {
@@ -110,11 +111,11 @@ macro_rules! operators {
             }
         }
 
-        /// Writes in place if the bytes have no other owner, else in a copy.
+        /// Writes in place if the bytes have no other owner, otherwise in a copy.
         ///
         /// # Panics
         ///
-        /// If the lengths differ.
+        /// Panics if the lengths differ.
         #[cfg(feature = "alloc")]
         impl<B: Grow, R: Mask> $assign<R> for Bitmap<B> {
             #[track_caller]
@@ -133,7 +134,7 @@ operators! {
 
 #[cfg(feature = "alloc")]
 impl Bits<'_> {
-    /// Returns the bits that are true here and false on the right.
+    /// Returns new bits, true where these are true and `right` is false.
     ///
     /// ```
     /// use vortex_bits::Bits;
@@ -145,7 +146,7 @@ impl Bits<'_> {
     ///
     /// # Panics
     ///
-    /// If the windows differ in length, as for `&`, `|` and `^`.
+    /// Panics if the lengths differ, as for `&`, `|` and `^`.
     #[must_use]
     #[track_caller]
     pub fn and_not(self, right: impl Mask) -> Bitmap {

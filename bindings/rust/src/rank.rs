@@ -1,4 +1,4 @@
-//! Ranks and selects over a table of counts.
+//! Rank and select over a table of counts.
 
 #[cfg(feature = "alloc")]
 mod ranked;
@@ -23,12 +23,11 @@ pub const fn blocks(len: usize) -> usize {
     len.div_ceil(BLOCK)
 }
 
-/// A window with a table of the number of set bits before each block of 512: one `usize` per 64
-/// bytes of bits. A rank reads an entry of the table and the bits of at most one block; a select
-/// finds the block by binary search of the table.
+/// A window with a table: the number of set bits before each block of 512, one `usize` per 64 bytes
+/// of bits. A rank reads an entry of the table and the bits of at most one block. A select finds
+/// the block by a binary search of the table.
 ///
-/// The bytes are borrowed for as long, so that the table stays that of the window. `Ranked` owns
-/// both.
+/// It borrows the bytes, so the bits can't change while their table is in use. `Ranked` owns both.
 ///
 /// ```
 /// use vortex_bits::{Bits, Ranks, blocks};
@@ -43,35 +42,35 @@ pub const fn blocks(len: usize) -> usize {
 /// assert_eq!(ranks.select_unset(0), Some(8));
 /// assert_eq!(ranks.select(320), None);
 ///
-/// // A table that was kept is used again, and no bit is counted.
+/// // Uses a stored table again, without counting.
 /// assert_eq!(Ranks::with_table(bits, &table).select(8), Some(40));
 /// ```
 #[doc(alias("succinct"))]
 #[derive(Clone, Copy, Debug)]
 pub struct Ranks<'a> {
     bits: Bits<'a>,
-    /// An entry for each block.
+    /// One entry per block.
     table: &'a [usize],
 }
 
 impl<'a> Ranks<'a> {
-    /// Fills the first [`blocks`]`(bits.len())` entries of the table; later entries are unchanged.
+    /// Fills the first [`blocks`]`(bits.len())` entries of the table. Later entries are unchanged.
     /// Counts the bits once.
     ///
     /// # Panics
     ///
-    /// If the table has fewer entries.
+    /// Panics if the table has fewer entries.
     #[must_use]
     #[track_caller]
     pub fn new(bits: Bits<'a>, table: &'a mut [usize]) -> Ranks<'a> {
         expect(Ranks::try_new(bits, table))
     }
 
-    /// [`Ranks::new`].
+    /// Fills the table as [`Ranks::new`] does.
     ///
     /// # Errors
     ///
-    /// If the table has fewer entries; it is unchanged.
+    /// Returns [`ShortTable`] if the table has fewer entries. It is then unchanged.
     ///
     /// ```
     /// use vortex_bits::{Bits, Ranks};
@@ -90,12 +89,12 @@ impl<'a> Ranks<'a> {
         Ok(Ranks { bits, table })
     }
 
-    /// Uses a stored table: its first [`blocks`]`(bits.len())` entries. If these aren't the
-    /// window's own, results are meaningless, but harmless.
+    /// Uses a stored table: its first [`blocks`]`(bits.len())` entries. With the table of another
+    /// window the results are meaningless, but no call reads out of bounds.
     ///
     /// # Panics
     ///
-    /// If the table has fewer entries.
+    /// Panics if the table has fewer entries.
     #[inline]
     #[must_use]
     #[track_caller]
@@ -103,11 +102,11 @@ impl<'a> Ranks<'a> {
         expect(Ranks::try_with_table(bits, table))
     }
 
-    /// [`Ranks::with_table`].
+    /// Uses a stored table as [`Ranks::with_table`] does.
     ///
     /// # Errors
     ///
-    /// If the table has fewer entries than the window has blocks.
+    /// Returns [`ShortTable`] if the table has fewer entries than the window has blocks.
     ///
     /// ```
     /// use vortex_bits::{Bits, Ranks};
@@ -146,14 +145,15 @@ impl<'a> Ranks<'a> {
         self.bits.len()
     }
 
-    /// Returns whether it has none.
+    /// Returns whether the window has no bits.
     #[inline]
     #[must_use]
     pub const fn is_empty(&self) -> bool {
         self.bits.is_empty()
     }
 
-    /// Returns the number of set bits, from the table and the bits of the last block.
+    /// Returns the number of set bits. Reads the last entry of the table and the bits of the last
+    /// block.
     #[inline]
     #[must_use]
     pub fn count(&self) -> usize {
@@ -164,7 +164,7 @@ impl<'a> Ranks<'a> {
     ///
     /// # Panics
     ///
-    /// If `place` is above the length.
+    /// Panics if `place` is above the length.
     #[doc(alias("rank1"))]
     #[inline]
     #[must_use]

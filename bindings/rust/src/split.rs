@@ -1,17 +1,17 @@
-//! A writable window split into parts with separate bytes, as for threads.
+//! Splits a writable window into parts with separate bytes, such as one per thread.
 
 use crate::BitsMut;
 use crate::error::{SplitError, expect};
 use crate::iter::ChunksMut;
 
 impl BitsMut<'_> {
-    /// Returns the bits before index `mid` and those from `mid` on, each over its own bytes: two
-    /// threads may write them.
+    /// Returns the bits before index `mid` and those from `mid` on, each over its own bytes. Two
+    /// threads may write the two parts.
     ///
     /// `mid` must be a border between two bytes, where `(offset + mid) % 8` is 0, or one of the
-    /// ends, 0 and [`len`](BitsMut::len). The first border at or after index `p` is `p + (offset +
-    /// p).wrapping_neg() % 8`. [`bytes_mut`](BitsMut::bytes_mut) of a part returns only the bytes
-    /// that have a bit of the part, and its [`offset`](BitsMut::offset) is below 8.
+    /// ends, 0 and [`len`](BitsMut::len). The first border at or after index `p` is
+    /// `p + (offset + p).wrapping_neg() % 8`. [`bytes_mut`](BitsMut::bytes_mut) of a part returns
+    /// only the bytes that have a bit of the part, and its [`offset`](BitsMut::offset) is below 8.
     ///
     /// ```
     /// use std::thread;
@@ -30,7 +30,7 @@ impl BitsMut<'_> {
     ///
     /// # Panics
     ///
-    /// If [`try_split_at_mut`](BitsMut::try_split_at_mut) returns an error.
+    /// Panics if [`try_split_at_mut`](BitsMut::try_split_at_mut) returns an error.
     #[inline]
     #[must_use]
     #[track_caller]
@@ -43,7 +43,8 @@ impl BitsMut<'_> {
     ///
     /// # Errors
     ///
-    /// If `mid` is past the end, or neither a border between two bytes nor one of the ends.
+    /// Returns [`SplitError`] if `mid` is past the end, or is neither a border between two bytes
+    /// nor one of the ends.
     ///
     /// ```
     /// use vortex_bits::BitsMut;
@@ -69,12 +70,12 @@ impl BitsMut<'_> {
         Ok(self.part(0, len).split(mid))
     }
 
-    /// Returns an iterator over the window in parts of `bits` bits, each over its own bytes: one
-    /// thread per part may write them.
+    /// Returns an iterator over the window in parts of `bits` bits, each over its own bytes. Each
+    /// part may be written by its own thread.
     ///
     /// Each border is between two bytes. So the first part has `bits - offset % 8` bits, each
-    /// further one `bits`, and the last one the rest; each is in at most `bits / 8` bytes. An empty
-    /// window has no part.
+    /// further one `bits`, and the last one the rest. Each part has at most `bits / 8` bytes. An
+    /// empty window has no part.
     ///
     /// ```
     /// use std::thread;
@@ -96,7 +97,7 @@ impl BitsMut<'_> {
     ///
     /// # Panics
     ///
-    /// If `bits` is 0 or no multiple of 8.
+    /// Panics if `bits` is 0 or isn't a multiple of 8.
     #[doc(alias("parallel", "threads"))]
     #[inline]
     #[must_use]

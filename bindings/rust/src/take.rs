@@ -1,10 +1,10 @@
-//! Bits taken (gathered) at indices.
+//! Takes (gathers) bits at indices.
 
 use crate::error::{TakeError, expect};
 use crate::{Bits, BitsMut, Mask, kernels};
 
-/// A type of indices: the twelve whole-number types. A negative index, or one above `usize::MAX`,
-/// is out of bounds. Those of 128 bits are handled by plain Rust.
+/// A type of indices: the twelve integer types. A negative index, or one above `usize::MAX`, is out
+/// of bounds. Plain Rust processes indices of 128 bits.
 #[diagnostic::on_unimplemented(
     message = "nothing is taken at indices of `{Self}`",
     label = "indices are whole numbers, in a slice of their own"
@@ -12,14 +12,15 @@ use crate::{Bits, BitsMut, Mask, kernels};
 pub trait BitIndex: sealed::Sealed {}
 
 pub(crate) mod sealed {
-    /// What a type of indices provides.
+    /// The parts that a type of indices provides.
     pub trait Sealed: Copy {
-        /// The indices below this are its own numbers; those that an unsigned type of the width
-        /// reads as one at or above it name no place.
+        /// The end of the indices that the type can represent. A C function reads a negative index
+        /// as an unsigned number of the same width, which is at or above this, and so out of bounds
+        /// of a window that is cut here.
         #[cfg(vortex_bits_native)]
         const END: usize;
 
-        /// Returns the index as a `usize`, if it fits.
+        /// Returns the index as a `usize`; None if it doesn't fit.
         fn place(self) -> Option<usize>;
 
         /// Returns the index itself; `i128::MAX` if it is above that.
@@ -66,11 +67,11 @@ pub(crate) mod sealed {
 }
 
 impl Bits<'_> {
-    /// Writes the bits at the indices to `out`, in their order.
+    /// Writes the bits at the indices to `out`, in the order of the indices.
     ///
     /// # Panics
     ///
-    /// If [`try_take_into`](Bits::try_take_into) returns an error.
+    /// Panics if [`try_take_into`](Bits::try_take_into) returns an error.
     ///
     /// ```
     /// use vortex_bits::{Bits, BitsMut};
@@ -87,12 +88,13 @@ impl Bits<'_> {
         expect(self.try_take_into(indices, out));
     }
 
-    /// Writes the bits at the indices to `out`, in their order.
+    /// Writes the bits at the indices to `out`, in the order of the indices.
     ///
     /// # Errors
     ///
-    /// If `out` hasn't one bit per index, or if an index is out of bounds: the error names the
-    /// first such one.
+    /// Returns [`TakeError`] if `out` doesn't have one bit per index, and with the first index that
+    /// is out of bounds. In the second case the bits of `out` are arbitrary; otherwise they are
+    /// unchanged.
     ///
     /// ```
     /// use vortex_bits::{Bits, BitsMut};
@@ -111,12 +113,12 @@ impl Bits<'_> {
         take(self, indices, &None::<Bits<'_>>, out)
     }
 
-    /// Does [`take_into`](Bits::take_into) of the indices that are valid; writes false at the
-    /// others, whatever they are.
+    /// Writes the bits at the valid indices to `out` as [`take_into`](Bits::take_into) does, and
+    /// false for each other index, whatever its number is.
     ///
     /// # Panics
     ///
-    /// If [`try_take_valid_into`](Bits::try_take_valid_into) returns an error.
+    /// Panics if [`try_take_valid_into`](Bits::try_take_valid_into) returns an error.
     ///
     /// ```
     /// use vortex_bits::{Bits, BitsMut};
@@ -139,13 +141,14 @@ impl Bits<'_> {
         expect(self.try_take_valid_into(indices, validity, out));
     }
 
-    /// Does [`try_take_into`](Bits::try_take_into) of the indices that are valid; writes false at
-    /// the others, whatever they are.
+    /// Writes the bits at the valid indices to `out` as [`try_take_into`](Bits::try_take_into)
+    /// does, and false for each other index, whatever its number is.
     ///
     /// # Errors
     ///
-    /// If `out` or `validity` hasn't one bit per index, or if a valid index is out of bounds: the
-    /// error names the first such one.
+    /// Returns [`TakeError`] if `out` or `validity` doesn't have one bit per index, and with the
+    /// first valid index that is out of bounds. In the second case the bits of `out` are arbitrary;
+    /// otherwise they are unchanged.
     ///
     /// ```
     /// use vortex_bits::{Bits, BitsMut};
@@ -194,7 +197,7 @@ fn refused<I: BitIndex>(indices: &[I], position: usize, len: usize) -> TakeError
     }
 }
 
-/// Tests whether a validity of the indices has a bit for each, or is None since all are valid.
+/// Tests that a validity of indices has one bit per index, or is None.
 pub(crate) fn one_each<I>(indices: &[I], validity: &impl Mask) -> Result<(), TakeError> {
     match validity.mask_len() {
         Some(bits) if bits != indices.len() => Err(TakeError::Validity {
@@ -205,7 +208,7 @@ pub(crate) fn one_each<I>(indices: &[I], validity: &impl Mask) -> Result<(), Tak
     }
 }
 
-/// Tests whether the valid indices are below `len`.
+/// Tests that the valid indices are below `len`.
 #[cfg(feature = "alloc")]
 pub(crate) fn all_below<I: BitIndex>(
     indices: &[I],

@@ -12,13 +12,13 @@ use crate::error::TakeError;
 #[cfg(feature = "alloc")]
 use crate::{BitIndex, Bitmap, Grow};
 
-/// Which rows are valid: one bit per row, or no bits if all are, as Arrow leaves out the validity
-/// of a column without a null. The results of calls also leave them out: they are None if there
-/// were no bits. Bits that are present may still be all true; no call tests that. Two validities
-/// are equal if they have the same valid rows, with bits or without.
+/// Which rows are valid: one bit per row, or no bits if all rows are valid. Arrow leaves out the
+/// validity of a column without nulls in the same way. Calls that return a new validity return None
+/// if there were no bits. Bits that are present may still be all true; no call tests that. Two
+/// validities are equal if they have the same valid rows, with bits or without.
 ///
 /// Operators always return a [`Bitmap`](crate::Bitmap), as `is null` and `is not null` need: `!`
-/// returns which rows are null, `Bitmap::from` which are valid, and `&`, `|` and `^` take a
+/// returns which rows are null, `Bitmap::from` which are valid, and `&`, `|` and `^` accept a
 /// validity on both sides.
 ///
 /// ```
@@ -45,7 +45,7 @@ impl<'a> Validity<'a> {
     ///
     /// # Panics
     ///
-    /// If there are bits, and their number isn't `len`.
+    /// Panics if there are bits, and their number isn't `len`.
     #[inline]
     #[must_use]
     #[track_caller]
@@ -56,8 +56,8 @@ impl<'a> Validity<'a> {
         }
     }
 
-    /// Returns the bits; None if there are no bits, and so all rows are valid. Bits may still be
-    /// all true, which [`count_zeros`](Validity::count_zeros) shows.
+    /// Returns the bits; None if there are none, and so all rows are valid. Bits may still be all
+    /// true: [`count_zeros`](Validity::count_zeros) returns 0 then.
     ///
     /// ```
     /// assert!(vortex_bits::Validity::new(None, 4).bits().is_none());
@@ -75,7 +75,7 @@ impl<'a> Validity<'a> {
         self.len
     }
 
-    /// Returns whether there are none.
+    /// Returns whether there are no rows.
     #[inline]
     #[must_use]
     pub const fn is_empty(self) -> bool {
@@ -119,7 +119,7 @@ impl<'a> Validity<'a> {
         self.bits.map_or(0, Bits::count_zeros)
     }
 
-    /// Returns the rows of a range.
+    /// Returns the validity of a range of rows.
     ///
     /// ```
     /// assert_eq!(vortex_bits::Validity::new(None, 4).slice(1..).len(), 3);
@@ -127,14 +127,14 @@ impl<'a> Validity<'a> {
     ///
     /// # Panics
     ///
-    /// If the range starts after its end, or ends after the rows.
+    /// Panics if the range starts after its end, or ends after the rows.
     #[must_use]
     #[track_caller]
     pub fn slice(self, range: impl RangeBounds<usize>) -> Validity<'a> {
         expect(self.try_slice(range))
     }
 
-    /// [`Validity::slice`].
+    /// Returns the validity of a range of rows, as [`Validity::slice`] does.
     ///
     /// ```
     /// assert!(vortex_bits::Validity::new(None, 4).try_slice(3..5).is_err());
@@ -142,14 +142,14 @@ impl<'a> Validity<'a> {
     ///
     /// # Errors
     ///
-    /// If the range starts after its end, or ends after the rows.
+    /// Returns [`OutOfBounds`] if the range starts after its end, or ends after the rows.
     pub fn try_slice(self, range: impl RangeBounds<usize>) -> Result<Validity<'a>, OutOfBounds> {
         let (start, len) = within(&range, self.len)?;
         let bits = self.bits.map(|bits| bits.part(start, len));
         Ok(Validity { bits, len })
     }
 
-    /// Writes to `out` which of the rows that a mask selects are valid, in their order.
+    /// Writes the validity of the rows that a mask selects to `out`, in their order.
     ///
     /// ```
     /// use vortex_bits::{Bits, BitsMut, Validity};
@@ -161,7 +161,8 @@ impl<'a> Validity<'a> {
     ///
     /// # Panics
     ///
-    /// If `mask` isn't one for these rows, or `out` hasn't one bit per selected row.
+    /// Panics if `mask` doesn't have one bit per row, or `out` doesn't have one bit per selected
+    /// row.
     #[track_caller]
     pub fn filter_into(self, mask: impl Mask, mut out: BitsMut<'_>) {
         if let Some(bits) = self.bits {
@@ -173,7 +174,7 @@ impl<'a> Validity<'a> {
     }
 }
 
-/// Compares them by row: no bits equal bits that are all true.
+/// Compares the validities row by row: no bits equal bits that are all true.
 impl PartialEq for Validity<'_> {
     fn eq(&self, other: &Validity<'_>) -> bool {
         self.len == other.len
@@ -187,7 +188,7 @@ impl PartialEq for Validity<'_> {
 
 impl Eq for Validity<'_> {}
 
-/// One row per bit.
+/// Returns a validity with one row per bit.
 impl<'a> From<Bits<'a>> for Validity<'a> {
     #[inline]
     fn from(bits: Bits<'a>) -> Validity<'a> {
@@ -195,7 +196,8 @@ impl<'a> From<Bits<'a>> for Validity<'a> {
     }
 }
 
-/// Which rows are valid, as for `is not null`: one bit per row, even if there were no bits.
+/// Returns which rows are valid, as for `is not null`: one bit per row, even if the validity has no
+/// bits.
 ///
 /// ```
 /// use vortex_bits::{Bitmap, Validity};
@@ -210,8 +212,8 @@ impl From<Validity<'_>> for Bitmap {
     }
 }
 
-/// Calls that allocate. They return None if there were no bits, and so all rows are valid; none
-/// tests whether bits that are present are all true.
+/// Calls that allocate. They return None if all rows are valid because the validity has no bits.
+/// None of them tests whether bits that are present are all true.
 #[cfg(feature = "alloc")]
 impl Validity<'_> {
     /// Returns which rows are valid here and in `right`. To combine truth values that may be null,
@@ -220,7 +222,7 @@ impl Validity<'_> {
     ///
     /// # Panics
     ///
-    /// If the two differ in their number of rows.
+    /// Panics if the two differ in their number of rows.
     #[must_use]
     #[track_caller]
     pub fn and(self, right: Validity<'_>) -> Option<Bitmap> {
@@ -243,7 +245,7 @@ impl Validity<'_> {
     ///
     /// # Panics
     ///
-    /// If the two differ in their number of rows.
+    /// Panics if the two differ in their number of rows.
     #[must_use]
     #[track_caller]
     pub fn or(self, right: Validity<'_>) -> Option<Bitmap> {
@@ -251,7 +253,7 @@ impl Validity<'_> {
         Some(self.bits? | right.bits?)
     }
 
-    /// Returns which of the rows that a mask selects are valid, in their order.
+    /// Returns the validity of the rows that a mask selects, in their order.
     ///
     /// ```
     /// use vortex_bits::{Bits, Validity};
@@ -263,7 +265,7 @@ impl Validity<'_> {
     ///
     /// # Panics
     ///
-    /// If `mask` isn't one for these rows.
+    /// Panics if `mask` doesn't have one bit per row.
     #[must_use]
     #[track_caller]
     pub fn filter(self, mask: impl Mask) -> Option<Bitmap> {
@@ -271,10 +273,10 @@ impl Validity<'_> {
         Some(self.bits?.filter(mask))
     }
 
-    /// Appends to `kept` which of the rows that a mask selects are valid, in their order: one bit
-    /// per row, even if there were no bits. With
-    /// [`values::filter_onto`](crate::values::filter_onto) this joins the selected rows of batches
-    /// into one column; [`Extend`] appends all rows.
+    /// Appends the validity of the rows that a mask selects to `kept`, in their order: one bit per
+    /// row, even if the validity has no bits. With
+    /// [`values::filter_onto`](crate::values::filter_onto) it joins the selected rows of batches
+    /// into one column. [`Extend`] appends all rows.
     ///
     /// ```
     /// use vortex_bits::{Bitmap, Bits, Validity};
@@ -289,7 +291,7 @@ impl Validity<'_> {
     ///
     /// # Panics
     ///
-    /// If `mask` isn't one for these rows; `kept` is unchanged.
+    /// Panics if `mask` doesn't have one bit per row. `kept` is then unchanged.
     #[track_caller]
     pub fn filter_onto<B: Grow>(self, mask: impl Mask, kept: &mut Bitmap<B>) {
         let rows = mask.of_len(self.len).map_or(self.len, Bits::count_ones);
@@ -299,18 +301,18 @@ impl Validity<'_> {
         }
     }
 
-    /// Returns which of the rows at the indices are valid.
+    /// Returns the validity of the rows at the indices.
     ///
     /// # Panics
     ///
-    /// If an index isn't one of a row.
+    /// Panics if an index names no row.
     #[must_use]
     #[track_caller]
     pub fn take<I: BitIndex>(self, indices: &[I]) -> Option<Bitmap> {
         expect(self.try_take(indices))
     }
 
-    /// [`Validity::take`].
+    /// Returns the validity of the rows at the indices, as [`Validity::take`] does.
     ///
     /// ```
     /// use vortex_bits::{TakeError, Validity};
@@ -321,7 +323,7 @@ impl Validity<'_> {
     ///
     /// # Errors
     ///
-    /// At the first index that isn't one of a row.
+    /// Returns [`TakeError`] with the first index that names no row.
     pub fn try_take<I: BitIndex>(self, indices: &[I]) -> Result<Option<Bitmap>, TakeError> {
         let Some(bits) = self.bits else {
             return crate::take::all_below(indices, self.len, None).map(|()| None);
@@ -329,8 +331,8 @@ impl Validity<'_> {
         bits.try_take(indices).map(Some)
     }
 
-    /// Returns which of the rows at the indices are valid, for indices with their own validity: a
-    /// null index gives a null row, whatever it is.
+    /// Returns the validity of the rows at the indices. The indices have their own validity: a null
+    /// index gives a null row, whatever its number is.
     ///
     /// ```
     /// use vortex_bits::{Bits, Validity};
@@ -341,14 +343,14 @@ impl Validity<'_> {
     ///
     /// # Panics
     ///
-    /// If `validity` isn't one for the indices, or a valid index isn't one of a row.
+    /// Panics if `validity` doesn't have one row per index, or a valid index names no row.
     #[must_use]
     #[track_caller]
     pub fn take_valid<I: BitIndex>(self, indices: &[I], validity: Validity<'_>) -> Option<Bitmap> {
         expect(self.try_take_valid(indices, validity))
     }
 
-    /// [`Validity::take_valid`].
+    /// Returns the validity of the rows at the valid indices, as [`Validity::take_valid`] does.
     ///
     /// ```
     /// use vortex_bits::Validity;
@@ -359,8 +361,8 @@ impl Validity<'_> {
     ///
     /// # Errors
     ///
-    /// If `validity` isn't one for the indices, and at the first valid index that isn't one of a
-    /// row.
+    /// Returns [`TakeError`] if `validity` doesn't have one row per index, and with the first valid
+    /// index that names no row.
     pub fn try_take_valid<I: BitIndex>(
         self,
         indices: &[I],

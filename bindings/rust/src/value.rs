@@ -1,9 +1,9 @@
 //! Types of values.
 
-/// A type of values that can be filtered and taken: whole numbers of any width, floats, `bool`,
-/// `char`, and arrays of these, such as `[u64; 4]` for Arrow's 256-bit decimals. The C functions
-/// take those of 1, 2, 4, 8 and 16 bytes that are aligned as a whole number of that size, those of
-/// 16 as one of 8; plain Rust handles the others.
+/// A type of values that can be filtered and taken: integers of any width, floats, `bool`, `char`,
+/// and arrays of these, such as `[u64; 4]` for Arrow's 256-bit decimals. The C functions process
+/// types of 1, 2, 4 or 8 bytes with the alignment of an integer of that size, and types of 16 bytes
+/// with at least that of a `u64`. Plain Rust processes the others.
 #[diagnostic::on_unimplemented(
     message = "values of `{Self}` are neither filtered nor taken",
     label = "values are whole numbers, floats, or arrays of these",
@@ -12,7 +12,7 @@
 pub trait Value: sealed::Value {}
 
 pub(crate) mod sealed {
-    /// What a type of values provides.
+    /// The parts that a type of values provides.
     pub trait Value: Copy {
         /// The value at a null position: all bytes are 0.
         const ZERO: Self;
@@ -56,7 +56,7 @@ impl<V: Value, const N: usize> sealed::Value for [V; N] {
     const ZERO: [V; N] = [V::ZERO; N];
 }
 
-/// How the C functions see a value that is copied.
+/// The layout of a value, as the C functions see it.
 #[cfg(vortex_bits_native)]
 #[derive(Clone, Copy)]
 pub(crate) enum Laid {
@@ -69,7 +69,7 @@ pub(crate) enum Laid {
 
 #[cfg(vortex_bits_native)]
 impl Laid {
-    /// How they see a value of this type; None if they don't.
+    /// Returns the layout of values of this type; None if the C functions don't process it.
     pub(crate) const fn of<T>() -> Option<Laid> {
         match (size_of::<T>(), align_of::<T>()) {
             (1, _) => Some(Laid::One),

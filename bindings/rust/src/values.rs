@@ -1,9 +1,9 @@
-//! Functions over values. `take_into` writes values at indices to a slice, `take` to a new `Vec`;
-//! `filter` selects values by a mask, `compare` compares them, into bits, and `and_kleene` and
-//! `or_kleene` combine truth values that may be null.
+//! Functions over slices of values. `take_into` writes values at indices to a slice, and `take` to
+//! a new `Vec`. `filter` selects values by a mask. `compare` compares values, into bits.
+//! `and_kleene` and `or_kleene` combine truth values that may be null.
 //!
-//! Each take has a form with a validity, in which a position counts if its bit is true, and a
-//! `try_` form that returns an error where the other panics.
+//! Each take has a form with a validity for the indices, and a `try_` form that returns an error
+//! instead of a panic.
 //!
 //! ```
 //! use vortex_bits::{Bits, values};
@@ -32,11 +32,11 @@ pub use crate::kleene::{and_kleene_into, or_kleene_into};
 use crate::error::{TakeValuesError, expect};
 use crate::{BitIndex, Bits, Mask, Value, kernels};
 
-/// Writes the values at the indices to `out`, one each.
+/// Writes the values at the indices to `out`, in the order of the indices.
 ///
 /// # Panics
 ///
-/// If [`try_take_into`] returns an error.
+/// Panics if [`try_take_into`] returns an error.
 ///
 /// ```
 /// use vortex_bits::values;
@@ -52,11 +52,13 @@ pub fn take_into<T: Value, I: BitIndex>(values: &[T], indices: &[I], out: &mut [
     expect(try_take_into(values, indices, out));
 }
 
-/// Writes the values at the indices to `out`, one each.
+/// Writes the values at the indices to `out`, in the order of the indices.
 ///
 /// # Errors
 ///
-/// If `out` hasn't one item per index, or at the first index that is out of bounds.
+/// Returns [`TakeValuesError`] if `out` doesn't have one item per index, and with the first index
+/// that is out of bounds. In the second case the items of `out` are arbitrary; otherwise they are
+/// unchanged.
 #[inline]
 pub fn try_take_into<T: Value, I: BitIndex>(
     values: &[T],
@@ -66,11 +68,12 @@ pub fn try_take_into<T: Value, I: BitIndex>(
     try_take_valid_into(values, indices, None::<Bits<'_>>, out)
 }
 
-/// Does [`take_into`] of the indices that are valid; writes 0 at the others, whatever they are.
+/// Writes the values at the valid indices to `out` as [`take_into`] does, and 0 for each other
+/// index, whatever its number is.
 ///
 /// # Panics
 ///
-/// If [`try_take_valid_into`] returns an error.
+/// Panics if [`try_take_valid_into`] returns an error.
 ///
 /// ```
 /// use vortex_bits::{Bits, values};
@@ -92,12 +95,14 @@ pub fn take_valid_into<T: Value, I: BitIndex>(
     expect(try_take_valid_into(values, indices, validity, out));
 }
 
-/// Does [`try_take_into`] of the indices that are valid; writes 0 at the others, whatever they are.
+/// Writes the values at the valid indices to `out` as [`try_take_into`] does, and 0 for each other
+/// index, whatever its number is.
 ///
 /// # Errors
 ///
-/// If `out` or `validity` hasn't one item per index, or at the first valid index that is out of
-/// bounds.
+/// Returns [`TakeValuesError`] if `out` or `validity` doesn't have one item per index, and with the
+/// first valid index that is out of bounds. In the second case the items of `out` are arbitrary;
+/// otherwise they are unchanged.
 #[inline]
 pub fn try_take_valid_into<T: Value, I: BitIndex>(
     values: &[T],
@@ -128,11 +133,11 @@ pub fn try_take_valid_into<T: Value, I: BitIndex>(
     }
 }
 
-/// Returns the values at the indices.
+/// Returns the values at the indices, in the order of the indices.
 ///
 /// # Panics
 ///
-/// If [`try_take`] returns an error.
+/// Panics if [`try_take`] returns an error.
 #[doc(alias("gather"))]
 #[cfg(feature = "alloc")]
 #[must_use]
@@ -142,11 +147,11 @@ pub fn take<T: Value, I: BitIndex>(values: &[T], indices: &[I]) -> Vec<T> {
     expect(try_take(values, indices))
 }
 
-/// Returns the values at the indices.
+/// Returns the values at the indices, in the order of the indices.
 ///
 /// # Errors
 ///
-/// At the first index that is out of bounds.
+/// Returns [`TakeValuesError`] with the first index that is out of bounds.
 #[cfg(feature = "alloc")]
 #[inline]
 pub fn try_take<T: Value, I: BitIndex>(
@@ -156,11 +161,11 @@ pub fn try_take<T: Value, I: BitIndex>(
     try_take_valid(values, indices, None::<Bits<'_>>)
 }
 
-/// Returns the values at the indices that are valid, and 0 at the others.
+/// Returns the values at the valid indices, and 0 for each other index, whatever its number is.
 ///
 /// # Panics
 ///
-/// If [`try_take_valid`] returns an error.
+/// Panics if [`try_take_valid`] returns an error.
 #[doc(alias("gather", "null"))]
 #[cfg(feature = "alloc")]
 #[must_use]
@@ -174,11 +179,12 @@ pub fn take_valid<T: Value, I: BitIndex>(
     expect(try_take_valid(values, indices, validity))
 }
 
-/// Returns the values at the indices that are valid, and 0 at the others.
+/// Returns the values at the valid indices, and 0 for each other index, whatever its number is.
 ///
 /// # Errors
 ///
-/// If `validity` hasn't one bit per index, or at the first valid index that is out of bounds.
+/// Returns [`TakeValuesError`] if `validity` doesn't have one bit per index, and with the first
+/// valid index that is out of bounds.
 #[cfg(feature = "alloc")]
 #[inline]
 pub fn try_take_valid<T: Value, I: BitIndex>(

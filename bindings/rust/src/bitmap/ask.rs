@@ -1,10 +1,10 @@
-//! The read-only calls of a bitmap, which are those of its window.
+//! The read-only calls of a bitmap. They are the calls of its window.
 
 use super::Bitmap;
 use crate::iter::{Iter, SetIndices, SetSlices, UnsetIndices, UnsetSlices, Words};
 use crate::{BitIndex, Bits, Mask};
 
-/// Each as for [`Bits`](crate::Bits).
+/// Each call returns the result of the same one of [`Bits`](crate::Bits).
 macro_rules! asks {
     ($($(#[$doc:meta])* $name:ident($($arg:ident: $kind:ty)?) -> $answer:ty;)*) => {
         /// The calls of [`Bits`](crate::Bits).
@@ -172,7 +172,7 @@ asks! {
     /// ```
     all() -> bool;
 
-    /// Returns the bits, from front to end.
+    /// Returns an iterator over the bits, from front to end.
     ///
     /// ```
     /// use vortex_bits::Bitmap;
@@ -182,7 +182,7 @@ asks! {
     /// ```
     iter() -> Iter<'_>;
 
-    /// Returns the indices of the set bits, in ascending order.
+    /// Returns an iterator over the indices of the set bits, in ascending order.
     ///
     /// ```
     /// use vortex_bits::Bitmap;
@@ -192,7 +192,8 @@ asks! {
     /// ```
     set_indices() -> SetIndices<'_>;
 
-    /// Returns the maximal runs of set bits, from front to end, as ranges of indices.
+    /// Returns an iterator over the maximal runs of set bits, from front to end, as ranges of
+    /// indices.
     ///
     /// ```
     /// use vortex_bits::Bitmap;
@@ -202,7 +203,8 @@ asks! {
     /// ```
     set_slices() -> SetSlices<'_>;
 
-    /// Returns the indices of the unset bits, in ascending order, such as the nulls of a column.
+    /// Returns an iterator over the indices of the unset bits, in ascending order, such as the
+    /// nulls of a column.
     ///
     /// ```
     /// use vortex_bits::Bitmap;
@@ -212,7 +214,8 @@ asks! {
     /// ```
     unset_indices() -> UnsetIndices<'_>;
 
-    /// Returns the maximal runs of unset bits, from front to end, as ranges of indices.
+    /// Returns an iterator over the maximal runs of unset bits, from front to end, as ranges of
+    /// indices.
     ///
     /// ```
     /// use vortex_bits::Bitmap;
@@ -222,7 +225,8 @@ asks! {
     /// ```
     unset_slices() -> UnsetSlices<'_>;
 
-    /// Returns the bits as 64-bit words, the first bit lowest; pads the last word with false.
+    /// Returns an iterator over the bits as 64-bit words, with the first bit lowest. False bits pad
+    /// the last word.
     ///
     /// ```
     /// use vortex_bits::Bitmap;
@@ -245,7 +249,7 @@ impl<B: AsRef<[u8]>> Bitmap<B> {
     ///
     /// # Panics
     ///
-    /// If the lengths differ.
+    /// Panics if the lengths differ.
     #[inline]
     #[must_use]
     #[track_caller]
@@ -264,7 +268,7 @@ impl<B: AsRef<[u8]>> Bitmap<B> {
     ///
     /// # Panics
     ///
-    /// If the lengths differ.
+    /// Panics if the lengths differ.
     #[inline]
     #[must_use]
     #[track_caller]
@@ -283,7 +287,7 @@ impl<B: AsRef<[u8]>> Bitmap<B> {
     ///
     /// # Panics
     ///
-    /// If the lengths differ.
+    /// Panics if the lengths differ.
     #[inline]
     #[must_use]
     #[track_caller]
@@ -302,7 +306,7 @@ impl<B: AsRef<[u8]>> Bitmap<B> {
     ///
     /// # Panics
     ///
-    /// If the lengths differ.
+    /// Panics if the lengths differ.
     #[inline]
     #[must_use]
     #[track_caller]
@@ -321,7 +325,7 @@ impl<B: AsRef<[u8]>> Bitmap<B> {
     ///
     /// # Panics
     ///
-    /// If the lengths differ.
+    /// Panics if the lengths differ.
     #[doc(alias("intersects"))]
     #[inline]
     #[must_use]
@@ -341,7 +345,7 @@ impl<B: AsRef<[u8]>> Bitmap<B> {
     ///
     /// # Panics
     ///
-    /// If the lengths differ.
+    /// Panics if the lengths differ.
     #[doc(alias("contains"))]
     #[inline]
     #[must_use]
@@ -350,7 +354,7 @@ impl<B: AsRef<[u8]>> Bitmap<B> {
         self.bits().is_subset(right)
     }
 
-    /// Returns the bits that are true here and false in `right`.
+    /// Returns new bits, true where these are true and `right` is false.
     ///
     /// ```
     /// use vortex_bits::Bitmap;
@@ -361,7 +365,7 @@ impl<B: AsRef<[u8]>> Bitmap<B> {
     ///
     /// # Panics
     ///
-    /// If the lengths differ.
+    /// Panics if the lengths differ.
     #[must_use]
     #[track_caller]
     pub fn and_not(&self, right: impl Mask) -> Bitmap {
@@ -379,15 +383,15 @@ impl<B: AsRef<[u8]>> Bitmap<B> {
     ///
     /// # Panics
     ///
-    /// If `mask` has another length.
+    /// Panics if `mask` has another length.
     #[must_use]
     #[track_caller]
     pub fn filter(&self, mask: impl Mask) -> Bitmap {
         self.bits().filter(mask)
     }
 
-    /// Returns the bits at the indices; [`Bits::try_take`](crate::Bits::try_take) returns an error
-    /// if this panics.
+    /// Returns the bits at the indices, in their order. [`Bits::try_take`](crate::Bits::try_take)
+    /// returns an error instead of a panic.
     ///
     /// ```
     /// use vortex_bits::Bitmap;
@@ -398,15 +402,16 @@ impl<B: AsRef<[u8]>> Bitmap<B> {
     ///
     /// # Panics
     ///
-    /// If an index is out of bounds.
+    /// Panics if an index is out of bounds.
     #[must_use]
     #[track_caller]
     pub fn take<I: BitIndex>(&self, indices: &[I]) -> Bitmap {
         self.bits().take(indices)
     }
 
-    /// Returns the bits at the valid indices, and false at the others, whatever they are;
-    /// [`Bits::try_take_valid`](crate::Bits::try_take_valid) returns an error if this panics.
+    /// Returns the bits at the valid indices, and false for each other index, whatever its number
+    /// is. [`Bits::try_take_valid`](crate::Bits::try_take_valid) returns an error instead of a
+    /// panic.
     ///
     /// ```
     /// use vortex_bits::Bitmap;
@@ -417,7 +422,7 @@ impl<B: AsRef<[u8]>> Bitmap<B> {
     ///
     /// # Panics
     ///
-    /// If a valid index is out of bounds, or `validity` hasn't one bit per index.
+    /// Panics if a valid index is out of bounds, or `validity` doesn't have one bit per index.
     #[doc(alias("gather", "null"))]
     #[must_use]
     #[track_caller]
@@ -425,7 +430,8 @@ impl<B: AsRef<[u8]>> Bitmap<B> {
         self.bits().take_valid(indices, validity)
     }
 
-    /// Undoes a filter: returns the bits at the indices that `mask` selects, and false elsewhere.
+    /// Undoes a filter: returns `mask.len()` bits, with these bits in order at the set bits of
+    /// `mask`, and false elsewhere.
     ///
     /// ```
     /// use vortex_bits::Bitmap;
@@ -436,7 +442,7 @@ impl<B: AsRef<[u8]>> Bitmap<B> {
     ///
     /// # Panics
     ///
-    /// If there isn't one bit per set bit of `mask`.
+    /// Panics if there isn't one bit per set bit of `mask`.
     #[doc(alias("pdep", "scatter", "expand"))]
     #[must_use]
     #[track_caller]

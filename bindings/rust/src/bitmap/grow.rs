@@ -5,10 +5,11 @@ use crate::bytes::AlignedBytes;
 use crate::kernels;
 use crate::{Bits, BitsMut, Grow, Validity};
 
-/// Calls that write: in place if the bytes have no other owner, else in a copy of the bits, which
-/// they allocate.
+/// Calls that write. They write in place if the bytes have no other owner; otherwise they allocate
+/// a copy of the bits first.
 impl<B: Grow> Bitmap<B> {
-    /// Returns the bytes, now with one owner, the index of the first bit, and the length.
+    /// Returns the bytes, the index of the first bit, and the length. Copies the bits if the bytes
+    /// have other owners.
     #[inline]
     fn owned(&mut self) -> (&mut AlignedBytes, usize, &mut usize) {
         if !self.bytes.is_owned() {
@@ -30,11 +31,11 @@ impl<B: Grow> Bitmap<B> {
         self.offset = 0;
     }
 
-    /// Appends `n` bits, which hold anything, and returns them as a writable window.
+    /// Appends `n` bits with arbitrary values, and returns them as a writable window.
     ///
     /// # Panics
     ///
-    /// If the end of the bits is no `usize`.
+    /// Panics if the end of the bits isn't a `usize`.
     pub(crate) fn grow(&mut self, n: usize) -> BitsMut<'_> {
         let (bytes, offset, len) = self.owned();
         let start = offset + *len;
@@ -61,7 +62,8 @@ impl<B: Grow> Bitmap<B> {
         BitsMut::new(bytes, offset, *len)
     }
 
-    /// Sets one bit to `value`; to set many, [`bits_mut`](Bitmap::bits_mut) is faster.
+    /// Sets one bit to `value`. To set many bits, call [`bits_mut`](Bitmap::bits_mut) once: it is
+    /// faster.
     ///
     /// ```
     /// use vortex_bits::Bitmap;
@@ -73,14 +75,14 @@ impl<B: Grow> Bitmap<B> {
     ///
     /// # Panics
     ///
-    /// If the index is out of bounds.
+    /// Panics if the index is out of bounds.
     #[inline]
     #[track_caller]
     pub fn set(&mut self, place: usize, value: bool) {
         self.bits_mut().set(place, value);
     }
 
-    /// Reserves capacity for so many more bits.
+    /// Reserves capacity for at least `bits` more bits.
     ///
     /// ```
     /// use vortex_bits::Bitmap;
@@ -95,7 +97,7 @@ impl<B: Grow> Bitmap<B> {
         bytes.reserve(size.saturating_sub(bytes.len()));
     }
 
-    /// Appends a bit. If the bytes can be shared, each call tests that they aren't;
+    /// Appends a bit. If the bytes can be shared, each call tests that they aren't.
     /// [`BitmapMut`](crate::BitmapMut) needs no test, and [`Extend`] tests once.
     ///
     /// ```
@@ -158,7 +160,7 @@ impl<B: Grow> Bitmap<B> {
         kernels::pack_bools(&mut self.grow(bools.len()).written(), bools);
     }
 
-    /// Keeps the first `len` bits; all if there are no more.
+    /// Shortens the bitmap to its first `len` bits. Does nothing if it has no more than `len`.
     ///
     /// ```
     /// use vortex_bits::Bitmap;
@@ -171,7 +173,7 @@ impl<B: Grow> Bitmap<B> {
         self.len = self.len.min(len);
     }
 
-    /// Removes all bits; keeps the memory.
+    /// Removes all bits. Does not free memory.
     ///
     /// ```
     /// use vortex_bits::Bitmap;
@@ -237,7 +239,7 @@ impl<'a, B: Grow> Extend<Bits<'a>> for Bitmap<B> {
     }
 }
 
-/// Appends which rows are valid, of each in turn: one bit per row, even if there were no bits.
+/// Appends a bit per row for each validity in turn: whether the row is valid.
 ///
 /// ```
 /// use vortex_bits::{Bitmap, Bits, Validity};

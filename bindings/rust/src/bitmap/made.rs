@@ -5,7 +5,7 @@ use crate::error::{TakeError, expect};
 use crate::{BitIndex, Bits, Mask};
 
 impl Bits<'_> {
-    /// Returns the bits that `mask` selects, as [`filter_into`](Bits::filter_into) writes them.
+    /// Returns the bits that `mask` selects, in a new bitmap.
     ///
     /// ```
     /// use vortex_bits::{Bitmap, Bits};
@@ -16,7 +16,7 @@ impl Bits<'_> {
     ///
     /// # Panics
     ///
-    /// If `mask` isn't as long as the window.
+    /// Panics if `mask` isn't as long as the window.
     #[doc(alias("pext", "compress"))]
     #[must_use]
     #[track_caller]
@@ -26,7 +26,7 @@ impl Bits<'_> {
         Bitmap::make(kept, |out| self.filter_into(mask, out))
     }
 
-    /// Returns the bits at the indices, as [`take_into`](Bits::take_into) writes them.
+    /// Returns the bits at the indices, in their order, in a new bitmap.
     ///
     /// ```
     /// use vortex_bits::Bits;
@@ -37,7 +37,7 @@ impl Bits<'_> {
     ///
     /// # Panics
     ///
-    /// If an index is out of bounds.
+    /// Panics if an index is out of bounds.
     #[doc(alias("gather"))]
     #[must_use]
     #[track_caller]
@@ -45,21 +45,21 @@ impl Bits<'_> {
         expect(self.try_take(indices))
     }
 
-    /// Returns the bits at the indices.
+    /// Returns the bits at the indices, in their order, in a new bitmap.
     ///
     /// # Errors
     ///
-    /// At the first index that is out of bounds.
+    /// Returns [`TakeError`] with the first index that is out of bounds.
     pub fn try_take<I: BitIndex>(self, indices: &[I]) -> Result<Bitmap, TakeError> {
         Bitmap::try_make(indices.len(), |out| self.try_take_into(indices, out))
     }
 
-    /// Does [`take`](Bits::take) of the indices that are valid; returns false for the others,
-    /// whatever they are.
+    /// Returns the bits at the valid indices, and false for each other index, whatever its number
+    /// is.
     ///
     /// # Panics
     ///
-    /// If [`try_take_valid`](Bits::try_take_valid) returns an error.
+    /// Panics if [`try_take_valid`](Bits::try_take_valid) returns an error.
     #[doc(alias("gather", "null"))]
     #[must_use]
     #[track_caller]
@@ -67,12 +67,13 @@ impl Bits<'_> {
         expect(self.try_take_valid(indices, validity))
     }
 
-    /// Does [`try_take`](Bits::try_take) of the indices that are valid; returns false for the
-    /// others, whatever they are.
+    /// Returns the bits at the valid indices, and false for each other index, whatever its number
+    /// is.
     ///
     /// # Errors
     ///
-    /// If `validity` hasn't one bit per index, and at the first valid index that is out of bounds.
+    /// Returns [`TakeError`] if `validity` doesn't have one bit per index, and with the first valid
+    /// index that is out of bounds.
     pub fn try_take_valid<I: BitIndex>(
         self,
         indices: &[I],

@@ -9,7 +9,7 @@ use super::Bitmap;
 use crate::iter::Iter;
 use crate::{Bits, Validity};
 
-/// No bits.
+/// Returns an empty bitmap.
 impl Default for Bitmap {
     fn default() -> Bitmap {
         Bitmap::growing(0).share()
@@ -46,7 +46,7 @@ impl From<Bits<'_>> for Bitmap {
     }
 }
 
-/// Returns the bits as a window, for calls that take one by [`Into`].
+/// Returns the bits as a window, for calls with an [`Into`] parameter.
 ///
 /// ```
 /// use vortex_bits::{Bitmap, Bits};
@@ -60,7 +60,7 @@ impl<'a, B: AsRef<[u8]>> From<&'a Bitmap<B>> for Bits<'a> {
     }
 }
 
-/// The truth values, one byte each.
+/// Returns the truth values, one byte each.
 ///
 /// ```
 /// use vortex_bits::Bitmap;
@@ -73,7 +73,7 @@ impl<B: AsRef<[u8]>> From<Bitmap<B>> for Vec<bool> {
     }
 }
 
-/// Uses one byte per bit in between.
+/// Collects the truth values. Allocates one byte per bit in between.
 impl FromIterator<bool> for Bitmap {
     fn from_iter<I: IntoIterator<Item = bool>>(bools: I) -> Bitmap {
         let bools: Vec<bool> = bools.into_iter().collect();
@@ -81,7 +81,7 @@ impl FromIterator<bool> for Bitmap {
     }
 }
 
-/// The bits of each window in turn.
+/// Joins the bits of the windows in turn.
 ///
 /// ```
 /// use vortex_bits::{Bitmap, Bits};
@@ -97,7 +97,7 @@ impl<'a> FromIterator<Bits<'a>> for Bitmap {
     }
 }
 
-/// Which rows are valid, of each in turn: one bit per row, even if there were no bits.
+/// Joins a bit per row for each validity in turn: whether the row is valid.
 impl<'a> FromIterator<Validity<'a>> for Bitmap {
     fn from_iter<I: IntoIterator<Item = Validity<'a>>>(validities: I) -> Bitmap {
         let mut joined = Bitmap::growing(0);
@@ -106,7 +106,7 @@ impl<'a> FromIterator<Validity<'a>> for Bitmap {
     }
 }
 
-/// The bits of each bitmap in turn.
+/// Joins the bits of the bitmaps in turn.
 impl<'a, B: AsRef<[u8]>> FromIterator<&'a Bitmap<B>> for Bitmap {
     fn from_iter<I: IntoIterator<Item = &'a Bitmap<B>>>(bitmaps: I) -> Bitmap {
         bitmaps.into_iter().map(Bitmap::bits).collect()
@@ -119,7 +119,7 @@ impl<B: AsRef<[u8]>> fmt::Debug for Bitmap<B> {
     }
 }
 
-/// Compares the bits, at whatever offsets.
+/// Compares the bits, at any offsets.
 impl<B: AsRef<[u8]>, C: AsRef<[u8]>> PartialEq<Bitmap<C>> for Bitmap<B> {
     fn eq(&self, other: &Bitmap<C>) -> bool {
         self.bits() == other.bits()
@@ -140,7 +140,7 @@ impl<B: AsRef<[u8]>> PartialEq<Bitmap<B>> for Bits<'_> {
     }
 }
 
-/// As its window.
+/// Hashes the bits as their window does.
 impl<B: AsRef<[u8]>> Hash for Bitmap<B> {
     fn hash<H: Hasher>(&self, state: &mut H) {
         self.bits().hash(state);
@@ -149,7 +149,7 @@ impl<B: AsRef<[u8]>> Hash for Bitmap<B> {
 
 /// # Panics
 ///
-/// If the index is out of bounds; [`get`](Bitmap::get) returns None instead.
+/// Panics if the index is out of bounds; [`get`](Bitmap::get) returns None instead.
 impl<B: AsRef<[u8]>> Index<usize> for Bitmap<B> {
     type Output = bool;
 

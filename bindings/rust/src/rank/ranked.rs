@@ -1,4 +1,4 @@
-//! Ranks that own their bytes.
+//! A bitmap with ranks, which owns its bytes.
 
 use alloc::vec;
 use alloc::vec::Vec;
@@ -7,8 +7,8 @@ use core::fmt;
 use super::{Ranks, blocks};
 use crate::{Bitmap, Bits, SharedBytes};
 
-/// A [`Bitmap`] with the table of its [`Ranks`], which you can store where you need it. It has the
-/// same calls.
+/// A [`Bitmap`] with the table of its [`Ranks`], to keep and to return. It has the calls of
+/// `Ranks`.
 ///
 /// ```
 /// use vortex_bits::Bitmap;
@@ -37,7 +37,7 @@ impl<B: AsRef<[u8]>> Ranked<B> {
     ///
     /// # Panics
     ///
-    /// As [`Bitmap::bits`]; so in all calls below.
+    /// Panics as [`Bitmap::bits`] does, and so do all calls below.
     #[inline]
     #[must_use]
     #[track_caller]
@@ -45,7 +45,7 @@ impl<B: AsRef<[u8]>> Ranked<B> {
         self.bitmap.bits()
     }
 
-    /// Returns the bits and their table, for ranks.
+    /// Returns the bits with their table, for ranks.
     #[inline]
     #[must_use]
     #[track_caller]
@@ -60,26 +60,27 @@ impl<B: AsRef<[u8]>> Ranked<B> {
         self.bitmap.len()
     }
 
-    /// Returns whether there are none.
+    /// Returns whether there are no bits.
     #[inline]
     #[must_use]
     pub const fn is_empty(&self) -> bool {
         self.bitmap.is_empty()
     }
 
-    /// Returns the number of set bits, from the table and the bits of the last block.
+    /// Returns the number of set bits. Reads the last entry of the table and the bits of the last
+    /// block.
     #[inline]
     #[must_use]
     pub fn count(&self) -> usize {
         self.ranks().count()
     }
 
-    /// Returns the number of set bits before index `place`, from an entry of the table and the bits
-    /// of one block.
+    /// Returns the number of set bits before index `place`. Reads an entry of the table and the
+    /// bits of at most one block.
     ///
     /// # Panics
     ///
-    /// If `place` is above the length; [`try_rank`](Ranked::try_rank) returns None instead.
+    /// Panics if `place` is above the length; [`try_rank`](Ranked::try_rank) returns None instead.
     #[inline]
     #[must_use]
     #[track_caller]
@@ -122,7 +123,7 @@ impl<B: AsRef<[u8]>> Ranked<B> {
     }
 }
 
-/// As the bits.
+/// Writes the bits as their window does.
 impl<B: AsRef<[u8]>> fmt::Debug for Ranked<B> {
     fn fmt(&self, f: &mut fmt::Formatter<'_>) -> fmt::Result {
         self.bits().fmt(f)
