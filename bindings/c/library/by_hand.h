@@ -1,29 +1,31 @@
 /*
- * The functions of vortex_bits.h that aren't calls of a level and no more.
+ * The functions of vortex_bits.h that do more than call the function of a level.
  *
- * Walks go by pages of memory: those of a level pass four words of zeros at once, which may lie on
- * two pages, and so read behind the page of the last item that has room.
+ * The walks process a window page by page. The functions of a level skip four words of zeros at
+ * once. These words may be on two pages of memory, so a call could read past the page of the last
+ * item that fits in the output.
  */
 #ifndef VORTEX_BITS_BY_HAND_H
 #define VORTEX_BITS_BY_HAND_H
 
-/* As large as a page of memory, or a part of one. */
+/* The size of a page of memory in bytes, or of a part of a page. */
 enum { PAGE = 4096 };
 
-/* How many of the `len` bits from bit `start` on lie before the end of its page. */
+/* Returns how many of the `len` bits from bit `start` on are before the end of its page. */
 static size_t in_page(const uint8_t *bytes, size_t start, size_t len)
 {
     const size_t left = 8 * (PAGE - (uintptr_t)(bytes + start / 8) % PAGE) - start % 8;
     return left < len ? left : len;
 }
 
-/* How many bytes have the bits before bit `end`. */
+/* Returns the number of bytes that have the bits before bit `end`. */
 static size_t bytes_of(size_t end)
 {
     return end / 8 + (end % 8 != 0);
 }
 
-/* Whether the window lies in its bytes: a checked search tests it, and reads none from its end. */
+/* Returns whether the window is in bounds: a checked search from its end tests that, and reads no
+ * bit. */
 static bool fits(const uint8_t *bytes, size_t size, size_t offset, size_t len)
 {
     vb_place place;
@@ -60,7 +62,7 @@ bool vb_try_set_indices(size_t *out, size_t out_count, const uint8_t *bytes, siz
     return true;
 }
 
-/* Where a run of true bits ends that reaches place `at` of a window, or ends there. */
+/* Returns the end of a run of set bits that contains index `at` of a window or ends there. */
 static size_t run_end(const uint8_t *bytes, size_t offset, size_t at, size_t len)
 {
     for (size_t n; at < len; at += n) {
@@ -77,7 +79,7 @@ static size_t run_end(const uint8_t *bytes, size_t offset, size_t at, size_t len
 size_t vb_set_slices(vb_run *out, size_t out_count, const uint8_t *bytes, size_t size,
     size_t offset, size_t len)
 {
-    /* There are no more runs than that. */
+    /* A window of len bits has at most this number of runs. */
     if (out_count >= len - len / 2) {
         return CALL(set_slices)(ANY(out, out_count), ANY(bytes, size), offset, len);
     }
@@ -110,7 +112,7 @@ bool vb_try_set_slices(vb_run *out, size_t out_count, const uint8_t *bytes, size
     return true;
 }
 
-/* Bools are packed as bytes, so that one that no compiler makes changes no bit beside its own. */
+/* Packs bools as bytes: a bool that is neither 0 nor 1 then changes no bit but its own. */
 void vb_pack_bools_padded(uint8_t *out, size_t out_size, const bool *bools, size_t bools_count)
 {
     CALL(pack_truthy_padded)(ANY(out, out_size), ANY((const uint8_t *)bools, bools_count));

@@ -1,11 +1,11 @@
 /*
- * The functions of vortex_bits.h that no level has: each takes one of several by the size of a
- * value or of an index, or bools as bytes.
+ * The functions of vortex_bits.h that no level has. Each calls one of several functions, by the
+ * size of a value or of an index, or passes bools as bytes.
  */
 #ifndef VORTEX_BITS_MADE_H
 #define VORTEX_BITS_MADE_H
 
-/* Bools are packed as bytes, so that one that no compiler makes changes no bit beside its own. */
+/* Packs bools as bytes: a bool that is neither 0 nor 1 then changes no bit but its own. */
 void vb_pack_bools(uint8_t *out, size_t out_size, size_t out_offset, const bool *bools,
     size_t bools_count)
 {
@@ -20,7 +20,8 @@ bool vb_try_pack_bools(uint8_t *out, size_t out_size, size_t out_offset, const b
             ANY((const uint8_t *)bools, bools_count));
 }
 
-/* Whether there are functions for items of so many bytes, and these are aligned as theirs. */
+/* Returns whether there are functions for items of `size` bytes, and the items are aligned for
+ * them. */
 static bool is_laid(const void *items, size_t size, size_t most)
 {
     const bool known = size == 1 || size == 2 || size == 4 || size == 8 || size == 16;
@@ -37,7 +38,7 @@ static bool is_laid(const void *items, size_t size, size_t most)
     WIDTH(16, u128, vb_u128)
 /* To here. */
 
-/* What one of the functions for values of so many bytes answers. */
+/* Returns the result of the function for values of one size. */
 #define OF_VALUES(name, V, ...)                                                                   \
     CALL(name)(ANY((V *)out, out_count), ANY((const V *)values, values_count), __VA_ARGS__)
 
@@ -74,7 +75,8 @@ bool vb_try_filter_values(void *out, size_t out_count, const void *values, size_
     }
 }
 
-/* A value of so many bytes at an index of so many: as a function 0, where these are too many. */
+/* Encodes the sizes of a value and of an index as one number. The function returns 0 if a size is
+ * too large. */
 #define PAIR(value_size, index_size) (16 * (value_size) + (index_size))
 static size_t pair(size_t value_size, size_t index_size)
 {

@@ -1,5 +1,5 @@
 /*
- * Which levels of x86-64 the processor has, and the system keeps the registers of.
+ * Tests which levels of x86-64 the processor has, and whether the system saves their registers.
  */
 #ifndef VORTEX_BITS_PROCESSOR_H
 #define VORTEX_BITS_PROCESSOR_H
@@ -7,7 +7,7 @@
 #include <cpuid.h>
 #include <stdbool.h>
 
-/* What the processor says of itself: the registers that a leaf of cpuid fills. */
+/* The registers that a leaf of cpuid fills. */
 struct leaf {
     unsigned eax, ebx, ecx, edx;
 };
@@ -19,13 +19,13 @@ static inline struct leaf leaf(unsigned number)
     return it;
 }
 
-/* Whether all of these bits are 1. */
+/* Returns whether all of the wanted bits are 1. */
 static inline bool has(unsigned bits, unsigned wanted)
 {
     return (bits & wanted) == wanted;
 }
 
-/* Whether the system keeps so many state components of vector registers. */
+/* Returns whether the system saves these state components of the vector registers. */
 static inline bool keeps(unsigned components)
 {
     unsigned low, high;

@@ -1,6 +1,6 @@
 /*
- * Stands in place of the functions of x86-64-v2: each stops the program where a pointer to items is
- * null. Over these, nulls.c shows that vortex_bits.c passes none on.
+ * Replaces the functions of x86-64-v2: each aborts the program if a pointer to items is null.
+ * Linked with these, nulls.c tests that vortex_bits.c passes no null pointer on.
  */
 #include "vortex_bits.h"
 
@@ -38,7 +38,7 @@ static void see(int first, ...)
     {                                                                                             \
         SEE arguments;                                                                            \
     }
-/* A checked form finds all numbers good: what is refused before it isn't for them. */
+/* A checked form accepts all numbers, so only vortex_bits.c itself can return false. */
 #define T(name, parameters, arguments, tests)                                                     \
     bool vb_v2_##name parameters;                                                                 \
     bool vb_v2_##name parameters                                                                  \

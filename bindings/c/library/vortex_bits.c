@@ -1,24 +1,24 @@
 /*
- * The functions of vortex_bits.h before those of the processor levels, vb_v2_count_ones and the
- * like: a null pointer to no items becomes one that these accept, a checked form refuses a null
- * pointer to more, and one level is chosen. What else some of them do is in by_hand.h.
+ * The functions of vortex_bits.h. Each calls the function of a processor level, such as
+ * vb_v2_count_ones. It replaces a null pointer to no items by one that this accepts. A checked form
+ * returns false for a null pointer to more items. by_hand.h has the functions that do more.
  *
- * With VB_LEVEL, 2, 3 or 4, that level alone is called; without, the higher one of v2 and v3 that
- * the processor has.
+ * With VB_LEVEL (2, 3 or 4) they call that level only. Without it they call the higher one of v2
+ * and v3 that the processor has.
  */
 #include "vortex_bits.h"
 
-/* Made of the header, by bindings/c/functions. */
+/* bindings/c/functions writes this one from the header. */
 #include "functions.h"
 #include "processor.h"
 
 #include <stdatomic.h>
 
-/* What a null pointer to no items becomes; since there are none, it is neither read nor written. */
+/* The object that replaces a null pointer to no items. No function reads or writes it. */
 static max_align_t nothing;
-/* A pointer that may be null where the number behind it is 0, and that number. */
+/* A pointer, which may be null if the number after it is 0, and that number. */
 #define ANY(items, number) ((items) != NULL || (number) != 0 ? (items) : (void *)&nothing), number
-/* Whether a pointer may point to so many items: a null one points to none. */
+/* Returns whether a pointer may point to this number of items: a null pointer points to none. */
 #define MAY_HAVE(items, number) ((items) != NULL || (number) == 0)
 
 /* The functions of the levels. */
@@ -57,9 +57,9 @@ bool vb_has_level(void)
 #else
 
 /*
- * The level that calls use, 2 or 3; 0 before the first one. Each thread that finds 0 chooses the
- * same, so the order of these writes says nothing. No table names the functions of a level: so a
- * program that is linked with -Wl,--gc-sections has the code of those alone that it calls.
+ * The level that calls use, 2 or 3; 0 before the first call. Each thread that reads 0 chooses the
+ * same level, so the order of their writes doesn't matter. There is no table of a level's
+ * functions, so that -Wl,--gc-sections can remove the functions that a program doesn't call.
  */
 static _Atomic(int) current;
 
@@ -90,7 +90,7 @@ bool vb_has_level(void)
 
 #endif
 
-/* A comparison, where there is that one: a plain form stops the program at another. */
+/* Returns a comparison that exists. A plain form traps if there is none with this number. */
 static inline uint8_t known(uint8_t op)
 {
     if (op > VB_GREATER_OR_EQUAL) {
