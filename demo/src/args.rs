@@ -7,7 +7,7 @@ use crate::error::Error;
 use crate::survey::Kind;
 use crate::table::Format;
 
-/// What `--help` prints.
+/// The text of `--help`.
 pub const HELP: &str = "\
 Answers a query over a CSV file by the calls of vortex_bits, and draws it.
 
@@ -32,16 +32,16 @@ Without --select, --rows and --nth it prints a table of the columns, which rows 
 histogram. An empty field is null. Status 2 is an error.
 ";
 
-/// What is printed on standard output.
+/// The output on standard output.
 #[derive(Clone, Debug, PartialEq, Eq)]
 pub enum Print {
     /// The table of columns, the kept rows as a strip, and a histogram.
     Report,
-    /// Answers, by their list.
+    /// Answers, with the text of their list.
     Answers(String),
     /// All kept rows.
     Rows,
-    /// The kept row that so many come before.
+    /// One selected row, with the number of selected rows before it.
     Nth(u64),
 }
 
@@ -50,13 +50,13 @@ pub enum Print {
 pub struct Options {
     /// The CSV file.
     pub file: PathBuf,
-    /// The condition, as it is written.
+    /// The text of the condition.
     pub condition: Option<String>,
-    /// What is printed.
+    /// The output on standard output.
     pub print: Print,
-    /// The file for kept rows.
+    /// The file for the selected rows.
     pub out: Option<PathBuf>,
-    /// The columns of kept rows, as they are written.
+    /// The text of the list of columns to write.
     pub columns: Option<String>,
     /// The file for the picture.
     pub svg: Option<PathBuf>,
@@ -72,8 +72,9 @@ pub struct Options {
 ///
 /// # Errors
 ///
-/// If there is no file or more than one, and at an option that isn't known, is given twice where it
-/// may be given once, has no value, or has one that it can't have.
+/// Returns [`Error::Usage`] if there is no file or more than one. Returns it for an option that
+/// isn't known, that occurs twice but may occur once, that has no value, or that has one that it
+/// can't have.
 pub fn parse(args: impl IntoIterator<Item = OsString>) -> Result<Option<Options>, Error> {
     let mut options = Options {
         file: PathBuf::new(),
@@ -107,7 +108,8 @@ pub fn parse(args: impl IntoIterator<Item = OsString>) -> Result<Option<Options>
     Ok(Some(options))
 }
 
-/// The file of a name: `-` is standard input, where opening it anew begins at its start.
+/// Returns the path of a file. `-` is standard input, on Linux, where a second `open` starts again
+/// at its beginning.
 fn named(file: PathBuf) -> PathBuf {
     if cfg!(target_os = "linux") && file.as_os_str() == "-" {
         return PathBuf::from("/dev/stdin");
@@ -178,7 +180,7 @@ fn with_value(options: &mut Options, name: &str, value: OsString) -> Result<(), 
     }
 }
 
-/// Sets an option that may be given once.
+/// Sets an option that may occur once.
 fn set_once<T>(option: &mut Option<T>, name: &str, value: T) -> Result<(), Error> {
     if option.is_some() {
         return usage(format!("{name} is given twice"));

@@ -33,7 +33,8 @@ impl Column {
     ///
     /// # Errors
     ///
-    /// If a field isn't of the type, since the file has changed.
+    /// Returns [`Error::Data`] if a field doesn't have the type: the file has changed since the
+    /// survey.
     pub fn read(table: &Table, rows: &Rows, place: usize, kind: Kind) -> Result<Column, Error> {
         let wrong = |row: usize| {
             let field = rows.field(row, place);
@@ -57,7 +58,7 @@ impl Column {
     ///
     /// # Panics
     ///
-    /// If it is one of another type.
+    /// Panics if the column has another type.
     #[must_use]
     pub fn wholes(&self) -> &[i64] {
         match &self.values {
@@ -70,7 +71,7 @@ impl Column {
     ///
     /// # Panics
     ///
-    /// If it is one of another type.
+    /// Panics if the column has another type.
     #[must_use]
     pub fn floats(&self) -> &[f64] {
         match &self.values {
@@ -85,14 +86,14 @@ impl Column {
         Validity::new(self.valid.as_ref().map(Bitmap::bits), self.len)
     }
 
-    /// Returns a bit per row that isn't null; None if no row is.
+    /// Returns a bit per row, true if it isn't null; None if no row is null.
     #[must_use]
     pub fn valid(&self) -> Option<Bitmap> {
         self.valid.clone()
     }
 }
 
-/// The numbers of a column, or the first row that has none.
+/// Returns the numbers of a column. The error is the first row without a number.
 fn numbers<T: Value + Default>(
     rows: &Rows,
     place: usize,

@@ -8,13 +8,13 @@ use std::io::{self, BufRead, Chain, Cursor, Read};
 
 use crate::rows::Rows;
 
-/// The most bytes of one row: a longer one is an error, so that memory stays bounded.
+/// The greatest number of bytes of a row. A longer row is an error, so that memory stays bounded.
 pub const LONGEST_ROW: usize = 16 << 20;
-/// The most fields of one row.
+/// The greatest number of fields of a row.
 pub const MOST_FIELDS: usize = 1 << 20;
 
 const BYTE_ORDER_MARK: &[u8] = &[0xEF, 0xBB, 0xBF];
-/// How files in UTF-16 begin.
+/// The first bytes of files in UTF-16.
 const UTF_16: [&[u8]; 2] = [&[0xFE, 0xFF], &[0xFF, 0xFE]];
 
 /// The bytes that separate and quote fields.
@@ -37,7 +37,7 @@ pub enum CsvError {
         line: u64,
         /// The field of the row, from 0 on.
         field: usize,
-        /// What is wrong there.
+        /// The fault there.
         what: Malformed,
     },
 }
@@ -87,7 +87,7 @@ impl From<io::Error> for CsvError {
     }
 }
 
-/// What ended a field.
+/// The end of a field: the field only, or the row too.
 #[derive(Clone, Copy, PartialEq, Eq)]
 enum End {
     Field,
@@ -103,11 +103,11 @@ pub struct Reader<R> {
 }
 
 impl<R: BufRead> Reader<R> {
-    /// Returns a reader at the first row. A byte-order mark before it is skipped.
+    /// Returns a reader at the first row. Skips a byte-order mark before it.
     ///
     /// # Errors
     ///
-    /// If the input can't be read or begins as UTF-16.
+    /// Returns an error if the input can't be read or begins as UTF-16.
     pub fn new(mut input: R, dialect: Dialect) -> Result<Reader<R>, CsvError> {
         let mut start = Vec::new();
         let length = BYTE_ORDER_MARK.len();
@@ -127,16 +127,17 @@ impl<R: BufRead> Reader<R> {
         })
     }
 
-    /// Returns the number of bytes that have been read.
+    /// Returns the number of bytes that it has read.
     pub fn read(&self) -> u64 {
         self.read
     }
 
-    /// Adds the next row to the end of `rows`; returns whether there was one.
+    /// Appends the next row to `rows`. Returns whether there was one.
     ///
     /// # Errors
     ///
-    /// If the input can't be read or isn't CSV; part of the row may have been added then.
+    /// Returns an error if the input can't be read or isn't CSV. Part of the row may have been
+    /// appended.
     pub fn read_row(&mut self, rows: &mut Rows) -> Result<bool, CsvError> {
         if self.peek()?.is_none() {
             return Ok(false);
@@ -183,7 +184,7 @@ impl<R: BufRead> Reader<R> {
         }
     }
 
-    /// Adds the content of a quoted field, whose opening quote is the next byte.
+    /// Appends the content of a quoted field. Its opening quote is the next byte.
     fn read_quoted(&mut self, rows: &mut Rows, field: usize, start: usize) -> Result<(), CsvError> {
         let opened = self.line;
         loop {
@@ -202,7 +203,7 @@ impl<R: BufRead> Reader<R> {
         }
     }
 
-    /// Adds the bytes before the next quote, as far as they are in the buffer; returns whether
+    /// Appends the bytes before the next quote, as far as they are in the buffer. Returns whether
     /// there may be more.
     fn read_to_quote(&mut self, rows: &mut Rows) -> Result<bool, CsvError> {
         let buffer = self.input.fill_buf()?;
@@ -218,7 +219,7 @@ impl<R: BufRead> Reader<R> {
         Ok(quote.is_none() && taken > 0)
     }
 
-    /// Reads the delimiter or the line end that begins with `byte`, which is next.
+    /// Reads the delimiter or the line end that begins with `byte`, the next byte.
     fn read_end(&mut self, byte: u8, field: usize) -> Result<End, CsvError> {
         self.consume(1);
         if byte == self.dialect.delimiter {
@@ -248,7 +249,7 @@ impl<R: BufRead> Reader<R> {
     }
 }
 
-/// Tests the length of the row that begins at byte `start` of `rows`; an error names this field.
+/// Tests the length of the row that begins at byte `start` of `rows`. An error names the field.
 fn check_length(rows: &Rows, start: usize, line: u64, field: usize) -> Result<(), CsvError> {
     if rows.bytes() - start > LONGEST_ROW {
         return Err(malformed(line, field, Malformed::TooLong));

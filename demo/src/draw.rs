@@ -1,4 +1,4 @@
-//! Pictures: which rows are kept, and how the kept values of a column are spread.
+//! Pictures of the selected rows, and of the distribution of a column's selected values.
 
 mod edges;
 mod histogram;

@@ -1,5 +1,5 @@
-//! The second pass over a file: which rows a condition keeps, batch by batch, and what is made of
-//! them.
+//! The second pass over a file: selects the rows of a condition, batch by batch, and passes them to
+//! outputs.
 
 use vortex_bits::Bitmap;
 
@@ -10,11 +10,11 @@ use crate::rows::Rows;
 use crate::survey::Survey;
 use crate::table::Table;
 
-/// Some rows of the file, with the columns that are used.
+/// Some rows of the file, with the columns that the filter or an output uses.
 pub struct Batch<'a> {
     /// The rows as texts.
     pub rows: &'a Rows,
-    /// How many rows are before these.
+    /// The number of rows before these.
     pub before: u64,
     columns: Vec<Option<Column>>,
 }
@@ -24,7 +24,7 @@ impl Batch<'_> {
     ///
     /// # Panics
     ///
-    /// If none of them said so.
+    /// Panics if neither the filter nor an output uses the column.
     #[must_use]
     pub fn column(&self, place: usize) -> &Column {
         self.columns[place]
@@ -33,18 +33,18 @@ impl Batch<'_> {
     }
 }
 
-/// What is made of the rows that are kept.
+/// An output: a consumer of the selected rows.
 pub trait Output {
-    /// Returns the columns whose values are used.
+    /// Returns the columns whose values it uses.
     fn uses(&self) -> Vec<usize> {
         Vec::new()
     }
 
-    /// Takes the next batch, with a bit per row that is kept.
+    /// Processes the next batch, with a bit per row: true if it is selected.
     ///
     /// # Errors
     ///
-    /// If a file can't be written.
+    /// Returns an error if a file can't be written.
     fn take(&mut self, batch: &Batch<'_>, kept: &Bitmap) -> Result<(), Error>;
 }
 
@@ -52,7 +52,7 @@ pub trait Output {
 ///
 /// # Errors
 ///
-/// If the file can't be read or has changed, or an output fails.
+/// Returns an error if the file can't be read or has changed, or an output fails.
 pub fn run(
     table: &Table,
     survey: &Survey,

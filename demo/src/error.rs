@@ -1,4 +1,4 @@
-//! Errors, and the texts in which the user reads them.
+//! Errors, and their texts for the user.
 
 use std::fmt;
 use std::io;
@@ -7,38 +7,38 @@ use std::path::{Path, PathBuf};
 /// A failure of the program.
 #[derive(Debug)]
 pub enum Error {
-    /// The command line can't be read.
+    /// The command line is wrong.
     Usage(String),
     /// A file can't be opened, read or written.
     File {
         /// The file.
         path: PathBuf,
-        /// What the system says.
+        /// The system's error.
         error: io::Error,
     },
-    /// A line of the file isn't what it has to be.
+    /// A line of the file has a fault.
     Data {
         /// The file.
         path: PathBuf,
         /// The line, from 1 on.
         line: u64,
-        /// What is wrong, and what is wanted.
+        /// The fault, and the expected text.
         wrong: String,
     },
-    /// A text on the command line can't be understood.
+    /// A text on the command line has a fault.
     Query(QueryError),
-    /// The reader of standard output has gone.
+    /// The reader of standard output has closed it.
     Closed,
 }
 
 /// An error at one position of a condition or of a list of answers.
 #[derive(Clone, Debug, PartialEq, Eq)]
 pub struct QueryError {
-    /// The byte of the text where it begins.
+    /// The byte of the text at which the fault begins.
     pub at: usize,
-    /// What is wrong, and what is wanted.
+    /// The fault, and the expected text.
     pub wrong: String,
-    /// The option and its text, once they are known.
+    /// The option and its text, once both are known.
     pub of: Option<(&'static str, String)>,
 }
 
@@ -83,7 +83,7 @@ impl Error {
         }
     }
 
-    /// Returns the error of standard output, which may have lost its reader.
+    /// Returns the error of standard output. Its reader may have closed it.
     #[must_use]
     pub fn output(error: io::Error) -> Error {
         match error.kind() {
@@ -100,7 +100,7 @@ impl From<QueryError> for Error {
 }
 
 impl fmt::Display for QueryError {
-    /// The message, and the line of the text with a caret below the position.
+    /// Writes the message, and the line of the text with a caret below the position.
     fn fmt(&self, f: &mut fmt::Formatter<'_>) -> fmt::Result {
         let Some((option, text)) = &self.of else {
             return f.write_str(&self.wrong);
@@ -128,7 +128,7 @@ impl fmt::Display for Error {
 
 impl std::error::Error for Error {}
 
-/// Returns a character as one that moves no cursor: control characters become their pictures.
+/// Returns a character that moves no cursor: control characters become their pictures.
 #[must_use]
 pub fn visible(character: char) -> char {
     match u32::from(character) {
@@ -139,7 +139,7 @@ pub fn visible(character: char) -> char {
     }
 }
 
-/// Returns the text of bytes as a terminal may show it, cut to `most` characters.
+/// Returns the text of bytes for a terminal, cut to `most` characters.
 #[must_use]
 pub fn shown(bytes: &[u8], most: usize) -> String {
     let text = String::from_utf8_lossy(&bytes[..bytes.len().min(most * 4 + 4)]);

@@ -1,4 +1,4 @@
-//! Rows that are kept, one of them or all.
+//! Selected rows: one of them, or all.
 
 use std::io::{self, Write};
 
@@ -9,10 +9,10 @@ use crate::engine::{Batch, Output};
 use crate::error::Error;
 use crate::rows::write_row;
 
-/// The n-th row that is kept.
+/// The search for the n-th selected row.
 #[derive(Clone, Debug)]
 pub struct Nth {
-    /// How many of those that are kept come before it and aren't read yet.
+    /// The number of selected rows before it that aren't read yet.
     before: u64,
     /// The row, once it is read.
     pub found: Option<Row>,
@@ -30,7 +30,7 @@ pub struct Row {
 }
 
 impl Nth {
-    /// Returns the search for the row that `before` others come before.
+    /// Returns the search for the selected row after `before` others.
     #[must_use]
     pub fn new(before: u64) -> Nth {
         Nth {
@@ -61,7 +61,7 @@ impl Output for Nth {
     }
 }
 
-/// All rows that are kept, some of their columns, written as CSV.
+/// A writer of the selected rows, with some of their columns, as CSV.
 pub struct Writer<'a, W, E> {
     out: W,
     dialect: Dialect,
@@ -70,7 +70,7 @@ pub struct Writer<'a, W, E> {
 }
 
 impl<'a, W: Write, E: Fn(io::Error) -> Error> Writer<'a, W, E> {
-    /// Returns a writer of these columns of rows; `error` makes an error of what the system says.
+    /// Returns a writer of these columns. `error` converts the system's errors.
     pub fn new(out: W, dialect: Dialect, columns: &'a [usize], error: E) -> Writer<'a, W, E> {
         Writer {
             out,
@@ -80,21 +80,21 @@ impl<'a, W: Write, E: Fn(io::Error) -> Error> Writer<'a, W, E> {
         }
     }
 
-    /// Writes one row, of which `field` returns the field of a column.
+    /// Writes one row. `field` returns the field of a column.
     ///
     /// # Errors
     ///
-    /// If the output can't be written.
+    /// Returns an error if the output can't be written.
     pub fn row<'b>(&mut self, field: impl Fn(usize) -> &'b [u8]) -> Result<(), Error> {
         let fields = self.columns.iter().map(|&column| field(column));
         write_row(&mut self.out, self.dialect, fields).map_err(&self.error)
     }
 
-    /// Writes what is left to write.
+    /// Writes the buffered rest.
     ///
     /// # Errors
     ///
-    /// If the output can't be written.
+    /// Returns an error if the output can't be written.
     pub fn finish(&mut self) -> Result<(), Error> {
         self.out.flush().map_err(&self.error)
     }

@@ -8,7 +8,7 @@ use demo::args::{HELP, parse};
 use demo::error::Error;
 use demo::run::{Outcome, run};
 
-/// The status when the row that is looked for isn't there.
+/// The status if the requested row doesn't exist.
 const NO_ROW: u8 = 1;
 /// The status of an error.
 const FAILED: u8 = 2;
@@ -28,7 +28,7 @@ fn main() -> ExitCode {
         Ok(Outcome::Done) | Err(Error::Closed) => ExitCode::SUCCESS,
         Ok(Outcome::NoRow) => ExitCode::from(NO_ROW),
         Err(error) => {
-            // Nobody reads it if standard error is closed.
+            // If standard error is closed, no one reads the line: the error is ignored.
             let _ = writeln!(io::stderr(), "{error}");
             ExitCode::from(FAILED)
         }

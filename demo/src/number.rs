@@ -1,15 +1,15 @@
-//! Fields that are numbers, and the order between whole numbers and floats.
+//! Numbers in fields, and the order between integers and floats.
 
 use std::cmp::Ordering;
 
-/// Returns the whole number that a field is, if it fits 64 bits: digits, with a sign or without.
+/// Returns the integer in a field, if it fits 64 bits: digits, with or without a sign.
 #[must_use]
 pub fn whole(field: &[u8]) -> Option<i64> {
     std::str::from_utf8(field).ok()?.parse().ok()
 }
 
-/// Returns the finite float that is next to the decimal number of a field. Words such as `inf` and
-/// `NaN` are no numbers.
+/// Returns the finite float nearest to the decimal number in a field; None for words such as `inf`
+/// and `NaN`.
 #[must_use]
 pub fn float(field: &[u8]) -> Option<f64> {
     let is_decimal = |byte: &u8| matches!(byte, b'0'..=b'9' | b'.' | b'+' | b'-' | b'e' | b'E');
@@ -20,7 +20,7 @@ pub fn float(field: &[u8]) -> Option<f64> {
     number.is_finite().then_some(number)
 }
 
-/// Returns whether a field is a whole number of any size.
+/// Returns whether a field is an integer of any size.
 #[must_use]
 pub fn is_digits(field: &[u8]) -> bool {
     let digits = field
@@ -30,7 +30,7 @@ pub fn is_digits(field: &[u8]) -> bool {
     !digits.is_empty() && digits.iter().all(u8::is_ascii_digit)
 }
 
-/// Compares a whole number with a finite float exactly, which a conversion to `f64` would not.
+/// Compares an integer with a finite float exactly. A conversion to `f64` would round.
 #[must_use]
 pub fn compare(whole: i64, float: f64) -> Ordering {
     #[allow(

@@ -3,7 +3,7 @@
 use std::io::{self, IsTerminal, Write};
 use std::time::{Duration, Instant};
 
-/// A shorter run reports nothing.
+/// A run shorter than this reports nothing.
 const SHORT: Duration = Duration::from_secs(1);
 
 /// The progress of one pass over a file.
@@ -11,13 +11,13 @@ pub struct Progress {
     doing: &'static str,
     size: u64,
     start: Instant,
-    /// When it was reported last.
+    /// The time of the last report.
     reported: Option<Instant>,
     is_terminal: bool,
 }
 
 impl Progress {
-    /// Returns the progress of a pass over a file of `size` bytes, which begins now.
+    /// Returns the progress of a pass over a file of `size` bytes that begins now.
     #[must_use]
     pub fn new(doing: &'static str, size: u64) -> Progress {
         let is_terminal = io::stderr().is_terminal();
@@ -30,8 +30,8 @@ impl Progress {
         }
     }
 
-    /// Reports how many rows and bytes are read, if a report is due: a terminal has one line that
-    /// changes five times a second, other outputs get a line every five seconds.
+    /// Reports the numbers of rows and bytes that are read, if a report is due. A terminal has one
+    /// line that changes five times a second; other outputs get a line every five seconds.
     pub fn report(&mut self, rows: u64, bytes: u64) {
         let pause = Duration::from_millis(if self.is_terminal { 200 } else { 5000 });
         let is_due = self.reported.is_none_or(|last| last.elapsed() >= pause);
@@ -45,7 +45,7 @@ impl Progress {
         } else {
             ("", "\n")
         };
-        // Nobody reads it if standard error is closed.
+        // If standard error is closed, no one reads the line: the error is ignored.
         let _ = write!(io::stderr(), "{start}{line}{end}");
     }
 }

@@ -1,5 +1,5 @@
-//! Conditions and lists of answers: how they are written, what they mean for a table, and which
-//! rows a condition keeps.
+//! Conditions and lists of answers: their syntax, their meaning for a table, and the rows that a
+//! condition selects.
 
 pub mod condition;
 mod filter;

@@ -1,4 +1,4 @@
-//! What is printed without another option: the columns, which rows are kept, and a histogram.
+//! The output without another option: the columns, the selected rows, and a histogram.
 
 use std::io::{self, Write};
 use std::path::Path;
@@ -11,14 +11,14 @@ use crate::query::Aggregate;
 use crate::summary::Summary;
 use crate::survey::Survey;
 
-/// How many characters of a text a table shows.
+/// The number of characters that a table shows of a text.
 const CELL: usize = 24;
-/// How many characters the longest bar of a histogram has.
+/// The number of characters of the longest bar of a histogram.
 const BAR: usize = 48;
-/// How many cells the strip in a terminal has.
+/// The number of cells of the strip in a terminal.
 pub const STRIP: usize = 72;
 
-/// What a report is about.
+/// The contents of a report.
 pub struct Report<'a> {
     /// The first line.
     pub title: String,
@@ -26,11 +26,11 @@ pub struct Report<'a> {
     pub condition: Option<&'a str>,
     /// The columns.
     pub survey: &'a Survey,
-    /// The number of rows that are kept.
+    /// The number of selected rows.
     pub kept: u64,
-    /// What is answered about each column, in their order.
+    /// The summary of each column, in their order.
     pub summaries: &'a [Summary],
-    /// Which rows are kept.
+    /// The selected rows.
     pub strip: &'a Strip,
     /// The values of a column.
     pub histogram: Option<&'a Histogram>,
@@ -41,7 +41,7 @@ impl Report<'_> {
     ///
     /// # Errors
     ///
-    /// If `out` can't be written.
+    /// Returns an error if `out` can't be written.
     pub fn write(&self, out: &mut impl Write) -> io::Result<()> {
         writeln!(out, "{}", self.title)?;
         if let Some(condition) = self.condition {
@@ -104,7 +104,7 @@ impl Report<'_> {
             self.strip.line(),
             format!("row {}", grouped(self.survey.rows)),
         );
-        // Few rows make a strip that is shorter than its two labels.
+        // With few rows the strip is shorter than its two labels.
         let width = line.chars().count().saturating_sub("row 1".len());
         let width = width.max(" ".len() + last.len());
         writeln!(
@@ -114,7 +114,7 @@ impl Report<'_> {
     }
 }
 
-/// The first two cells to the left, the others to the right.
+/// Aligns the first two cells to the left, and the others to the right.
 fn aligned(row: &[String; 6], widths: [usize; 6]) -> String {
     let cells = row
         .iter()
@@ -130,7 +130,7 @@ fn aligned(row: &[String; 6], widths: [usize; 6]) -> String {
     cells.collect::<Vec<_>>().join("  ").trim_end().to_string()
 }
 
-/// Returns the first line of a report: the file, and what [`counts`] returns.
+/// Returns the first line of a report: the file and the [`counts`].
 #[must_use]
 pub fn title(file: &Path, survey: &Survey, kept: Option<u64>) -> String {
     let file = shown(file.to_string_lossy().as_bytes(), 200);
@@ -145,7 +145,8 @@ pub fn base(file: &Path) -> String {
     shown(base.as_bytes(), 200)
 }
 
-/// Returns how many rows there are, and how many are kept if there is a condition.
+/// Returns the number of rows and columns as text, with the number of selected rows if there is a
+/// condition.
 #[must_use]
 #[allow(
     clippy::cast_precision_loss,
@@ -165,7 +166,7 @@ pub fn counts(survey: &Survey, kept: Option<u64>) -> String {
 ///
 /// # Errors
 ///
-/// If `out` can't be written.
+/// Returns an error if `out` can't be written.
 pub fn write_row(out: &mut impl Write, row: &Row, survey: &Survey) -> io::Result<()> {
     writeln!(
         out,

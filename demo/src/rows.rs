@@ -1,10 +1,10 @@
-//! Rows of text fields, and how they are written as CSV.
+//! Rows of text fields, and their output as CSV.
 
 use std::io::{self, Write};
 
 use crate::csv::Dialect;
 
-/// Rows of a file, as the bytes of their fields one behind the other.
+/// Rows of a file, as the bytes of their fields one after the other.
 #[derive(Debug)]
 pub struct Rows {
     bytes: Vec<u8>,
@@ -16,7 +16,7 @@ pub struct Rows {
 }
 
 impl Rows {
-    /// Returns no rows, which will have `width` fields each.
+    /// Returns an empty list of rows with `width` fields each.
     #[must_use]
     pub fn new(width: usize) -> Rows {
         Rows {
@@ -27,7 +27,7 @@ impl Rows {
         }
     }
 
-    /// Removes all rows; the memory stays.
+    /// Removes all rows. Does not free memory.
     pub fn clear(&mut self) {
         self.bytes.clear();
         self.ends.truncate(1);
@@ -40,7 +40,7 @@ impl Rows {
         self.lines.len()
     }
 
-    /// Returns whether there are none.
+    /// Returns whether there are no rows.
     #[must_use]
     pub fn is_empty(&self) -> bool {
         self.lines.is_empty()
@@ -81,7 +81,7 @@ impl Rows {
         (0..self.width).map(move |column| self.field(row, column))
     }
 
-    /// Returns all fields, one row behind the other.
+    /// Returns all fields, one row after the other.
     pub fn all_fields(&self) -> impl Iterator<Item = &[u8]> {
         (0..self.fields()).map(|field| self.nth_field(field))
     }
@@ -112,11 +112,11 @@ impl Rows {
     }
 }
 
-/// Writes a row of fields and a line feed. Fields are quoted where the dialect needs it.
+/// Writes a row of fields and a line feed. Quotes each field that needs it.
 ///
 /// # Errors
 ///
-/// If `out` can't be written.
+/// Returns an error if `out` can't be written.
 pub fn write_row<'a>(
     out: &mut impl Write,
     dialect: Dialect,
@@ -148,8 +148,8 @@ fn write_field(out: &mut impl Write, dialect: Dialect, field: &[u8]) -> io::Resu
     out.write_all(&[quote])
 }
 
-/// Whether a field is read back as it is only between quotes: a byte-order mark would be skipped
-/// at the beginning of a file.
+/// Returns whether a field needs quotes to be read back unchanged. A byte-order mark would be
+/// skipped at the beginning of a file.
 fn needs_quotes(field: &[u8], delimiter: u8, quote: u8) -> bool {
     field.starts_with("\u{FEFF}".as_bytes())
         || field

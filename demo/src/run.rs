@@ -1,4 +1,4 @@
-//! A run of the program, from its options to what it prints.
+//! A run of the program, from its options to its output.
 
 use std::collections::BTreeSet;
 use std::fs::{self, File};
@@ -21,30 +21,33 @@ use crate::summary::{self, Count, Summary};
 use crate::survey::{Kind, Range, Survey};
 use crate::table::Table;
 
-/// How many cells the strip of a picture has.
+/// The number of cells of the strip in a picture.
 const SVG_STRIP: usize = 340;
 
-/// A histogram of fewer bins is made once more, of the kept values' own range.
+/// If a histogram has fewer bins than this, it is made once more, over the range of the selected
+/// values.
 const FEW_BINS: usize = 4;
 
 /// The error of a histogram of a text column.
 const TEXT_COLUMN: &str = "this column is text; one of numbers is wanted; --type COLUMN=float \
     reads it as numbers, or names the first line where it has none";
 
-/// How a run that didn't fail has ended.
+/// The end of a run that didn't fail.
 #[derive(Clone, Copy, Debug, PartialEq, Eq)]
 pub enum Outcome {
-    /// All was answered.
+    /// The query is answered.
     Done,
-    /// The row that was looked for isn't there.
+    /// The requested row doesn't exist.
     NoRow,
 }
 
-/// Reads the file and prints what the options select. A line on standard error says which code runs.
+/// Reads the file and prints the output that the options select. Prints a line on standard error
+/// that says which code runs.
 ///
 /// # Errors
 ///
-/// If a file can't be read or written, the CSV file is malformed, or the options don't fit it.
+/// Returns an error if a file can't be read or written, the CSV file is malformed, or the options
+/// don't fit it.
 pub fn run(options: &Options) -> Result<Outcome, Error> {
     let query = Query::parse(options)?;
     let table = Table::open(&options.file, options.format)?;
@@ -53,7 +56,7 @@ pub fn run(options: &Options) -> Result<Outcome, Error> {
     let (list, columns) = (query.list(&table)?, query.columns(&table)?);
     let histogram = histogram_column(options, &table)?;
     query.check_names(&table)?;
-    // Nobody reads it if standard error is closed.
+    // If standard error is closed, no one reads the line: the error is ignored.
     let _ = writeln!(io::stderr(), "{}", code());
 
     let survey = Survey::of(&table, &kinds)?;
@@ -74,7 +77,7 @@ pub fn run(options: &Options) -> Result<Outcome, Error> {
     }
 }
 
-/// Returns which code answers.
+/// Returns a text that says which code runs.
 fn code() -> &'static str {
     match Level::current() {
         Level::V2 => "the bit functions are proved ones, for x86-64-v2",
@@ -83,7 +86,7 @@ fn code() -> &'static str {
     }
 }
 
-/// The condition and the lists of answers and columns, as they are written.
+/// The condition and the lists of answers and columns, as syntax trees.
 struct Query<'a> {
     options: &'a Options,
     condition: Option<Condition>,
@@ -115,7 +118,7 @@ impl<'a> Query<'a> {
         })
     }
 
-    /// An error of the condition, with its text.
+    /// Returns an error of the condition, with its text.
     fn wrong(&self, error: QueryError) -> Error {
         error
             .of(
@@ -125,7 +128,7 @@ impl<'a> Query<'a> {
             .into()
     }
 
-    /// Looks for the columns of the condition, before the file is read.
+    /// Tests that the columns of the condition exist, before it reads the file.
     fn check_names(&self, table: &Table) -> Result<(), Error> {
         for name in self.condition.iter().flat_map(Condition::names) {
             let found = table.find(&name.name);
@@ -142,7 +145,7 @@ impl<'a> Query<'a> {
         filter.transpose().map_err(|error| self.wrong(error))
     }
 
-    /// The answers by the indices of their columns.
+    /// Returns the answers with the indices of their columns.
     fn list(&self, table: &Table) -> Result<Vec<Answer<usize>>, Error> {
         let Print::Answers(text) = &self.options.print else {
             return Ok(Vec::new());
@@ -160,7 +163,7 @@ impl<'a> Query<'a> {
         self.answers.iter().map(place).collect()
     }
 
-    /// The indices of the columns that are written: all, if none are named.
+    /// Returns the indices of the columns to write: all, if none are named.
     fn columns(&self, table: &Table) -> Result<Vec<usize>, Error> {
         let (Some(names), Some(text)) = (&self.columns, &self.options.columns) else {
             return Ok((0..table.names().len()).collect());
@@ -191,7 +194,8 @@ fn histogram_column(options: &Options, table: &Table) -> Result<Option<usize>, E
     Ok(Some(place?))
 }
 
-/// Refuses to write over the CSV file while it is read, and two outputs in one file.
+/// Returns an error if an output would overwrite the CSV file while it is read, or if two outputs
+/// are one file.
 fn check_outputs(options: &Options) -> Result<(), Error> {
     let file = identity(&options.file);
     for path in [&options.out, &options.svg].into_iter().flatten() {
@@ -210,7 +214,7 @@ fn check_outputs(options: &Options) -> Result<(), Error> {
     Ok(())
 }
 
-/// What two paths to one file have in common; None if there is no file.
+/// Returns a value that is the same for two paths to one file; None if there is no file.
 #[cfg(unix)]
 fn identity(path: &Path) -> Option<(u64, u64)> {
     use std::os::unix::fs::MetadataExt;
@@ -218,38 +222,39 @@ fn identity(path: &Path) -> Option<(u64, u64)> {
     fs::metadata(path).ok().map(|file| (file.dev(), file.ino()))
 }
 
-/// What two paths to one file have in common, unless it has two names.
+/// Returns a value that is the same for two paths to one file, unless the file has two names; None
+/// if there is no file.
 #[cfg(not(unix))]
 fn identity(path: &Path) -> Option<std::path::PathBuf> {
     fs::canonicalize(path).ok()
 }
 
-/// What a run knows once the file was read for the first time.
+/// The state of a run after the first pass over the file.
 struct Run<'a> {
     options: &'a Options,
     table: &'a Table,
     survey: &'a Survey,
     filter: Option<Filter>,
-    /// The columns that are written of the kept rows.
+    /// The columns to write of the selected rows.
     columns: Vec<usize>,
     /// The column of `--histogram`.
     histogram: Option<usize>,
 }
 
-/// Makes an error of what the system says of a file.
+/// Converts the system's error of a file.
 type Failed<'a> = Box<dyn Fn(io::Error) -> Error + 'a>;
 
 /// The writer of `--out`.
 type FileWriter<'a> = Writer<'a, BufWriter<File>, Failed<'a>>;
 
-/// What every pass answers.
+/// The results of every pass.
 struct Kept {
     rows: u64,
     histogram: Option<Histogram>,
 }
 
 impl Run<'_> {
-    /// Reads the file once for what is printed, and for the files of `--out` and `--svg`.
+    /// Reads the file once for the printed output, and for the files of `--out` and `--svg`.
     fn pass(&self, printed: Vec<&mut dyn Output>) -> Result<Kept, Error> {
         let (mut count, mut strip) = (Count::default(), Strip::new(self.survey.rows, SVG_STRIP));
         let (mut histogram, mut out) = (self.histogram()?, self.out()?);
@@ -278,8 +283,8 @@ impl Run<'_> {
         engine::run(self.table, self.survey, self.filter.as_ref(), outputs)
     }
 
-    /// The histogram of the column of `--histogram`, or of the first one with numbers; None if it
-    /// isn't shown or the column has no number.
+    /// Returns the histogram of the column of `--histogram`, or of the first one with numbers; None
+    /// if no output shows it or the column has no number.
     fn histogram(&self) -> Result<Option<Histogram>, Error> {
         if self.options.print != Print::Report && self.options.svg.is_none() {
             return Ok(None);
@@ -298,8 +303,8 @@ impl Run<'_> {
         Ok(column.and_then(|place| Some(Histogram::new(place, columns[place].range?))))
     }
 
-    /// The histogram of the kept values' own range, for which the file is read once more, if these
-    /// fill few bins of the whole column's range.
+    /// Returns the histogram over the range of the selected values, if these fill only few bins of
+    /// the whole column's range. Reads the file once more for it.
     fn closer(
         &self,
         histogram: Option<Histogram>,
@@ -355,7 +360,7 @@ impl Run<'_> {
         report::title(&self.options.file, self.survey, self.kept(kept))
     }
 
-    /// The number of kept rows, if there is a condition.
+    /// Returns the number of selected rows, if there is a condition.
     fn kept(&self, kept: &Kept) -> Option<u64> {
         self.filter.is_some().then_some(kept.rows)
     }
@@ -414,7 +419,7 @@ impl Run<'_> {
         let kept = self.pass(vec![&mut nth])?;
         let Some(row) = nth.found else {
             let kept = grouped(kept.rows);
-            // Nobody reads it if standard error is closed.
+            // If standard error is closed, no one reads the line: the error is ignored.
             let _ = writeln!(io::stderr(), "there is no such row: {kept} are kept");
             return Ok(Outcome::NoRow);
         };

@@ -1,5 +1,4 @@
-//! What is answered about the rows that are kept: counts, sums, means, the least and the
-//! greatest.
+//! Aggregates of the selected rows: counts, sums, means, the least and the greatest value.
 
 use vortex_bits::{Bitmap, Value, values};
 
@@ -9,7 +8,7 @@ use crate::error::Error;
 use crate::query::{Aggregate, Answer};
 use crate::survey::{Range, Spread};
 
-/// The number of rows that are kept, of each batch in turn.
+/// The number of selected rows, added up batch by batch.
 #[derive(Clone, Copy, Debug, Default)]
 pub struct Count(pub u64);
 
@@ -20,7 +19,7 @@ impl Output for Count {
     }
 }
 
-/// What is answered about one column, of the rows that are kept and not null there.
+/// The aggregates of one column, over the selected values that aren't null.
 #[derive(Clone, Debug)]
 pub struct Summary {
     column: usize,
@@ -30,7 +29,7 @@ pub struct Summary {
     total: Option<Total>,
 }
 
-/// The values of a column, taken together.
+/// The aggregates of values of one type.
 #[derive(Clone, Debug)]
 enum Total {
     /// The sum is exact.
@@ -70,7 +69,7 @@ impl Summary {
         }
     }
 
-    /// Returns one answer as text: empty if there is no value, and for a sum or a mean of texts.
+    /// Returns one answer as text; empty if there is no value, and for a sum or a mean of texts.
     #[must_use]
     pub fn answer(&self, aggregate: Aggregate) -> Vec<u8> {
         let Some(total) = &self.total else {
@@ -90,7 +89,7 @@ impl Summary {
         }
     }
 
-    /// Returns the range of the values; None if there is none, and of texts.
+    /// Returns the range of the values; None if there is no value, or they are texts.
     #[must_use]
     #[allow(clippy::cast_precision_loss, reason = "a mean is rounded")]
     pub fn range(&self) -> Option<Range> {
@@ -187,7 +186,7 @@ impl Total {
         }))
     }
 
-    /// Both as one, which are of the same column.
+    /// Joins the totals of two batches of one column.
     fn joined(self, other: Total) -> Total {
         match (self, other) {
             (Total::Whole(a), Total::Whole(b)) => Total::Whole(a.joined(b, |a, b| a + b)),
@@ -222,7 +221,8 @@ impl Total {
     }
 }
 
-/// A float in the fewest digits from which it is read back, with a point or an exponent.
+/// Returns a float with the fewest digits that read back as the same one, with a point or an
+/// exponent.
 fn text(number: f64) -> String {
     format!("{number:?}")
 }
@@ -242,7 +242,7 @@ fn ends<T: Value + PartialOrd, S>(numbers: &[T], sum: S) -> Option<Values<T, S>>
     })
 }
 
-/// A sum of floats that keeps the digits which each step rounds away (Neumaier's).
+/// A sum of floats that keeps the digits that each step rounds away (Neumaier's algorithm).
 #[derive(Clone, Copy, Debug, Default)]
 pub struct Sum {
     high: f64,
@@ -269,7 +269,7 @@ impl Sum {
         self.plus(other.high).plus(other.low)
     }
 
-    /// Returns the sum, rounded; infinite if it is beyond the range of floats.
+    /// Returns the sum, rounded; infinity if it is beyond the range of floats.
     #[must_use]
     pub fn value(self) -> f64 {
         if self.high.is_finite() {
@@ -280,7 +280,7 @@ impl Sum {
     }
 }
 
-/// The answers of a list, one for each.
+/// Returns the answers of a list, one for each.
 #[must_use]
 pub fn answers(list: &[Answer<usize>], rows: u64, summaries: &[Summary]) -> Vec<Vec<u8>> {
     let of = |column: usize| summaries.iter().find(|it| it.column == column);

@@ -19,7 +19,7 @@ pub enum Kind {
 }
 
 impl Kind {
-    /// Returns the type of a name on the command line.
+    /// Returns the type with this name on the command line.
     #[must_use]
     pub fn named(name: &str) -> Option<Kind> {
         [Kind::Whole, Kind::Float, Kind::Text]
@@ -27,7 +27,7 @@ impl Kind {
             .find(|kind| kind.to_string() == name)
     }
 
-    /// Returns what a field of this type has to be.
+    /// Returns a description of the fields of this type, for an error.
     fn wanted(self) -> &'static str {
         match self {
             Kind::Whole => "a whole number of 64 bits",
@@ -36,7 +36,7 @@ impl Kind {
         }
     }
 
-    /// Returns whether a field that isn't empty is of this type.
+    /// Returns whether a field that isn't empty has this type.
     fn has(self, field: &[u8]) -> bool {
         match self {
             Kind::Whole => number::whole(field).is_some(),
@@ -56,7 +56,7 @@ impl fmt::Display for Kind {
     }
 }
 
-/// The numbers of a column: the least, the greatest, and the mean of all.
+/// The least and the greatest number of a column, and the mean of all.
 #[derive(Clone, Copy, Debug, PartialEq)]
 pub struct Spread<T> {
     /// The least number.
@@ -70,9 +70,9 @@ pub struct Spread<T> {
 /// The spread of a column of numbers.
 #[derive(Clone, Copy, Debug, PartialEq)]
 pub enum Range {
-    /// Of whole numbers.
+    /// The spread of integers.
     Whole(Spread<i64>),
-    /// Of floats.
+    /// The spread of floats.
     Float(Spread<f64>),
 }
 
@@ -83,11 +83,11 @@ pub struct Column {
     pub name: String,
     /// Its type.
     pub kind: Kind,
-    /// The range of its numbers; None of texts, and where all fields are empty.
+    /// The range of its numbers; None for texts, and if all fields are empty.
     pub range: Option<Range>,
 }
 
-/// What the first pass found.
+/// The result of the first pass.
 #[derive(Clone, Debug)]
 pub struct Survey {
     /// The number of rows.
@@ -101,7 +101,8 @@ impl Survey {
     ///
     /// # Errors
     ///
-    /// If the file can't be read, isn't CSV, or a field isn't of the type that the user gave.
+    /// Returns an error if the file can't be read, isn't CSV, or a field doesn't have the type that
+    /// the user gave.
     pub fn of(table: &Table, kinds: &[(usize, Kind)]) -> Result<Survey, Error> {
         let mut seen = vec![Seen::default(); table.names().len()];
         for &(column, kind) in kinds {
@@ -123,22 +124,22 @@ impl Survey {
     ///
     /// # Errors
     ///
-    /// If no column has the name, or several have it.
+    /// Returns a message if no column has the name, or several have it.
     pub fn find(&self, name: &str) -> Result<usize, String> {
         find(self.columns.iter().map(|column| column.name.as_str()), name)
     }
 }
 
-/// What the fields of a column have been so far.
+/// The kinds of fields of a column that the pass has read so far.
 #[derive(Clone, Copy, Debug, Default)]
 struct Seen {
     /// The type that the user gave.
     given: Option<Kind>,
-    /// Whether some field is no number.
+    /// Whether a field isn't a number.
     texts: bool,
-    /// Whether some field is a number that isn't whole.
+    /// Whether a field is a number with a point or an exponent.
     floats: bool,
-    /// Whether some field is a whole number beyond 64 bits.
+    /// Whether a field is an integer beyond 64 bits.
     beyond: bool,
     whole: Option<(i64, i64)>,
     float: Option<(f64, f64)>,
@@ -178,8 +179,8 @@ impl Seen {
         self.numbers += 1;
     }
 
-    /// A column without a number is text, and so is one of whole numbers that don't fit 64 bits:
-    /// floats would lose digits of these.
+    /// Returns the type of the column. A column without a number is text. A column of integers
+    /// beyond 64 bits is text too, because floats would lose digits.
     fn kind(&self) -> Kind {
         let is_text = self.texts || self.numbers == 0 || (self.beyond && !self.floats);
         self.given.unwrap_or(match (is_text, self.floats) {
@@ -235,7 +236,7 @@ fn widened<T: PartialOrd + Copy>(range: Option<(T, T)>, number: T) -> (T, T) {
     (least, if number > greatest { number } else { greatest })
 }
 
-/// The error of a field that isn't of a type.
+/// Returns the error of a field that doesn't have its column's type.
 pub(crate) fn wrong_field(
     table: &Table,
     line: u64,

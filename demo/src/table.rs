@@ -1,4 +1,4 @@
-//! A CSV file as a table: the names of its columns, and its rows by batches.
+//! A CSV file as a table: the names of its columns, and its rows in batches.
 
 use std::fs::{self, File};
 use std::io::{self, BufReader};
@@ -9,26 +9,26 @@ use crate::error::{Error, shown};
 use crate::progress::Progress;
 use crate::rows::Rows;
 
-/// The most rows of a batch.
+/// The greatest number of rows of a batch.
 pub const BATCH: usize = 65_536;
-/// A batch ends with the row that brings it to so many bytes or fields.
+/// A batch ends with the row that brings it to this number of bytes or fields.
 const BATCH_BYTES: usize = 8 << 20;
 const BATCH_FIELDS: usize = 1 << 20;
-/// How much of the file is read at once.
+/// The number of bytes of the file that it reads at once.
 const BUFFER: usize = 256 << 10;
 
-/// How a file is read.
+/// The format of a file.
 #[derive(Clone, Copy, Debug, PartialEq, Eq)]
 pub struct Format {
     /// The bytes that separate and quote fields.
     pub dialect: Dialect,
     /// Whether the first row has the names of the columns.
     pub has_header: bool,
-    /// Whether rows may lack fields at their end, which are null then.
+    /// Whether rows may lack fields at their end. These are null then.
     pub has_short_rows: bool,
 }
 
-/// Commas, double quotes and a header line.
+/// Returns the format with commas, double quotes and a header line.
 impl Default for Format {
     fn default() -> Format {
         Format {
@@ -53,14 +53,15 @@ pub struct Table {
 }
 
 impl Table {
-    /// Returns the table of a file, whose first row has the names of the columns. Without a header
-    /// line, and where a name is empty, they are called c1, c2 and so on. Without a header line,
-    /// and if rows may be short, there is a column for each field of the longest row; the file is
-    /// then read for it.
+    /// Returns the table of a file. Its first row has the names of the columns. Without a header
+    /// line, and if a name is empty, the names are c1, c2 and so on. Without a header line, and if
+    /// rows may be short, there is a column for each field of the longest row; this reads the whole
+    /// file to find it.
     ///
     /// # Errors
     ///
-    /// If the file isn't a regular one, can't be read, is empty, or begins with no row of CSV.
+    /// Returns an error if the file isn't a regular one, can't be read, is empty, or doesn't begin
+    /// with a row of CSV.
     pub fn open(path: &Path, format: Format) -> Result<Table, Error> {
         let file = fs::metadata(path).map_err(|error| Error::file(path, error))?;
         if !file.is_file() {
@@ -94,7 +95,7 @@ impl Table {
         Ok(table)
     }
 
-    /// Reads the file once. Returns the number of fields of the row that has most.
+    /// Reads the file once. Returns the greatest number of fields of a row.
     fn widest(&self) -> Result<usize, Error> {
         let (mut reader, mut rows, mut widest) = (self.reader()?, Rows::new(0), 0);
         while reader
@@ -113,7 +114,7 @@ impl Table {
         &self.path
     }
 
-    /// Returns how the file is read.
+    /// Returns the format of the file.
     #[must_use]
     pub fn format(&self) -> Format {
         self.format
@@ -125,7 +126,7 @@ impl Table {
         &self.names
     }
 
-    /// Returns the fields of the header line as they are; None if the file has none.
+    /// Returns the fields of the header line unchanged; None if the file has none.
     #[must_use]
     pub fn header(&self) -> Option<&[Vec<u8>]> {
         self.format.has_header.then_some(&self.first)
@@ -135,16 +136,16 @@ impl Table {
     ///
     /// # Errors
     ///
-    /// If no column has the name, or several have it.
+    /// Returns a message if no column has the name, or several have it.
     pub fn find(&self, name: &str) -> Result<usize, String> {
         find(self.names.iter().map(String::as_str), name)
     }
 
-    /// Returns the rows of the file, read anew.
+    /// Returns the rows of the file in batches, in a new pass from its beginning.
     ///
     /// # Errors
     ///
-    /// If the file can't be read.
+    /// Returns an error if the file can't be read.
     pub fn batches(&self, doing: &'static str) -> Result<Batches<'_>, Error> {
         let mut reader = self.reader()?;
         if self.format.has_header {
@@ -177,7 +178,7 @@ impl Table {
         }
     }
 
-    /// Returns how an error names the column of a field.
+    /// Returns the name of a field's column for an error.
     #[must_use]
     pub fn column_of(&self, field: usize) -> String {
         match self.names.get(field) {
@@ -187,7 +188,7 @@ impl Table {
     }
 }
 
-/// The rows of a file by batches, of which one is in memory at a time.
+/// The rows of a file in batches. One batch is in memory at a time.
 pub struct Batches<'a> {
     table: &'a Table,
     reader: Reader<BufReader<File>>,
@@ -198,13 +199,13 @@ pub struct Batches<'a> {
 }
 
 impl Batches<'_> {
-    /// Returns the next batch; None at the end of the file. A line without a byte is skipped, but
-    /// for a table of one column, where it is a null.
+    /// Returns the next batch; None at the end of the file. Skips empty lines, except in a table of
+    /// one column, where they are nulls.
     ///
     /// # Errors
     ///
-    /// If the file can't be read, isn't CSV, or a row has another number of fields than the first
-    /// one.
+    /// Returns an error if the file can't be read, isn't CSV, or a row has another number of fields
+    /// than the first one.
     pub fn next_batch(&mut self) -> Result<Option<&Rows>, Error> {
         self.rows.clear();
         while !self.is_full() && self.next_row()? {}
@@ -250,7 +251,7 @@ impl Batches<'_> {
     }
 }
 
-/// The names of `width` columns, by the fields of the first row.
+/// Returns the names of `width` columns, from the fields of the first row.
 fn names(first: &[Vec<u8>], width: usize, has_header: bool) -> Vec<String> {
     let name = |place: usize| match first.get(place) {
         Some(field) if has_header && !field.is_empty() => {
@@ -261,12 +262,12 @@ fn names(first: &[Vec<u8>], width: usize, has_header: bool) -> Vec<String> {
     (0..width).map(name).collect()
 }
 
-/// Returns the index of a name. Names are compared as they are; if none is equal, without regard to
-/// the case of ASCII letters, as in SQL.
+/// Returns the index of a name. It first compares names exactly. If none is equal, it ignores the
+/// case of ASCII letters, as SQL does.
 ///
 /// # Errors
 ///
-/// If no column has the name, or several have it; the text says which columns there are.
+/// Returns a message if no column has the name, or several have it. The message lists the columns.
 pub fn find<'a>(names: impl Iterator<Item = &'a str> + Clone, name: &str) -> Result<usize, String> {
     let exact = places(names.clone(), |it| it == name);
     let found = if exact.is_empty() {
@@ -300,7 +301,7 @@ fn places<'a>(names: impl Iterator<Item = &'a str>, is: impl Fn(&str) -> bool) -
         .collect()
 }
 
-/// Returns names as an error lists them, the first of many.
+/// Returns names as a list in an error, at most the first 12.
 fn listed<'a>(names: impl Iterator<Item = &'a str>) -> String {
     let mut list: Vec<String> = names.take(13).map(|it| shown(it.as_bytes(), 40)).collect();
     if list.len() > 12 {
@@ -313,7 +314,7 @@ fn listed<'a>(names: impl Iterator<Item = &'a str>) -> String {
 mod tests {
     use super::*;
 
-    /// The number of rows, fields and bytes of each batch of a file.
+    /// Returns the number of rows, fields and bytes of each batch of a file.
     fn batches(name: &str, text: &str) -> Vec<(usize, usize, usize)> {
         let path = std::env::temp_dir().join(format!("demo_{name}_{}", std::process::id()));
         fs::write(&path, text).unwrap();

@@ -1,5 +1,5 @@
-//! The reader on known texts, on random texts compared with a plain reader, and on what the writer
-//! writes.
+//! Tests the reader on known texts, on random texts against a plain reader, and on the output of
+//! the writer.
 
 use std::io::BufReader;
 
@@ -12,10 +12,10 @@ const COMMAS: Dialect = Dialect {
 };
 
 type Row = Vec<Vec<u8>>;
-/// The rows before an error, and the error by its line, its field and its kind.
+/// The rows before an error, and the error: its line, its field and its kind.
 type Read = (Vec<Row>, Option<(u64, usize, Malformed)>);
 
-/// Reads a text through a buffer of so many bytes.
+/// Reads a text through a buffer of `buffer` bytes.
 fn read(text: &[u8], dialect: Dialect, buffer: usize) -> Read {
     let mut read = Vec::new();
     let mut reader = match Reader::new(BufReader::with_capacity(buffer, text), dialect) {
@@ -118,7 +118,7 @@ fn rows_are_bounded() {
         read(&fields, COMMAS, 1 << 16).1,
         Some((1, MOST_FIELDS, Malformed::TooLong))
     );
-    // A quote that is never closed is named by the line that opens it.
+    // The error of an unclosed quote names the line that opens it.
     let open = [&b"a\n\""[..], &vec![b'\n'; LONGEST_ROW + 1][..]].concat();
     assert_eq!(
         read(&open, COMMAS, 4096).1,
@@ -139,17 +139,17 @@ fn other_dialects() {
     );
 }
 
-/// What the next byte is part of.
+/// The kind of text that the next byte belongs to.
 #[derive(Clone, Copy, PartialEq)]
 enum State {
     Start,
     Plain,
     Quoted,
-    /// A quote within a quoted field came last.
+    /// After a quote within a quoted field.
     AfterQuote,
 }
 
-/// The rows of a whole text, a byte at a time.
+/// A plain reader: the rows of a whole text, read a byte at a time.
 struct Plain {
     rows: Vec<Row>,
     row: Row,
@@ -171,7 +171,7 @@ impl Plain {
         self.line += 1;
     }
 
-    /// Takes a byte; returns what is wrong with it.
+    /// Processes a byte. Returns its fault; None if there is none.
     fn take(&mut self, byte: u8, next: Option<u8>) -> Option<Malformed> {
         match (self.state, byte) {
             (State::Quoted, b'"') => self.state = State::AfterQuote,
@@ -226,7 +226,7 @@ fn plain(text: &[u8]) -> Read {
     (plain.rows, None)
 }
 
-/// Numbers that look random.
+/// Pseudo-random numbers.
 struct Random(u64);
 
 impl Random {

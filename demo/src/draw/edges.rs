@@ -1,24 +1,24 @@
-//! Where the bins of a histogram begin: at 1, 2 or 5 times a power of ten.
+//! The edges of a histogram's bins: 1, 2 or 5 times a power of ten.
 
 use crate::survey::{Range, Spread};
 
-/// The most bins of equal width, about.
+/// The approximate greatest number of bins of equal width.
 const BINS: f64 = 16.0;
-/// Bins grow with the numbers if the greatest is so many times the least.
+/// Bins grow with the numbers if the greatest number is at least this many times the least.
 const DECADES: f64 = 1000.0;
 
-/// The number at which each bin begins, from the least on. The last bin has no end.
+/// The number at which each bin begins, in ascending order. The last bin has no end.
 #[derive(Clone, Debug, PartialEq)]
 pub enum Edges {
-    /// Of whole numbers.
+    /// The edges of integers.
     Whole(Vec<i64>),
-    /// Of floats.
+    /// The edges of floats.
     Float(Vec<f64>),
 }
 
 impl Edges {
-    /// Returns the edges for numbers of a range: of bins of equal width, or of bins that grow with
-    /// the numbers if most of these would be in the first bin.
+    /// Returns the edges for numbers of a range. The bins have equal width, unless most numbers
+    /// would be in the first of them: then they grow with the numbers.
     #[must_use]
     pub fn new(range: Range) -> Edges {
         match range {
@@ -53,7 +53,7 @@ fn label(edge: f64) -> String {
     }
 }
 
-/// A power of ten, times 1, 2 or 5.
+/// A step: 1, 2 or 5 times a power of ten.
 #[derive(Clone, Copy, Debug, PartialEq)]
 struct Step {
     digit: i128,
@@ -61,7 +61,7 @@ struct Step {
 }
 
 impl Step {
-    /// The least step that is at least `width`.
+    /// Returns the least step that is at least `width`.
     fn above(width: f64) -> Step {
         #[allow(
             clippy::cast_possible_truncation,
@@ -73,25 +73,25 @@ impl Step {
         found.or(all.last()).unwrap_or(Step { digit: 1, exponent })
     }
 
-    /// The steps of a power of ten.
+    /// Returns the steps of a power of ten.
     fn of(exponent: i32) -> [Step; 3] {
         [1, 2, 5].map(|digit| Step { digit, exponent })
     }
 
-    /// The float next to a multiple of the step.
+    /// Returns the float nearest to a multiple of the step.
     fn times(self, number: i128) -> f64 {
         let text = format!("{}e{}", self.digit * number, self.exponent);
         text.parse().unwrap_or(f64::NAN)
     }
 
-    /// The step as a whole number, if it is one of 64 bits.
+    /// Returns the step as an integer of 64 bits; None if it isn't one.
     fn whole(self) -> Option<i64> {
         let power = 10i64.checked_pow(u32::try_from(self.exponent).ok()?)?;
         power.checked_mul(i64::try_from(self.digit).ok()?)
     }
 }
 
-/// Whether most numbers of a range are in the first of many bins of equal width.
+/// Returns whether most numbers of a range are in the first of many bins of equal width.
 fn is_skewed(least: f64, greatest: f64, mean: f64) -> bool {
     let start = if least == 0.0 { 1.0 } else { least };
     least >= 0.0 && greatest / start >= DECADES && mean - least < (greatest - least) / BINS
@@ -148,7 +148,8 @@ fn floats(
         .collect()
 }
 
-/// The edges from the last one at or below `least` on, up to `greatest`; of very many some.
+/// Returns the edges from the last one at or below `least` up to `greatest`. If there are too many,
+/// it returns every n-th one.
 fn between<T: PartialOrd + Copy>(all: &[T], least: T, greatest: T) -> Vec<T> {
     let first = all.iter().rposition(|edge| *edge <= least).unwrap_or(0);
     let within: Vec<T> = all[first..]

@@ -1,4 +1,4 @@
-//! How the values of a column are spread.
+//! The distribution of a column's values.
 
 use vortex_bits::{Bitmap, Compare, Comparison, values};
 
@@ -8,17 +8,17 @@ use crate::engine::{Batch, Output};
 use crate::error::Error;
 use crate::survey::Range;
 
-/// How many values of a column are in each bin, of the rows that are kept.
+/// The number of values of a column in each bin, in the selected rows.
 #[derive(Clone, Debug)]
 pub struct Histogram {
     column: usize,
     edges: Edges,
-    /// How many values are at each edge or above; of the first edge, all.
+    /// The number of values at or above each edge; for the first edge, all values.
     above: Vec<u64>,
 }
 
 impl Histogram {
-    /// Returns the histogram of a column whose numbers are in a range, of no value yet.
+    /// Returns the histogram of a column whose numbers are in a range, without a value yet.
     #[must_use]
     pub fn new(column: usize, range: Range) -> Histogram {
         let edges = Edges::new(range);
@@ -35,8 +35,8 @@ impl Histogram {
         self.column
     }
 
-    /// Returns where each bin begins, and how many values are in it: from the first bin that has
-    /// some to the last one.
+    /// Returns the edge of each bin with its number of values, from the first bin with a value to
+    /// the last one.
     #[must_use]
     pub fn bins(&self) -> Vec<(String, u64)> {
         let next = self.above.iter().skip(1).chain(&[0]);
@@ -52,7 +52,7 @@ impl Histogram {
         bins.split_off(first.unwrap_or(0))
     }
 
-    /// Returns the bins as lines with bars, of which the longest has `width` characters.
+    /// Returns the bins as lines with bars. The longest bar has `width` characters.
     #[must_use]
     pub fn lines(&self, width: usize) -> Vec<String> {
         let bins = self.bins();
@@ -67,7 +67,7 @@ impl Histogram {
     }
 }
 
-/// A bar in eighths of a character: at least one of them for a bin with a value.
+/// Returns a bar in eighths of a character. A bin with a value has at least one eighth.
 fn bar(count: u64, most: u64, width: usize) -> String {
     const PARTS: [&str; 8] = ["", "▏", "▎", "▍", "▌", "▋", "▊", "▉"];
     let eighths = u128::from(count) * width as u128 * 8;
@@ -97,7 +97,7 @@ impl Output for Histogram {
     }
 }
 
-/// Adds how many numbers of a mask are at each edge or above; to the first one, all.
+/// Adds the number of the mask's values at or above each edge; to the first one, all of them.
 fn add_above<T: Compare>(numbers: &[T], edges: &[T], mask: &Bitmap, above: &mut [u64]) {
     if let Some(all) = above.first_mut() {
         *all += mask.count_ones() as u64;

@@ -1,20 +1,20 @@
-//! Which rows are kept, as a strip of cells.
+//! The selected rows, as a strip of cells.
 
 use vortex_bits::Bitmap;
 
 use crate::engine::{Batch, Output};
 use crate::error::Error;
 
-/// All rows of a file from left to right, as cells of about the same number of rows.
+/// All rows of a file from left to right, as cells with about the same number of rows.
 #[derive(Clone, Debug)]
 pub struct Strip {
     rows: u64,
-    /// How many rows of each cell are kept.
+    /// The number of selected rows in each cell.
     kept: Vec<u64>,
 }
 
 impl Strip {
-    /// Returns the strip of `rows` rows in at most `cells` cells, of which none is kept yet.
+    /// Returns a strip of `rows` rows in at most `cells` cells, without a selected row yet.
     #[must_use]
     pub fn new(rows: u64, cells: usize) -> Strip {
         let cells = usize::try_from(rows).unwrap_or(cells).min(cells);
@@ -24,13 +24,13 @@ impl Strip {
         }
     }
 
-    /// Returns the first row of a cell, also of the one behind the last.
+    /// Returns the first row of a cell, or of the one after the last.
     fn start(&self, cell: usize) -> u64 {
         let start = u128::from(self.rows) * cell as u128 / (self.kept.len() as u128).max(1);
         u64::try_from(start).unwrap_or(u64::MAX)
     }
 
-    /// Returns the share of kept rows in each cell, from 0 to 1.
+    /// Returns the share of selected rows in each cell, from 0 to 1.
     #[allow(
         clippy::cast_precision_loss,
         reason = "a shade needs no more than two digits"
@@ -40,14 +40,14 @@ impl Strip {
         cells.map(|(cell, &kept)| kept as f64 / (self.start(cell + 1) - self.start(cell)) as f64)
     }
 
-    /// Returns the strip as a line of characters: the darker, the more rows are kept.
+    /// Returns the strip as a line of characters: a darker one has more selected rows.
     #[must_use]
     pub fn line(&self) -> String {
         self.shares().map(shade).collect()
     }
 }
 
-/// A dot where no row is kept, a full block where all are.
+/// Returns a dot if no row is selected, and a full block if all are.
 fn shade(share: f64) -> char {
     match share {
         0.0 => '·',

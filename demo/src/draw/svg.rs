@@ -1,4 +1,4 @@
-//! A picture as SVG: the strip of rows that are kept, and the histogram of their values.
+//! A picture as SVG: the strip of the selected rows, and the histogram of their values.
 
 use std::fmt::{self, Write};
 
@@ -8,7 +8,7 @@ use crate::progress::grouped;
 
 const WIDTH: f64 = 760.0;
 const MARGIN: f64 = 40.0;
-/// The strip begins and ends at a whole unit, and so do its cells.
+/// The strip and its cells begin and end at whole units.
 const STRIP_LEFT: usize = 40;
 const STRIP_WIDTH: usize = 680;
 const STRIP_TOP: f64 = 80.0;
@@ -16,17 +16,18 @@ const STRIP_HEIGHT: f64 = 36.0;
 const CHART_TOP: f64 = 176.0;
 const CHART_HEIGHT: f64 = 200.0;
 const CHART_LEFT: f64 = MARGIN + 40.0;
-/// About how wide a character of an axis is.
+/// The approximate width of a character of an axis.
 const CHARACTER: f64 = 6.5;
-/// How many characters of the file's name, of the condition and of a column's name are shown.
+/// The number of characters that are shown of the file's name, of the condition and of a column's
+/// name.
 const FILE: usize = 60;
 const CONDITION: usize = 90;
 const NAME: usize = 30;
 
-/// What a picture shows.
+/// The contents of a picture.
 #[derive(Clone, Debug)]
 pub struct Picture<'a> {
-    /// The title, which a viewer may show beside the picture.
+    /// The title, which a viewer may show next to the picture.
     pub title: String,
     /// The first line.
     pub file: String,
@@ -34,11 +35,11 @@ pub struct Picture<'a> {
     pub counts: String,
     /// The third line, if there is a condition.
     pub condition: Option<&'a str>,
-    /// Which rows are kept.
+    /// The selected rows.
     pub strip: &'a Strip,
     /// The number of rows.
     pub rows: u64,
-    /// The name of a column, and where each bin of its values begins, with their number.
+    /// The name of a column, and the edge of each bin of its values with their number.
     pub histogram: Option<(String, Vec<(String, u64)>)>,
 }
 
@@ -81,8 +82,8 @@ fn draw(out: &mut String, picture: &Picture<'_>) -> fmt::Result {
     writeln!(out, "</svg>")
 }
 
-/// The strip of rows. Its cells begin at whole units and aren't blurred, since a gap would show
-/// between blurred ones.
+/// Draws the strip of rows. Its cells begin at whole units and aren't blurred: blurred cells would
+/// show a gap between them.
 fn strip(out: &mut String, picture: &Picture<'_>) -> fmt::Result {
     let shares: Vec<f64> = picture.strip.shares().collect();
     writeln!(
@@ -104,7 +105,7 @@ fn strip(out: &mut String, picture: &Picture<'_>) -> fmt::Result {
     legend(out, picture)
 }
 
-/// What is below the strip.
+/// Draws the text below the strip.
 fn legend(out: &mut String, picture: &Picture<'_>) -> fmt::Result {
     let below = STRIP_TOP + STRIP_HEIGHT + 16.0;
     let last = format!("row {}", grouped(picture.rows));
@@ -141,7 +142,7 @@ fn chart(out: &mut String, name: &str, bins: &[(String, u64)], is_part: bool) ->
     text(out, (WIDTH / 2.0, bottom + 38.0), "middle", "", &caption)
 }
 
-/// The bars, with their edges below as far as there is space for these.
+/// Draws the bars, with as many of their edges below as fit.
 #[allow(
     clippy::cast_precision_loss,
     reason = "a height needs no more than four digits"
@@ -176,7 +177,7 @@ fn text(out: &mut String, (x, y): (f64, f64), anchor: &str, more: &str, text: &s
     )
 }
 
-/// The beginning of a text that is about as wide as `most` letters; the last character of a longer
+/// Returns the beginning of a text, about as wide as `most` letters. The last character of a longer
 /// text becomes dots. Characters of East Asia are as wide as two letters.
 fn fitted(text: &str, most: usize) -> String {
     let (mut fitted, mut left) = (String::new(), most);
@@ -193,7 +194,7 @@ fn fitted(text: &str, most: usize) -> String {
     fitted
 }
 
-/// A text between tags. Characters that XML can't have become others.
+/// Returns a text for use between tags. Replaces characters that XML can't have.
 fn escaped(text: &str) -> String {
     let mut escaped = String::with_capacity(text.len());
     for character in text.chars() {

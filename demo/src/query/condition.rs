@@ -1,4 +1,4 @@
-//! A condition as it is written.
+//! The syntax tree of a condition.
 
 use std::fmt;
 
@@ -7,15 +7,15 @@ use vortex_bits::Comparison;
 /// A condition.
 #[derive(Clone, Debug, PartialEq)]
 pub enum Condition {
-    /// Two operands that compare so.
+    /// A comparison of two operands.
     Compare(Operand, Comparison, Operand),
-    /// A column that is null.
+    /// True if a column is null.
     IsNull(Name),
-    /// What isn't so.
+    /// The negation of a condition.
     Not(Box<Condition>),
-    /// All of these.
+    /// True if all conditions are.
     And(Vec<Condition>),
-    /// One of these, or more.
+    /// True if at least one condition is.
     Or(Vec<Condition>),
 }
 
@@ -33,7 +33,7 @@ pub enum Operand {
 pub struct Name {
     /// The name without its quotes.
     pub name: String,
-    /// The byte of the text where it begins.
+    /// The byte of the text at which it begins.
     pub at: usize,
 }
 
@@ -49,7 +49,7 @@ pub enum Literal {
 }
 
 impl Condition {
-    /// Returns the names of columns, in their order.
+    /// Returns the names of columns, in their order in the text.
     #[must_use]
     pub fn names(&self) -> Vec<&Name> {
         match self {
@@ -113,7 +113,7 @@ impl fmt::Display for Operand {
     }
 }
 
-/// The condition in SQL, with each part in parentheses.
+/// Writes the condition in SQL, with each part in parentheses.
 impl fmt::Display for Condition {
     fn fmt(&self, f: &mut fmt::Formatter<'_>) -> fmt::Result {
         match self {

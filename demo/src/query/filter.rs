@@ -1,4 +1,4 @@
-//! A condition on the columns of a table, and the rows that it keeps.
+//! A condition on the columns of a table, and the rows that it selects.
 
 use vortex_bits::{Bitmap, Comparison, values};
 
@@ -11,35 +11,35 @@ use crate::error::QueryError;
 use crate::number;
 use crate::survey::{Kind, Survey};
 
-/// A condition whose columns are known by their indices.
+/// A condition with the indices of its columns.
 #[derive(Clone, Debug, PartialEq)]
 pub enum Filter {
-    /// A column of whole numbers and a number.
+    /// A comparison of a column of integers with a number.
     Whole(usize, Comparison, i64),
-    /// A column of floats and a number.
+    /// A comparison of a column of floats with a number.
     Float(usize, Comparison, f64),
-    /// A column of texts and a text.
+    /// A comparison of a column of texts with a text.
     Text(usize, Comparison, String),
-    /// Two columns, both of numbers or both of texts.
+    /// A comparison of two columns, both of numbers or both of texts.
     Columns(usize, Comparison, usize),
-    /// A truth value where a column isn't null.
+    /// The same truth value for each row in which a column isn't null.
     Always(usize, bool),
-    /// A column that is null.
+    /// True if a column is null.
     IsNull(usize),
-    /// What isn't so.
+    /// The negation of a condition.
     Not(Box<Filter>),
-    /// All of these.
+    /// True if all conditions are.
     And(Vec<Filter>),
-    /// One of these, or more.
+    /// True if at least one condition is.
     Or(Vec<Filter>),
 }
 
 impl Filter {
-    /// Returns what a condition means for the columns of a table.
+    /// Returns the meaning of a condition for the columns of a table.
     ///
     /// # Errors
     ///
-    /// At a name that isn't a column's, and where a comparison's sides are of types that don't
+    /// Returns an error at a name that no column has, and at a comparison of types that don't
     /// compare.
     pub fn new(condition: &Condition, survey: &Survey) -> Result<Filter, QueryError> {
         let all = |parts: &[Condition]| -> Result<Vec<Filter>, QueryError> {
@@ -69,8 +69,8 @@ impl Filter {
         }
     }
 
-    /// Returns which rows the condition keeps: those for which it is true, and neither false nor
-    /// null.
+    /// Returns the rows that the condition selects: those for which it is true, and neither false
+    /// nor null.
     #[must_use]
     pub fn kept(&self, batch: &Batch<'_>) -> Bitmap {
         self.truth(batch).kept()
@@ -96,7 +96,8 @@ impl Filter {
         }
     }
 
-    /// Which rows of a column compare so with a number or a text, whatever a null has there.
+    /// Returns which rows of a column compare in this way with a number or a text. The bits of
+    /// nulls are arbitrary.
     fn compared(&self, batch: &Batch<'_>) -> Bitmap {
         let rows = batch.rows;
         match self {
@@ -115,14 +116,14 @@ impl Filter {
     }
 }
 
-/// The conditions joined one by one.
+/// Joins the truth values of the conditions one by one.
 fn folded(parts: &[Filter], batch: &Batch<'_>, join: fn(Truth, &Truth) -> Truth) -> Truth {
     let truths = parts.iter().map(|part| part.truth(batch));
     let joined = truths.reduce(|left, right| join(left, &right));
     joined.expect("a condition has parts")
 }
 
-/// A bit per row, by a test of the row.
+/// Returns a bit per row: the result of the test.
 fn each(rows: usize, mut test: impl FnMut(usize) -> bool) -> Bitmap {
     Bitmap::make(rows, |mut out| out.fill_with(&mut test))
 }

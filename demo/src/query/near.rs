@@ -1,4 +1,4 @@
-//! A number of one type among the values of another, compared exactly.
+//! Exact comparisons of a number of one type with values of another.
 
 use std::cmp::Ordering;
 
@@ -6,28 +6,28 @@ use vortex_bits::Comparison;
 
 use crate::number;
 
-/// Where a number is among the values of type `T`.
+/// The position of a number among the values of type `T`.
 #[derive(Clone, Copy, Debug, PartialEq)]
 pub enum Near<T> {
-    /// It is one of them.
+    /// The number is this value.
     At(T),
-    /// It is above this one, and below the next one.
+    /// The number is above this value, and below the next one.
     Above(T),
-    /// It is below this one, and above the one before.
+    /// The number is below this value, and above the one before.
     Below(T),
 }
 
-/// What a comparison with a number is among values of another type.
+/// The meaning of a comparison with a number, for values of another type.
 #[derive(Clone, Copy, Debug, PartialEq)]
 pub enum Meaning<T> {
-    /// A comparison with one of them.
+    /// A comparison with a value of their type.
     Compare(Comparison, T),
     /// The same truth value for each.
     Always(bool),
 }
 
 impl Near<i64> {
-    /// Returns where a finite float is among whole numbers.
+    /// Returns the position of a finite float among the integers of 64 bits.
     #[must_use]
     pub fn float(float: f64) -> Near<i64> {
         #[allow(
@@ -44,7 +44,7 @@ impl Near<i64> {
 }
 
 impl Near<f64> {
-    /// Returns where a whole number is among floats.
+    /// Returns the position of an integer among floats.
     #[must_use]
     pub fn whole(whole: i64) -> Near<f64> {
         #[allow(clippy::cast_precision_loss, reason = "the nearest float is compared")]
@@ -58,7 +58,7 @@ impl Near<f64> {
 }
 
 impl<T> Near<T> {
-    /// Returns what a comparison of values with this number means among values of their type.
+    /// Returns the meaning of a comparison with this number, for values of their type.
     #[must_use]
     pub fn meaning(self, op: Comparison) -> Meaning<T> {
         use Comparison::{Equal, Greater, GreaterOrEqual, Less, LessOrEqual, NotEqual};
@@ -106,7 +106,8 @@ mod tests {
         assert_eq!(Near::whole(9_007_199_254_740_995), Near::Below(big + 4.0));
     }
 
-    /// Each comparison of a few values with a number between two of them, or equal to one.
+    /// Tests each comparison of a few values with a number that is between two of them, or equal to
+    /// one.
     #[test]
     fn meanings() {
         type Wanted = fn(i64, f64) -> bool;

@@ -1,4 +1,4 @@
-//! Conditions and lists of answers, read from their words.
+//! Parses conditions and lists of answers from their words.
 
 use vortex_bits::Comparison;
 
@@ -10,17 +10,17 @@ use super::select::{Aggregate, Answer};
 use super::token::{Token, Word, tokens};
 use crate::error::QueryError;
 
-/// How deep parentheses and `not` may be nested.
+/// The greatest depth of nested parentheses and `not`.
 const DEEPEST: usize = 200;
 
-/// Words that are no column names unless they are quoted.
+/// Words that name no column unless they are quoted.
 const KEYWORDS: [&str; 5] = ["and", "or", "not", "is", "null"];
 
 /// Returns the condition of a text.
 ///
 /// # Errors
 ///
-/// At the first word that isn't wanted where it is.
+/// Returns an error at the first unexpected word.
 pub fn condition(text: &str) -> Result<Condition, QueryError> {
     let mut parser = Parser::new(text)?;
     let condition = parser.any()?;
@@ -32,7 +32,7 @@ pub fn condition(text: &str) -> Result<Condition, QueryError> {
 ///
 /// # Errors
 ///
-/// At the first word that isn't wanted where it is.
+/// Returns an error at the first unexpected word.
 pub fn selection(text: &str) -> Result<Vec<Answer<Name>>, QueryError> {
     let mut parser = Parser::new(text)?;
     let mut answers = vec![parser.answer()?];
@@ -47,7 +47,7 @@ pub fn selection(text: &str) -> Result<Vec<Answer<Name>>, QueryError> {
 ///
 /// # Errors
 ///
-/// At the first word that isn't wanted where it is.
+/// Returns an error at the first unexpected word.
 pub fn column_names(text: &str) -> Result<Vec<Name>, QueryError> {
     let mut parser = Parser::new(text)?;
     let mut names = vec![parser.name("a column")?];
@@ -155,7 +155,7 @@ impl Parser {
         Ok(one)
     }
 
-    /// A comparison, or a test for null.
+    /// Parses a comparison, or a test for null.
     fn test(&mut self) -> Result<Condition, QueryError> {
         let left = self.operand("a condition")?;
         match (self.next().word.clone(), left) {
@@ -193,7 +193,8 @@ impl Parser {
         })
     }
 
-    /// A list of operands, one of which a column equals; none of them after `not`.
+    /// Parses a list of operands after `in`. The column equals one of them; after `not` it equals
+    /// none.
     fn list(&mut self, name: &Name) -> Result<Condition, QueryError> {
         let negated = self.keyword("not");
         if !self.keyword("in") {
@@ -278,7 +279,7 @@ impl Parser {
     }
 }
 
-/// The only part, or all of several.
+/// Returns the only part. The error has all parts if there are several.
 fn only(mut parts: Vec<Condition>) -> Result<Condition, Vec<Condition>> {
     match parts.len() {
         1 => parts.pop().ok_or(parts),

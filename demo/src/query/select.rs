@@ -1,4 +1,4 @@
-//! Answers about the rows that are kept.
+//! Answers about the selected rows.
 
 use std::fmt;
 
@@ -14,7 +14,7 @@ pub enum Answer<C> {
 }
 
 impl Answer<usize> {
-    /// Returns the index of the column that the answer is about.
+    /// Returns the index of the answer's column.
     #[must_use]
     pub fn column(&self) -> Option<usize> {
         match self {
@@ -24,7 +24,7 @@ impl Answer<usize> {
     }
 }
 
-/// What is answered about a column, of the rows where it isn't null.
+/// An aggregate of the selected values of a column that aren't null.
 #[derive(Clone, Copy, Debug, PartialEq, Eq)]
 pub enum Aggregate {
     /// The number of values.
@@ -48,7 +48,7 @@ impl Aggregate {
         ("avg", Aggregate::Avg),
     ];
 
-    /// Returns the aggregate of a name, in any case of its letters.
+    /// Returns the aggregate with this name, in upper or lower case.
     #[must_use]
     pub fn named(name: &str) -> Option<Aggregate> {
         let mut all = Aggregate::ALL.into_iter();
@@ -66,7 +66,7 @@ impl fmt::Display for Aggregate {
     }
 }
 
-/// The answer as the header of its column.
+/// Writes the answer as the header of its column.
 impl fmt::Display for Answer<Name> {
     fn fmt(&self, f: &mut fmt::Formatter<'_>) -> fmt::Result {
         match self {

@@ -7,7 +7,7 @@ use crate::error::QueryError;
 /// A word, with the byte of the text where it begins.
 #[derive(Clone, Debug, PartialEq)]
 pub struct Token {
-    /// The byte where it begins.
+    /// The byte at which it begins.
     pub at: usize,
     /// The word.
     pub word: Word,
@@ -41,13 +41,13 @@ pub enum Word {
 }
 
 impl Word {
-    /// Returns whether the word is a keyword, in any case of its letters.
+    /// Returns whether the word is a keyword, in upper or lower case.
     pub fn is(&self, keyword: &str) -> bool {
         matches!(self, Word::Plain(word) if word.eq_ignore_ascii_case(keyword))
     }
 }
 
-/// The signs of comparisons; of two that begin alike the longer one is first.
+/// The signs of comparisons. A longer sign is before a shorter one with the same beginning.
 const COMPARISONS: [(&str, Comparison); 8] = [
     ("<=", Comparison::LessOrEqual),
     (">=", Comparison::GreaterOrEqual),
@@ -59,11 +59,11 @@ const COMPARISONS: [(&str, Comparison); 8] = [
     ("=", Comparison::Equal),
 ];
 
-/// Returns the words of a text; the last one is its end.
+/// Returns the words of a text. The last one is its end.
 ///
 /// # Errors
 ///
-/// At the first character that begins no word, and at a quote that isn't closed.
+/// Returns an error at the first character that begins no word, and at a quote that isn't closed.
 pub fn tokens(text: &str) -> Result<Vec<Token>, QueryError> {
     let mut tokens = Vec::new();
     let mut at = 0;
@@ -84,7 +84,7 @@ pub fn tokens(text: &str) -> Result<Vec<Token>, QueryError> {
     }
 }
 
-/// The first word of a text that begins with none of the spaces, and its length.
+/// Returns the first word of a text without spaces at its beginning, and its length in bytes.
 fn first(text: &str, at: usize) -> Result<(Word, usize), QueryError> {
     for (sign, comparison) in COMPARISONS {
         if text.starts_with(sign) {
@@ -116,7 +116,7 @@ fn plain(text: &str) -> (Word, usize) {
     (Word::Plain(text[..length].to_string()), length)
 }
 
-/// A name or a text between quotes, of which two are one within.
+/// Reads a name or a text between quotes. Two quotes within it stand for one.
 fn quoted(text: &str, quote: char, at: usize) -> Result<(Word, usize), QueryError> {
     let mut content = String::new();
     let mut characters = text.char_indices().skip(1).peekable();
@@ -167,7 +167,7 @@ fn number(text: &str, at: usize) -> Result<(Word, usize), QueryError> {
     }
 }
 
-/// How many bytes belong to a number: a sign counts in front and behind an `e`.
+/// Returns the number of bytes of a number. A sign belongs to it at the beginning and after an `e`.
 fn number_length(text: &[u8]) -> usize {
     let belongs = |place: usize| match text[place] {
         b'0'..=b'9' | b'.' | b'e' | b'E' => true,

@@ -1,4 +1,4 @@
-//! Truth values of rows, which may be null, and how comparisons make them.
+//! Truth values of rows, which may be null, and the results of comparisons.
 
 use std::cmp::Ordering;
 
@@ -7,9 +7,9 @@ use vortex_bits::{Bitmap, Comparison, values};
 /// A truth value per row, by SQL's three-valued logic.
 #[derive(Clone, Debug)]
 pub struct Truth {
-    /// Which rows are true; what a null has here counts for nothing.
+    /// The true rows. The bits of nulls are ignored.
     pub trues: Bitmap,
-    /// Which rows aren't null; None if none is.
+    /// The rows that aren't null; None if no row is null.
     pub valid: Option<Bitmap>,
 }
 

@@ -1,4 +1,5 @@
-//! Conditions and lists that are read, and where those that aren't are wrong.
+//! Tests the parser on correct conditions and lists, and on wrong ones with the position of the
+//! fault.
 
 use super::{column_names, condition, selection};
 
@@ -39,7 +40,7 @@ fn conditions() {
     }
 }
 
-/// The byte of each text where it is wrong, and a part of what is said.
+/// Each wrong text, with the byte of the fault and a part of the message.
 #[test]
 fn wrong_conditions() {
     let cases = [
