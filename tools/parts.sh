@@ -1,40 +1,40 @@
-# Shared by the commands that run for long; source it. A command calls `begin`, then for each of its
-# parts `part`, then `try` for each thing that it tries. This file prints which part of how many
-# runs, each crate as it is proved, and about how long the rest takes. It keeps all output in a file
-# that it names first and last. Its last lines, also after an interrupt, are what failed, with the
-# end of the output of each, and 'N passed, M failed'. The exit status is 0 only if nothing failed.
+# Shared by the commands that run for long; source it. A command calls `begin`, then `part` for each
+# of its parts, then `try` for each test. This file prints the number of the part that runs, each
+# crate when it is proved, and about how long the rest takes. It writes all output to a file, whose
+# name it prints first and last. Its last lines, also after an interrupt, are the failures, each
+# with the end of its output, and 'N passed, M failed'. The exit status is 0 only if nothing failed.
 # shellcheck shell=bash
 
 # The repository whose crates are proved.
 repository=$(cd "$(dirname "${BASH_SOURCE[0]}")/.." && pwd)
 passed=0
 failed=0
-# What failed, and for each the end of its output.
+# The names of the failures, and the end of the output of each.
 failures=()
 ends=()
-# Of so many failures the summary shows the end of the output.
+# The greatest number of failures whose output the summary shows.
 most_ends=5
 # The command that `try` runs: its name, its process group, and the last line of its output.
 trying=
 job=
 last=
-# The shares of all parts, and of these the number of the one that runs, its share, the sum of its
-# share and those after it, and the sum of all. A share is about how many seconds a part takes on
-# four processors.
+# The shares of all parts, the number of the part that runs, its share, the sum of its share and the
+# later ones, and the sum of all. A share is the approximate time of a part on four processors, in
+# seconds.
 shares=()
 number=0
 share=0
 left=0
 all=0
-# About how many seconds it takes to prove a crate for the first time.
+# The approximate time of the first proof of a crate, in seconds.
 seconds_a_crate=75
-# How many crates the running part needs, how many of them are done, and how many were when it
-# began.
+# The number of crates that the running part needs, how many of them are done, and how many were
+# done when it began.
 crates_all=0
 crates_done=0
 crates_before=0
 
-# Prints the comment at the top of the command, and ends it, if it is asked for help.
+# With -h or --help, prints the comment at the top of the command and exits.
 for word in "$@"; do
     case $word in
     -h | --help)
@@ -44,15 +44,15 @@ for word in "$@"; do
     esac
 done
 
-# Prints its arguments as a line. Inside of another such command, that one keeps the line. On a full
-# disk the line is printed all the same.
+# Prints its arguments as a line, and writes it to the log. Within another such command, that one
+# writes the log. On a full disk it still prints the line.
 say() {
     [ -n "${PARTS_LOG:-}" ] || printf '%s\n' "$*" 2>/dev/null >>"$log" || true
     printf '%s\n' "$*"
 }
 
-# Begins a run of parts with the shares after $1, whose output goes to the file $1. Inside of
-# another such command, which passes PARTS_LOG, it goes to that one's file.
+# Begins a run of parts with the shares after $1. Their output goes to the file $1, or to the file
+# PARTS_LOG if another such command passes it.
 begin() {
     log=${PARTS_LOG:-$1}
     shares=("${@:2}")
@@ -71,7 +71,7 @@ begin() {
     say "all output is kept in ${log#"$PWD"/}"
 }
 
-# Ends the command at once if `rt` is missing.
+# Exits at once if `rt` is missing.
 need_rt() {
     command -v rt >/dev/null && return
     echo "rt isn't on the PATH: it comes with Rattle's kit (README.md, 'What is trusted')" >&2
@@ -82,7 +82,7 @@ need_rt() {
 # Prints a number of seconds in words.
 about() {
     local minutes=$((($1 + 59) / 60))
-    # Nobody knows a long time to the minute.
+    # An estimate of a long time isn't exact to the minute.
     [ "$minutes" -le 20 ] || minutes=$(((minutes + 4) / 5 * 5))
     if [ "$1" -lt 45 ]; then
         echo "less than a minute"
@@ -93,9 +93,9 @@ about() {
     fi
 }
 
-# Prints about how long the rest takes: the shares that are left, by the pace so far. The pace
-# begins as that of the shares, with the weight of a quarter of an hour. After the last crate a
-# tenth of the part is left, for tests, edits and programs.
+# Prints about how long the rest takes: the shares that are left, at the pace so far. The pace
+# starts as that of the shares, with a weight of 900 seconds. After the last crate a tenth of the
+# part is left, for tests, edits and programs.
 rest() {
     local rest=$left proves=$((crates_all - crates_before))
     [ "$proves" -eq 0 ] ||
@@ -103,7 +103,7 @@ rest() {
     about $((rest * (SECONDS + 900) / (all - rest + 900)))
 }
 
-# Begins the next part, $1, which needs $2 crates, of which $3 are built already.
+# Begins the next part, $1. It needs $2 crates, and $3 of them are built already.
 part() {
     left=$((left - share))
     share=${shares[number]}
@@ -133,7 +133,7 @@ add_crates() {
     done
 }
 
-# Prints how many of these crates rt has built before. It builds one again whose sources changed.
+# Prints how many of these crates rt has built before. It builds one again if its sources changed.
 built() {
     local name count=0
     for name in "$@"; do
@@ -149,15 +149,15 @@ share_of() {
     echo $(((${#crates[@]} - $(built "${crates[@]}")) * seconds_a_crate))
 }
 
-# Prints the share of bindings/build for $1 levels: each level after the first proves again the
-# crates that have C functions.
+# Prints the share of bindings/build for $1 levels: each level after the first one proves the crates
+# with C functions again.
 share_of_build() {
     local crates
     mapfile -t crates < <(sed -n 's/ staticlib:.*//p' "$repository/crates.txt")
     echo $(($(share_of "${crates[@]}") + ($1 - 1) * ${#crates[@]} * seconds_a_crate))
 }
 
-# Shows that the crate $1 was $2, and counts it at the first time.
+# Prints that the crate $1 was $2, and counts it the first time.
 show_crate() {
     local of="crate"
     [ -n "${seen[$1]:-}" ] || [ "$crates_done" -ge "$crates_all" ] || crates_done=$((crates_done + 1))
@@ -166,9 +166,10 @@ show_crate() {
     say "  $of: $1 $2; $(rest) left in all"
 }
 
-# Keeps the lines of standard input, and shows those that report progress: those of `rt ci`, which
-# names a crate after its proof, of `rt lib` and its like, which name it before, of commands like
-# this one, and of bindings/diff; and those of tools/check-program on what it leaves out.
+# Writes the lines of standard input to the log, and prints those that report progress. These are
+# lines of `rt ci`, which names a crate after its proof, of `rt lib` and similar commands, which
+# name it before, of commands like this one, of bindings/diff, and of tools/check-program about
+# cases that it leaves out.
 progress() {
     local line name=
     local -A seen=()
@@ -192,7 +193,7 @@ progress() {
     done 3>>"$log"
 }
 
-# Prints the end of the output $1 of a command, and why the last crate in it isn't proved.
+# Prints the end of a command's output $1, and why its last crate isn't proved.
 end_of() {
     local output
     output=$(grep -v ' left in all$' <<<"$1" || true)
@@ -200,16 +201,16 @@ end_of() {
     tail -n 12 <<<"$output"
 }
 
-# Runs the command after the name $1, and counts it: N and M if the last line of its output is
-# 'N passed, M failed', else one.
+# Runs the command after the name $1, and counts its result: N and M if the last line of its output
+# is 'N passed, M failed', else one.
 try() {
     local start status=0 output good=1 bad=0
     trying=$1
     shift
     echo "== $trying" >>"$log"
     start=$(($(wc -c <"$log") + 1))
-    # As a job it has a process group, so that an interrupt reaches all of it. What it printed until
-    # then is kept.
+    # A job has its own process group, so that an interrupt reaches all of it. Its output up to then
+    # is in the log.
     set -m
     { trap : TERM && "$@" 2>&1 | progress; } </dev/null &
     job=$!
@@ -233,13 +234,13 @@ try() {
     trying=
 }
 
-# The same, and ends the command if that failed.
+# Runs the command as `try` does, and exits if it failed.
 must() {
     try "$@"
     [ "$failed" -eq 0 ] || exit 1
 }
 
-# Counts $1 failures of what is tried, whose output ended so.
+# Counts $1 failures of the running test, and keeps the end $2 of its output.
 fail() {
     failed=$((failed + $1))
     failures+=("${trying:-$0}")
@@ -247,7 +248,7 @@ fail() {
     say "failed  ${trying:-$0}"
 }
 
-# Ends the command and what it runs, with the status $1; a second interrupt kills what doesn't end.
+# Ends the running job, and exits with the status $1. A second interrupt kills the job.
 interrupted() {
     trap 'kill -KILL -- "-$job" || true' HUP INT TERM
     if [ -n "$job" ]; then
@@ -259,7 +260,7 @@ interrupted() {
     exit "$1"
 }
 
-# The summary, when the command ends in whatever way.
+# Prints the summary, however the command ends.
 finish() {
     local status=$? k
     trap - EXIT

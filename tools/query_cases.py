@@ -1,6 +1,6 @@
-"""Command lines for `run_query`, with what SQLite and the program of demo/ print for them.
+"""Command lines for `run_query`, with the output that SQLite and demo/'s program give for them.
 
-`of_query` gives the cases for tools/check-program. Rows, counts, sums and ends come from SQLite,
+`of_query` returns the cases for tools/check-program. Rows, counts, sums and ends come from SQLite,
 which Python has; reports and pictures from demo/'s program, if `demo/query` has built it.
 """
 import csv
@@ -22,11 +22,11 @@ FLOATS = ["0.5", "-2.25", "3.0", "1e3", "11.464"]
 TEXTS = ["a", "Zebra", "é", "x,y", 'q"q', "line\nbreak", "10", "it's"]
 VALUES = {"integer": WHOLES, "real": FLOATS, "text": TEXTS}
 COMPARISONS = ["=", "<>", "<", "<=", ">", ">="]
-# Rows that take more than one batch.
+# More rows than a batch has.
 MANY = 70_000
 NO_ROW = "there is no such row: {} are kept\n"
 READS = " reads it as numbers, or names the first line where it has none"
-# Command lines that are wrong, and what is said of them.
+# Wrong command lines, and their messages.
 WRONG = [
     ([], "one CSV file is wanted, 0 are given; --help lists the options\n"),
     (["--what", "t.csv"], "there is no option --what; --help lists the options\n"),
@@ -101,7 +101,7 @@ WRONG = [
      '--where: "1x" isn\'t a number\n  size = 1x\n         ^\n'),
     (["t.csv", "--select", "sum(size"], '--select: ")" is wanted here\n  sum(size\n          ^\n'),
 ]
-# Files that aren't CSV, and what is said of them.
+# Files that aren't CSV, and their messages.
 MALFORMED = {
     b'a,b\n1,"2\n': '2: column "b": the quote that begins this field is never closed',
     b'a,b\n1,"2"x\n': '2: column "b": "x" follows the closing quote; a delimiter or the end of the '
@@ -115,8 +115,8 @@ MALFORMED = {
 }
 
 
-# Options for a file of which columns have the same name, and which name, how many columns have it,
-# and the first two of these.
+# Options for a file in which columns have the same name, with the name, the number of these
+# columns, and the first two of them.
 ALIKE = b"a,b,A,a,b,a\n1,2,3,4,5,6\n"
 ALIKE_CASES = [
     (["--where", "a = 1"], "--where", "a", 3, 1, 4, "  a = 1\n  ^\n"),
@@ -127,7 +127,7 @@ ALIKE_CASES = [
     (["--type", "b=text"], "--type", "b", 2, 2, 5, "  b\n  ^\n"),
     (["--histogram", "a"], "--histogram", "a", 3, 1, 4, "  a\n  ^\n"),
 ]
-# Columns that are written, by their numbers, of a file with these names.
+# Columns to write, by their numbers, from a file with these names.
 NAMED = ["a", "b c", "and", "D", ""]
 COLUMNS = [
     ("a", [0]),
@@ -154,7 +154,7 @@ MEANS = [
     (["a", "b"], ""),
 ]
 LONG = "a name that is too long for a picture"
-# Files, and options, whose pictures are compared.
+# Files and options for pictures to compare.
 PICTURES = [
     (f"{LONG}, as it is the name of the file.csv", "size\n1\n2\n", []),
     ("t.csv", "size\n1\n2\n", ["--where", f"size > 1 and not size = {'1' * 18} or size < -1e300"
@@ -170,7 +170,7 @@ PICTURES = [
 
 @dataclass
 class Query:
-    """A command line over files, with what is printed on it, and the files that it writes."""
+    """A command line over files, with its output and the files that it writes."""
 
     name: str
     arguments: list[str]
@@ -179,7 +179,7 @@ class Query:
     status: int = 0
     files: dict[str, bytes] = field(default_factory=dict)
     written: dict[str, bytes] = field(default_factory=dict)
-    # The file that is standard input, or what a pipe has; else standard input is empty.
+    # The file that is standard input, or the bytes of a pipe; otherwise standard input is empty.
     given: str = ""
     piped: bytes = b""
 
@@ -225,7 +225,7 @@ class Table:
                                    f"({left} or {right})", f"not ({left} and {right})"])
 
     def kept(self, condition: str) -> list[int]:
-        """The numbers of the rows for which the condition is true, from 1 on."""
+        """Returns the numbers of the rows for which the condition is true, from 1 on."""
         found = self.database.execute(f"select rowid from t where {condition} order by rowid")
         return [row for row, in found]
 
@@ -233,7 +233,7 @@ class Table:
         return written([list(KINDS), *(self.rows[number - 1] for number in numbers)])
 
     def shown(self, number: int) -> bytes:
-        """A row as `--nth` prints it."""
+        """Returns a row as `--nth` prints it."""
         before = [field for row in self.rows[: number - 1] for field in row]
         line = 1 + number + sum(field.count("\n") for field in before)
         widest = max(map(len, KINDS))
@@ -243,7 +243,7 @@ class Table:
         return "\n".join([f"row {number}, from line {line} on", *lines, ""]).encode()
 
     def answers(self, answers: list[str], condition: str) -> list[str]:
-        """What SQLite answers. Its sums stop at 64 bits, so the numbers are added here."""
+        """Returns SQLite's result. Its sums stop at 64 bits, so the numbers are added here."""
         found = []
         for answer in answers:
             if answer.startswith("sum"):
@@ -295,7 +295,7 @@ def of_seed(seed: int) -> list[Query]:
 
 def nth(name: str, line: list[str], table: Table, kept: list[int], which: int,
         files: dict[str, bytes]) -> Query:
-    """The row that is kept so many-th; `--out` has all of them."""
+    """Returns a case for one of the selected rows; `--out` has all of them."""
     line = [*line, "--nth", str(which), "--out", "out.csv"]
     out = {"out.csv": table.rows_of(kept)}
     if which > len(kept):
@@ -305,7 +305,7 @@ def nth(name: str, line: list[str], table: Table, kept: list[int], which: int,
 
 def of_columns(name: str, line: list[str], table: Table, kept: list[int], columns: list[int],
                files: dict[str, bytes]) -> Query:
-    """Some columns of the rows that are kept, in any order."""
+    """Returns a case for some columns of the selected rows, in any order."""
     names = list(KINDS)
     rows = [names, *(table.rows[number - 1] for number in kept)]
     out = written([[row[column] for column in columns] for row in rows])
@@ -315,7 +315,7 @@ def of_columns(name: str, line: list[str], table: Table, kept: list[int], column
 
 
 def like_demo(seed: int, table: Table, file: bytes, given: list[str]) -> list[Query]:
-    """A report and a picture as demo/'s program makes them, if it is there."""
+    """Returns a report and a picture as demo/'s program prints them, if it is built."""
     if not DEMO.is_file():
         return []
     line = ["t.csv", "--where", table.condition(), *given, "--svg", "picture.svg"]
@@ -323,7 +323,7 @@ def like_demo(seed: int, table: Table, file: bytes, given: list[str]) -> list[Qu
 
 
 def more() -> list[Query]:
-    """Columns of one name, columns that are written, standard input, short rows, and pictures."""
+    """Cases of columns of one name, columns to write, standard input, short rows, and pictures."""
     row = [["1", "x", "2.5", "", "z"]]
     of_names = {"t.csv": written([NAMED, *row])}
     columns = [Query(f"--columns {it}", ["t.csv", "--rows", "--columns", it],
@@ -349,14 +349,14 @@ def alike_text(option: str, name: str, count: int, first: int, second: int, poin
 
 
 def counted(file: bytes, width: int) -> bytes:
-    """How many rows there are, and how many have a value in the last column."""
+    """Counts rows, and those with a value in the last column."""
     rows = [row for row in csv.reader(io.StringIO(file.decode())) if row or width == 1]
     values = sum(len(row) == width and row[-1] != "" for row in rows)
     return written([["count(*)", f"count(c{width})"], [len(rows), values]])
 
 
 def of_input() -> list[Query]:
-    """Standard input: a file is read, a pipe and what is no file are refused."""
+    """Cases of standard input: a file is read, a pipe and a device are refused."""
     file = b"a,b\n1,x\n2,y\n"
     files = {"t.csv": file}
     refused = "/dev/stdin: not a regular file; it is read twice, so save the data to a file first\n"
@@ -386,7 +386,7 @@ def from_demo(name: str, line: list[str], files: dict[str, bytes]) -> Query:
 
 
 def fixed() -> list[Query]:
-    """Command lines and files that are wrong, and a file of several batches."""
+    """Cases of wrong command lines and files, and of a file of several batches."""
     table = written([list(KINDS), ["1", "2", "0.5", "a", "b"]])
     wrong = [Query(f"the command line {line}", line, b"", said, 2, {"t.csv": table})
              for line, said in WRONG]
@@ -401,7 +401,8 @@ def fixed() -> list[Query]:
 
 
 def of_query() -> list[Query]:
-    """The cases. A line on standard error says which are left out without demo/'s program."""
+    """Returns the cases. A line on standard error names those that are left out without demo/'s
+    program."""
     if not DEMO.is_file():
         print(f"not compared: {SEEDS} reports and pictures of run_query, since there is no "
               "demo/target/release/query; demo/query builds it", file=sys.stderr)

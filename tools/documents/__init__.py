@@ -1,1 +1,1 @@
-"""The checks of documents, the lists that are written, and the places of a name."""
+"""Checks documents, writes lists, and finds the places of a name."""

@@ -1,6 +1,6 @@
-"""Whether the code of documents and docstrings is in the sources: that of README, CALLING and the
-docstrings of library crates in the tests and in the crates and programs that show how to use the
-library."""
+"""Checks that the sources have the code of documents and docstrings: the tests, and the crates and
+programs that show how to use the library, have the code of README, CALLING and the docstrings of
+library crates."""
 import re
 
 from documents.files import Document, Repository
@@ -12,7 +12,8 @@ IMPORT = re.compile(r"^\s*(?:ghost )?use [^;]+;", re.MULTILINE)
 
 
 def tokens(text: str) -> str:
-    """The text as tokens with one space between, but for commas before a closing bracket."""
+    """Returns the text as tokens with one space between, without commas before a closing bracket.
+    """
     found = [" ".join(it.split()) for it in TOKEN.findall(text)]
     kept = [
         it for i, it in enumerate(found)
@@ -22,7 +23,7 @@ def tokens(text: str) -> str:
 
 
 def imports(text: str) -> set[str]:
-    """The names that are brought in, each with the first step of its path."""
+    """Returns the imported names, each with the first step of its path."""
     found = set()
     for it in IMPORT.findall(text):
         path, _, names = " ".join(it.split()).rstrip(";").partition("{")
@@ -34,7 +35,7 @@ def imports(text: str) -> set[str]:
 
 
 def parts(block: str) -> list[str]:
-    """The block in parts that are divided by empty lines, without what it imports."""
+    """Returns the parts of the block between empty lines, without its imports."""
     text = IMPORT.sub("", block)
     return [it for it in re.split(r"\n\s*\n", text) if it.strip()]
 
@@ -73,7 +74,7 @@ class Blocks:
             self.found.append(f"{where}: the sources that have it don't import {names}")
 
     def holding(self, part: str, suffix: str) -> set[str]:
-        """The files in which it stands: of tests and examples, or of any if it is a contract."""
+        """Returns the files with this part: tests and examples, or any file if it is a contract."""
         wanted = tokens(part)
         is_contract = re.search(r"^\s*ensures", part, re.MULTILINE) is not None
         return {
@@ -83,7 +84,7 @@ class Blocks:
 
 
 def docstrings(text: str) -> str:
-    """The lines of a source's docstrings; its other lines are empty."""
+    """Returns the lines of a source's docstrings. Its other lines become empty."""
     found = (DOCSTRING.match(line) for line in text.split("\n"))
     return "\n".join(it[1] if it else "" for it in found)
 

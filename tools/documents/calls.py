@@ -1,5 +1,5 @@
-"""Whether the table of calls in bindings/c/README.md names each C function, and no other one, and
-in its other columns names that C++, Rust and Rattle have.
+"""Checks that the table of calls in bindings/c/README.md names each C function, and no other one,
+and that its other columns have names of C++, Rust and Rattle.
 """
 import re
 
@@ -10,7 +10,7 @@ from documents.texts import NAME, alphabet, expanded, missing
 PAGE = "bindings/c/README.md"
 HEADERS = "bindings/c/vortex_bits*.h"
 HEAD = ["Calls", "C", "C++", "Rust", "Rattle"]
-# Where the names of the columns behind that of C are.
+# The files that have the names of the columns after that of C.
 SOURCES = {
     "C++": re.compile(r"bindings/c/\w+\.hpp"),
     "Rust": re.compile(r"bindings/rust/src/.*\.rs"),
@@ -20,12 +20,12 @@ DECLARED = re.compile(r"^\w[\w *]*?\b(vb_\w+)\(", re.MULTILINE)
 
 
 def cells(line: str) -> list[str]:
-    """The cells of a row, in which a bar that is text has a backslash."""
+    """Returns the cells of a row. A bar that is text has a backslash before it."""
     return [it.strip() for it in re.split(r"(?<!\\)\|", line)[1:-1]]
 
 
 def columns(text: str) -> dict[str, set[str]]:
-    """The names in each column of the table of calls, those with words in capitals expanded."""
+    """Returns the names in each column of the table of calls, with words in capitals expanded."""
     lines = text.split("\n")
     words = alphabet(text)
     found: dict[str, set[str]] = {it: set() for it in HEAD}
@@ -40,12 +40,12 @@ def columns(text: str) -> dict[str, set[str]]:
 
 
 def checked(name: str) -> str:
-    """The name of the form that tests what its caller passes."""
+    """Returns the name of the form that tests its arguments."""
     return name.replace("vb_", "vb_try_", 1)
 
 
 def of_c(repository: Repository, named: set[str]) -> list[str]:
-    """The functions that the headers or the table have and the other hasn't."""
+    """Returns the faults of functions that only the headers or only the table have."""
     headers = sorted(repository.root.glob(HEADERS))
     texts = [it.read_text(encoding="utf-8") for it in headers]
     declared = {it for text in texts for it in DECLARED.findall(text)}
@@ -54,7 +54,7 @@ def of_c(repository: Repository, named: set[str]) -> list[str]:
 
 
 def of_column(repository: Repository, column: str, named: set[str]) -> list[str]:
-    """The names of a column that its language hasn't."""
+    """Returns the faults of names in a column that the sources of its language don't have."""
     paths = [it for it in repository.paths if SOURCES[column].fullmatch(it)]
     words = {word for it in paths for word in re.findall(r"\w+", repository.read(it))}
     gone = sorted({word for it in named for word in missing(it, words)})

@@ -1,5 +1,5 @@
-"""Whether each public call whose docstring promises a cost has a row in the table docs/costs.csv,
-which `tools/growth` measures, and whether each call that the table names is there.
+"""Checks that each public call whose docstring promises a cost has a row in the table
+docs/costs.csv, which `tools/growth` measures, and that each call that the table names exists.
 """
 import csv
 import re
@@ -17,7 +17,7 @@ OWNER = re.compile(r"impl(?:<.*?>)? (?:.* for )?&?(?:'\w+ )?(?:mut )?(\w+)|pub t
 CALL = re.compile(r"\s*(pub )?fn (\w+)")
 NAME = re.compile(r"[\w:]+")
 LISTED = re.compile(r'^ +"(\w+) (\w+)",$', re.MULTILINE)
-# What a docstring says of a cost that grows with the input, or doesn't.
+# The words of a docstring for a cost that grows with the input, or doesn't.
 PROMISE = re.compile(
     r"\bconstant\b|amortized|\blinear in\b|at the cost of|\bby words\b|packed by 64"
     r"|\b(?:64|a word|four words|\d+ bytes) at a time|by 64 bits|four words at once"
@@ -27,7 +27,7 @@ PROMISE = re.compile(
 
 @dataclass(frozen=True)
 class Call:
-    """A public call: its type or trait, if it has one, its name, and what its docstring says."""
+    """A public call: its type or trait, if it has one, its name, and its docstring."""
 
     owner: str
     name: str
@@ -39,7 +39,7 @@ class Call:
 
 
 def calls(source: str) -> Iterator[Call]:
-    """The public functions and the methods of public traits of a file."""
+    """Yields the public functions and the methods of public traits of a file."""
     owner, is_trait, said = "", False, []
     for line in source.split("\n"):
         text = line.strip()
@@ -57,7 +57,7 @@ def calls(source: str) -> Iterator[Call]:
 
 
 def public_calls(repository: Repository) -> list[Call]:
-    """The calls that the crate to depend on re-exports, by themselves or with their type."""
+    """Returns the calls that the top crate re-exports, either themselves or with their type."""
     public = exported(repository.read(FACADE))
     files = [text for path, text in repository.code.items() if SOURCE.fullmatch(path)]
     every = [it for text in files for it in calls(text)]
@@ -69,7 +69,7 @@ def table(repository: Repository) -> list[dict[str, str]]:
 
 
 def costs(repository: Repository) -> list[str]:
-    """What is wrong with the table: calls that it lacks, calls and rows that aren't there."""
+    """Returns the faults of the table: missing calls, and calls and rows that don't exist."""
     rows = table(repository)
     public = public_calls(repository)
     listed = {name for it in rows for name in it["calls"].split() if NAME.fullmatch(name)}
@@ -88,7 +88,8 @@ def costs(repository: Repository) -> list[str]:
 
 
 def costs_of_c(repository: Repository) -> list[str]:
-    """The functions of C without a row, and rows of none; a checked form has that of the plain one."""
+    """Returns the functions of C without a row, and rows without a function. A checked form shares
+    the row of the plain one."""
     rows = {it["row"] for it in table(repository) if it["family"] == "c"}
     texts = [repository.read(it) for it in headers(repository)]
     declared = {name for it in texts for name in signatures.of_header(it)} - OF_THE_LIBRARY

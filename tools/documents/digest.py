@@ -1,5 +1,5 @@
-"""The digest of the sources that the archives of bindings/build are proved and compiled from, by
-which the Rust crate knows its archives.
+"""The digest of the sources that the archives of bindings/build are proved and compiled from. The
+Rust crate recognizes its archives by it.
 """
 import hashlib
 import re
@@ -12,12 +12,12 @@ NAMED = re.compile(r'"[0-9a-f]*"')
 
 
 def libraries(repository: Repository) -> list[str]:
-    """The crates that have C functions, as bindings/build lists them."""
+    """Returns the crates with C functions, as bindings/build lists them."""
     return re.search(r"^crates=\((.*)\)$", repository.read(BUILD), re.MULTILINE)[1].split()
 
 
 def below(crates: list[str], repository: Repository) -> set[str]:
-    """The crates, and those of the repository that they stand on."""
+    """Returns the crates, and the crates of the repository that they need, directly or not."""
     lines = re.findall(r"^(\w+)[^:#\n]*:(.*)$", repository.read("crates.txt"), re.MULTILINE)
     uses, found, todo = {name: it.split() for name, it in lines}, set(), list(crates)
     while todo:
@@ -29,14 +29,16 @@ def below(crates: list[str], repository: Repository) -> set[str]:
 
 
 def sources(repository: Repository) -> list[str]:
-    """The paths of the code and of what its contracts cite; no proof changes either."""
+    """Returns the paths of the code and of the specs that its contracts cite. No proof changes
+    either."""
     crates = "|".join(below(libraries(repository), repository))
     source = re.compile(rf"crates/({crates})/(src|specs)/")
     return sorted(it for it in repository.paths if source.match(it))
 
 
 def digest(repository: Repository) -> str:
-    """That of the lines that `sha256sum` prints of the sources, in the order of their paths."""
+    """Returns the digest of the lines that `sha256sum` prints for the sources, in the order of
+    their paths."""
     lines = hashlib.sha256()
     for path in sources(repository):
         content = (repository.root / path).read_bytes()
@@ -45,5 +47,5 @@ def digest(repository: Repository) -> str:
 
 
 def written_digest(repository: Repository) -> str:
-    """The Rust crate's file of the digest, with that of the sources as they are."""
+    """Returns the text of the Rust crate's file, with the digest of the sources."""
     return NAMED.sub(f'"{digest(repository)}"', repository.read(DIGEST))

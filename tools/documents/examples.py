@@ -1,5 +1,5 @@
-"""Whether each public call of the Rust crate stands in an example of its documents: those of C's
-headers bindings/c/functions looks through, where it makes a program of them.
+"""Checks that each public call of the Rust crate is in an example of its documents. For the
+examples of C's headers bindings/c/functions does so, and makes a program of them.
 """
 import re
 from pathlib import Path
@@ -7,17 +7,17 @@ from pathlib import Path
 from documents.files import Repository
 
 SOURCES, README = "bindings/rust/src", "bindings/rust/README.md"
-# What users don't see: the calls beneath theirs, and the parts of iterators and of Arrow's structs,
-# whose tests stand in tests/arrow.
+# Files without calls for users, or whose calls tests/arrow covers: the kernels, the parts of
+# iterators, and Arrow's structs.
 WITHIN = re.compile(r"(kernels|portable|iter|arrow|level|native)(/|\.rs$)")
 COMMENT = re.compile(r"^\s*//[/!] ?(.*)$")
 PUBLIC = re.compile(r"^\s*pub (?:const |unsafe )*fn (\w+)", re.MULTILINE)
-# A call of a bitmap that its window answers, in bitmap/ask.rs.
+# A call of a bitmap that its window carries out, in bitmap/ask.rs.
 ASKED = re.compile(r"^    (\w+)\([^)]*\) -> .*;$", re.MULTILINE)
 
 
 def code(lines: list[str]) -> str:
-    """The lines between fences."""
+    """Returns the lines between fences."""
     kept, within = [], False
     for line in lines:
         if line.strip().startswith("```"):
@@ -33,7 +33,7 @@ def of_source(text: str) -> str:
 
 
 def examples(repository: Repository) -> list[str]:
-    """The public calls that no example has."""
+    """Returns the public calls that are in no example."""
     folder = repository.root / SOURCES
     paths = sorted(folder.rglob("*.rs"))
     texts = {it.relative_to(folder).as_posix(): it.read_text(encoding="utf-8") for it in paths}

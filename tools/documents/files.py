@@ -10,7 +10,7 @@ SOURCES = {
     ".rt", ".antt", ".rs", ".h", ".hpp", ".c", ".cpp", ".py", ".txt", ".toml", ".in", ".edit", "",
 }
 PROSE = {"LICENSE", "NOTICE", "HANDLES"}
-# What was measured, and of which code, which may be gone.
+# The document of measurements. The code that they measured may be gone.
 MEASURED = "docs/PERF.md"
 WORD = re.compile(r"[^\W\d][\w'-]*|[^\W\d]\w*")
 
@@ -23,7 +23,7 @@ class Document:
     text: str
 
     def lines(self) -> list[tuple[int, str]]:
-        """The lines with their numbers, but for those of code blocks."""
+        """Returns the lines with their numbers, without those of code blocks."""
         found, within = [], False
         for n, line in enumerate(self.text.split("\n"), 1):
             if line.startswith("```"):
@@ -33,7 +33,7 @@ class Document:
         return found
 
     def blocks(self, language: str) -> list[tuple[int, str]]:
-        """The code blocks of a language, each with the number of its first line."""
+        """Returns the code blocks of a language, each with the number of its first line."""
         pattern = re.compile(rf"^```{language}\n(.*?)^```", re.MULTILINE | re.DOTALL)
         return [
             (self.text.count("\n", 0, it.start()) + 2, it.group(1))
@@ -42,14 +42,14 @@ class Document:
 
 
 class Repository:
-    """What the checks read."""
+    """The files that the checks read."""
 
     def __init__(self, root: Path) -> None:
         self.root = root
 
     @cached_property
     def documents(self) -> list[Document]:
-        """All documents; those of bench/ tell what was measured, and are left alone."""
+        """All documents, except those of bench/, which report measurements."""
         paths = [self.root / it for it in NAMED if (self.root / it).exists()]
         for folder in FOLDERS:
             paths += sorted((self.root / folder).rglob("*.md"))
@@ -58,7 +58,7 @@ class Repository:
 
     @cached_property
     def standing(self) -> list[Document]:
-        """The documents that speak of the sources as they are: all but that of measurements."""
+        """The documents that describe the present sources: all except the one of measurements."""
         return [it for it in self.documents if it.path != MEASURED]
 
     def document(self, path: str) -> Document:
@@ -68,11 +68,11 @@ class Repository:
         return (self.root / path).read_text(encoding="utf-8", errors="replace")
 
     def present(self, path: str) -> str:
-        """The text of a file, which is none where there is no such file."""
+        """Returns the text of a file; an empty one if there is no such file."""
         return self.read(path) if (self.root / path).exists() else ""
 
     def files(self) -> list[Path]:
-        """The files that aren't made, by a walk that leaves out what is."""
+        """Returns the files that no build writes."""
         made = {"out", "target", "native", ".git", "__pycache__"}
         found, todo = [], [self.root]
         while todo:
@@ -85,7 +85,7 @@ class Repository:
 
     @cached_property
     def paths(self) -> list[str]:
-        """The files that aren't made, by their paths from the top."""
+        """The files that no build writes, by their paths from the top."""
         return [it.relative_to(self.root).as_posix() for it in self.files()]
 
     @cached_property

@@ -1,4 +1,5 @@
-"""The kind of each crate: by its name, by what stands on it, and by its flag in crates.txt."""
+"""The kind of each crate: by its name, by the crates that need it, and by its flag in crates.txt.
+"""
 from collections.abc import Collection, Mapping
 
 FACADE = "vortex_buffer"  # the crate that users name
@@ -10,13 +11,13 @@ Dependencies = Mapping[str, Collection[str]]
 
 
 def statics(text: str) -> set[str]:
-    """The crates that crates.txt has linked into programs of other languages."""
+    """Returns the crates that crates.txt links into programs of other languages."""
     lefts = (line.partition(":")[0].split() for line in text.splitlines() if line[:1] != "#")
     return {left[0] for left in lefts if "staticlib" in left}
 
 
 def reached(name: str, deps: Dependencies) -> set[str]:
-    """The crates that a crate stands on, also by way of others."""
+    """Returns the crates that a crate needs, directly or not."""
     found: set[str] = set()
     todo = list(deps.get(name, ()))
     while todo:
@@ -28,7 +29,7 @@ def reached(name: str, deps: Dependencies) -> set[str]:
 
 
 def kind_of(name: str, deps: Dependencies, linked: Collection[str]) -> str:
-    """`facade`, `example`, `c`, `command` or, of every other crate, `library`."""
+    """Returns `facade`, `example`, `c`, `command` or, for every other crate, `library`."""
     if name == FACADE:
         return "facade"
     if name.startswith(EXAMPLES):

@@ -1,5 +1,5 @@
-"""The diagram of the crates in docs/LAYERS.md: each stands on those that a line leads to, as
-crates.txt says.
+"""Draws the diagram of the crates in docs/LAYERS.md. A line leads from each crate to those that it
+needs, as crates.txt says.
 """
 import re
 
@@ -8,15 +8,16 @@ from documents.kinds import FACADE, kind_of, reached, statics
 
 LAYERS = "docs/LAYERS.md"
 BLOCK = re.compile(r"(?<=^```mermaid\n).*?(?=^```$)", re.MULTILINE | re.DOTALL)
-# What the crates of a kind are called that have a box of their own around them.
+# The titles of the boxes around crates of a kind.
 BOXES = {"command": "commands", "c": "for C", "example": "examples, timed jobs"}
 FOR_TESTS = ("_tests", "vb_testing")
-# The program whose calls are counted by tools/growth.
+# The program whose calls tools/growth counts.
 COUNTED = "run_growth"
 
 
 def dependencies(text: str) -> dict[str, list[str]]:
-    """What each crate stands on, of those that are drawn: no tests, and nothing of the kit."""
+    """Returns the crates that each crate needs, among those in the diagram: no tests, and nothing
+    of the kit."""
     found = {}
     for line in text.splitlines():
         if line.strip() and not line.startswith("#"):
@@ -27,7 +28,7 @@ def dependencies(text: str) -> dict[str, list[str]]:
 
 
 def reduced(deps: dict[str, list[str]]) -> dict[str, list[str]]:
-    """Without what a crate stands on by way of another one."""
+    """Removes the crates that a crate also needs by way of another one."""
     below = {it: reached(it, deps) for it in deps}
     return {
         name: [it for it in of if not any(it in below[other] for other in of)]
@@ -36,7 +37,7 @@ def reduced(deps: dict[str, list[str]]) -> dict[str, list[str]]:
 
 
 def diagram(text: str) -> str:
-    """The crates that crates.txt lists, as Mermaid has it: from the upper ones down."""
+    """Returns the crates of crates.txt as a diagram of Mermaid, from the upper ones down."""
     deps, linked = dependencies(text), statics(text)
     lines = ["flowchart TD"]
     for kind, title in BOXES.items():
@@ -52,6 +53,6 @@ def diagram(text: str) -> str:
 
 
 def layers(repository: Repository) -> str:
-    """The document, with the diagram of the crates as they are."""
+    """Returns the document, with the diagram of the present crates."""
     drawn = diagram(repository.read("crates.txt"))
     return BLOCK.sub(lambda _: drawn, repository.read(LAYERS))

@@ -1,5 +1,5 @@
-"""Whether what is said in several places agrees: the C functions in header, Rust table and crate,
-with their parameters and types; the commands, their table and their tests; the version.
+"""Checks that lists in several files agree: the C functions in header, Rust table and crate, with
+their parameters and types; the commands, their table and their tests; the version.
 """
 import re
 
@@ -9,18 +9,18 @@ from documents.files import Repository
 EXPORT = re.compile(r"^pub use [\w:]+?::(?:\{([^}]*)\}|(\w+));", re.MULTILINE)
 # The sources of the crates that have C functions.
 OF_C = re.compile(r"crates/vb_c(_\w+)?/src/")
-# What the C library says of itself, which no function of the crate does.
+# The functions about the C library itself, which no crate has.
 OF_THE_LIBRARY = {"vb_level", "vb_has_level"}
-# What the Rust crate does without a call.
+# The functions that the Rust crate doesn't call.
 NOT_CALLED = {"vb_get_bit", "vb_pack_bools_padded", "vb_pack_truthy_padded"}
-# The forms of C functions for wide vectors, which bindings/wide gives the plain names.
+# The suffix of C functions for wide vectors. bindings/wide renames them to the plain names.
 WIDE = "_wide"
-# The C functions that the library makes of several of a crate.
+# The C functions that the library builds from several ones of a crate.
 MADE = re.compile(r"^\w+ (vb_\w+)\(", re.MULTILINE)
 
 
 def exported(text: str) -> set[str]:
-    """The names that the `pub use` lines of a file list."""
+    """Returns the names in the `pub use` lines of a file."""
     found: set[str] = set()
     for names, name in EXPORT.findall(text):
         found |= {it.strip() for it in (names or name).split(",") if it.strip()}
@@ -42,7 +42,8 @@ def made(repository: Repository) -> set[str]:
 
 
 def c_functions(repository: Repository) -> list[str]:
-    """The functions of the headers, of the Rust table, and of the crates, and how these are called."""
+    """Compares the functions of the headers, of the Rust table and of the crates, with their
+    signatures."""
     crates, table = "crates/vb_c*", "bindings/rust/src/native.rs"
     sources = [text for path, text in repository.code.items() if OF_C.match(path)]
     both = signatures.of_crate("\n".join(sources))
@@ -64,7 +65,7 @@ def c_functions(repository: Repository) -> list[str]:
 
 
 def commands(repository: Repository) -> list[str]:
-    """The commands, those that users read of, and those that tests run."""
+    """Compares the commands of the crate, of the users' table, and of the tests."""
     crate, table = "crates/vb_command/src/command.rt", "docs/COMMANDS.md"
     forms = "crates/vb_script_tests/src/machine/commands.rt"
     sessions = "crates/vb_script_tests/src/sessions.rt"
@@ -82,7 +83,8 @@ VERSION = re.compile(r"\b\d+\.\d+\.\d+-r\d+\b")
 
 
 def versions(repository: Repository) -> list[str]:
-    """README, the newest heading of CHANGELOG and bindings/rust say one version."""
+    """Checks that README, the newest heading of CHANGELOG and bindings/rust have the same version.
+    """
     newest = re.search(r"^## (\S+)", repository.read("CHANGELOG.md"), re.MULTILINE)
     wanted = newest.group(1) if newest else ""
     found = []

@@ -1,8 +1,8 @@
-"""Whether each call over a counted source keeps the bound on looks, `len / 512 + 16`: the table
-under "Looks" of docs/PROMISES.md against the contracts.
+"""Checks that each call over a counted source keeps the bound on looks, `len / 512 + 16`. It
+compares the table under "Looks" of docs/PROMISES.md with the contracts.
 
-A row names calls, a source, the clause with the number of looks at it, and what bounds that number:
-16 in all, clauses of the call itself, or clauses of `most_looks`.
+A row names calls, a source, the clause with the number of looks at it, and the bound of that
+number: 16 in all, clauses of the call itself, or clauses of `most_looks`.
 """
 import re
 from dataclasses import dataclass
@@ -19,9 +19,9 @@ KIND = re.compile(r"(\w+): (?:\w+ \+ )*Glance\b")
 PARAMETER = re.compile(r"(\w+): &mut (?:impl )?(\w+)")
 NAME = re.compile(r"`(\w+)`")
 MOST = "most_looks"
-# The looks of a window, or of a part of it: at most as many bits as `len`.
+# The looks of a window, or of a part of it with at most `len` bits.
 OF_PART = re.compile(r"looks (?:\w+|\(\w+ \+ \w+\)) (?:len|\(len - \w+\)|\(min len \w+\))")
-# What a clause says that bounds a number of looks, where it is of the call, and of `most_looks`.
+# The clauses that bound a number of looks: those of a call, and those of `most_looks`.
 BOUNDS = {"most": "{} ≤ len / 512 + 16", "short": "len ≤ 512 → {} ≤ 16"}
 OF_MOST = {
     "value": "result ≡ len / 512 + 16",
@@ -41,7 +41,7 @@ class Row:
 
 
 def rows(text: str) -> list[Row]:
-    """The rows of the table, one for each call."""
+    """Returns the rows of the table, one for each call."""
     _, _, below = text.partition(f"\n{HEADING}\n")
     lines = [it for it in re.split(r"\n#", below)[0].split("\n") if it.startswith("| `")]
     cells = [[cell.strip() for cell in it.strip("|").split("|")] for it in lines]
@@ -57,19 +57,19 @@ def clauses(contract: str) -> dict[str, str]:
 
 
 def functions(repository: Repository) -> dict[str, str]:
-    """The public functions of the crates, with their parameters and contracts."""
+    """Returns the public functions of the crates, with their parameters and contracts."""
     sources = [text for path, text in repository.code.items() if SOURCE.match(path)]
     return {name: rest for text in sources for name, rest in FUNCTION.findall(text)}
 
 
 def sources(contract: str) -> list[str]:
-    """The parameters that are counted sources."""
+    """Returns the parameters that are counted sources."""
     kinds = {*KIND.findall(contract), "Glance"}
     return [name for name, kind in PARAMETER.findall(contract) if kind in kinds]
 
 
 def unbounded(row: Row, contract: str, most: dict[str, str]) -> str | None:
-    """Why the bound doesn't follow from the clauses of the row."""
+    """Returns why the bound doesn't follow from the clauses of the row; None if it does."""
     own = clauses(contract)
     said = rf"Looks(?:Exactly|AtMost) (\w+|\(.*?\)) \(\w+\.seen {row.source}\.old\) .*"
     counted = re.fullmatch(said, own.get(row.clause, ""))
@@ -90,7 +90,7 @@ def unbounded(row: Row, contract: str, most: dict[str, str]) -> str | None:
 
 
 def looks(repository: Repository) -> list[str]:
-    """What is wrong with the table: calls over counted sources that it lacks, and rows that don't
+    """Returns the faults of the table: missing calls over counted sources, and rows that don't
     hold."""
     known, public = functions(repository), exported(repository.read(FACADE))
     most = clauses(known.get(MOST, ""))

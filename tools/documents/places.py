@@ -1,4 +1,4 @@
-"""Where a name stands that a new command, kernel or file of definitions has its like at."""
+"""Finds the places of a name, where a new command, kernel or file of definitions needs one too."""
 import re
 from dataclasses import dataclass
 
@@ -17,10 +17,10 @@ IMPORT = re.compile(r"\s*(?:ghost )?use ")
 
 @dataclass
 class Task:
-    """What there is to do, in which files, and at which lines: each a path and a text, as patterns.
+    """A task, with its files and lines: each is a pattern of a path and one of a text.
 
-    NAME stands for the name in any of its forms. A place without a text is the file itself; so is
-    one of a template, whose text is what it writes.
+    NAME stands for the name in any of its forms. A place without a text is the file itself, and so
+    is a template, whose text is what it writes.
     """
 
     text: str
@@ -95,10 +95,10 @@ KERNEL = [
 
 
 class Name:
-    """A name in its forms: its words apart by `_` or not, and for C behind `vb_` or `vb_try_`.
+    """A name in its forms: with `_` between its words or not, and for C after `vb_` or `vb_try_`.
 
-    One in small letters, of a command or a call, stands for those with capitals too. One with a
-    capital is that of a definition.
+    A name in small letters, of a command or a call, also matches capitals. One with a capital is
+    the name of a definition.
     """
 
     def __init__(self, text: str) -> None:
@@ -116,7 +116,7 @@ class Name:
 
 
 def code_of(path: str, text: str) -> list[str]:
-    """The lines of a file without comments and imports; of a document what is code."""
+    """Returns the lines of a file without comments and imports; of a document only the code."""
     if path.endswith(".md"):
         return quoted(text)
     lines = [COMMENT.sub("", it.replace("\\n", "  ")) for it in text.split("\n")]
@@ -126,7 +126,8 @@ def code_of(path: str, text: str) -> list[str]:
 
 
 def quoted(text: str) -> list[str]:
-    """The lines of a document: of those outside of code blocks what stands in backquotes."""
+    """Returns the lines of a document. Outside of code blocks it keeps only the text in backquotes.
+    """
     found, within = [], False
     for line in text.split("\n"):
         within ^= line.startswith("```")
@@ -135,12 +136,13 @@ def quoted(text: str) -> list[str]:
 
 
 def is_of_std(name: Name, text: str) -> bool:
-    """Whether a file of definitions has the name from the standard library."""
+    """Returns whether a file of definitions imports the name from the standard library."""
     return name.pattern(r"(?m)^use Rattle\.std\..*\bNAME\b").search(text) is not None
 
 
 def found_at(repository: Repository, name: Name, tasks: list[Task]) -> Places:
-    """The tasks that have places, each with these; a place belongs to the first that has it."""
+    """Returns the tasks that have places, each with these. A place belongs to the first task that
+    has it."""
     taken: set[str] = set()
     groups = []
     for task in tasks:
@@ -175,7 +177,7 @@ def found_in(repository: Repository, name: Name, path: str, what: str) -> list[s
 
 
 def places(repository: Repository, text: str, is_all: bool) -> Places:
-    """The places of a name by what there is to do; of a command alone those of commands."""
+    """Returns the places of a name by task; for a command only the tasks of commands."""
     name = Name(text)
     if not name.is_small:
         return found_at(repository, name, KERNEL[:2])

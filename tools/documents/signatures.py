@@ -1,6 +1,6 @@
-"""The C functions with the parameters that they have: in the crate, in the header, and in the table
-by which the Rust crate calls them. A slice of the crate is a pointer and a number of items in the
-two others, and these have the same names and types.
+"""The C functions with their parameters: in the crate, in the header, and in the table by which the
+Rust crate calls them. A slice of the crate is a pointer and a number of items in the two others,
+and these have the same names and types.
 """
 import re
 from dataclasses import dataclass
@@ -9,7 +9,7 @@ from families.types import FLOATS, SIGNED, UNSIGNED
 
 OF_NUMBERS = {it.c: it.crossing for it in [*UNSIGNED, *SIGNED, *FLOATS] if it.c}
 TYPES = OF_NUMBERS | {"vb_place": "Place", "vb_taken": "Taken", "vb_run": "Run", "void": "()"}
-# What the crate calls by a letter that isn't the first one of the window before it.
+# Names of the crate's parameters of one letter, except the first letter of the window before.
 LETTERS = {"v": "value"}
 
 OF_CRATE = re.compile(r'^pub extern "C" fn (\w+)\(([^)]*)\)(?: -> (\w+))?', re.MULTILINE)
@@ -20,7 +20,7 @@ C_PARAMETER = re.compile(r"(const )?(\w+) (\*?)(\w+)")
 
 @dataclass(frozen=True)
 class Parameter:
-    """A parameter: its type, as Rust has it, and what it may be called."""
+    """A parameter: its type in Rust, and the names that it may have."""
 
     kind: str
     names: frozenset[str]
@@ -44,7 +44,7 @@ def parts(text: str) -> list[str]:
 
 
 def of_slice(name: str, kind: str) -> list[Parameter]:
-    """A slice, as its pointer and its number of items."""
+    """Returns a slice as its pointer and its number of items."""
     pointer, item = ("*mut", kind[6:-1]) if kind.startswith("&mut") else ("*const", kind[2:-1])
     # Bytes may be a window of bits, or values of a byte each.
     of_bytes = {"size" if name == "bytes" else f"{name}_size"} if item == "u8" else set()
@@ -79,7 +79,7 @@ def of_header(text: str) -> dict[str, Signature]:
 
 
 def of_prototype(part: str) -> Parameter:
-    """A parameter of a prototype; of one that isn't understood the text is its type."""
+    """Returns a parameter of a prototype. If it doesn't parse, its text is the type."""
     match = C_PARAMETER.fullmatch(part)
     if match is None:
         return named(part)
@@ -99,7 +99,7 @@ def of_table(text: str) -> dict[str, Signature]:
 
 
 def unlike(wanted: Signature, got: Signature) -> str | None:
-    """The first thing that differs."""
+    """Returns the first difference; None if there is none."""
     for n, (want, have) in enumerate(zip(wanted.parameters, got.parameters), 1):
         if want.kind != have.kind or not have.names <= want.names:
             return f"parameter {n} is `{have}` in place of `{want}`"
@@ -112,7 +112,7 @@ def unlike(wanted: Signature, got: Signature) -> str | None:
 
 
 def differences(path: str, wanted: dict[str, Signature], got: dict[str, Signature]) -> list[str]:
-    """What the file at this path has in another way, of the functions that both have."""
+    """Returns the differences of the file at this path, for the functions that both have."""
     both = sorted(wanted.keys() & got.keys())
     found = [(it, unlike(wanted[it], got[it])) for it in both]
     return [f"{path}: `{function}`: {what}" for function, what in found if what]

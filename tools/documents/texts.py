@@ -1,4 +1,4 @@
-"""What documents say: names that exist, links that lead somewhere, no figure that goes stale."""
+"""Checks the text of documents: names exist, links lead to files, and no figure can go stale."""
 import re
 import unicodedata
 from itertools import product
@@ -17,13 +17,13 @@ STALE = {
     "a duration": re.compile(r"\b\d[\d,.:]* (?:s|seconds?|minutes?|hours?|CPU-\w+)\b"),
     "a count of edits": re.compile(r"\b\d[\d,]* (?:edits|wrong bodies|public clauses|passed)\b"),
 }
-# A row that says what a word in capitals may be in a name: | `OP` | `and`, `or` |
+# A row with the meanings of a word in capitals within a name: | `OP` | `and`, `or` |
 OF_WORD = re.compile(r"^\| `([A-Z]+)` \| ((?:`\w+`(?:, )?)+)", re.MULTILINE)
 OUTSIDE = set("rustc cargo rt git errno".split())
 
 
 def names(repository: Repository) -> list[str]:
-    """The names in backquotes that no source has."""
+    """Returns the names in backquotes that no source has."""
     found = []
     for document in repository.standing:
         words = alphabet(document.text)
@@ -36,18 +36,20 @@ def names(repository: Repository) -> list[str]:
 
 
 def alphabet(text: str) -> dict[str, list[str]]:
-    """What each word in capitals may be in a name of a page, by the rows that say so."""
+    """Returns the meanings of each word in capitals within a name, from the rows of a page."""
     return {word: re.findall(r"`(\w+)`", listed) for word, listed in OF_WORD.findall(text)}
 
 
 def expanded(name: str, words: dict[str, list[str]]) -> list[str]:
-    """The names that one with words in capitals means: `and_count` and `or_count` of `OP_count`."""
+    """Returns the names that a name with words in capitals means: `and_count` and `or_count` of
+    `OP_count`."""
     parts = re.split(r"([A-Z]+)", name)
     return ["".join(it) for it in product(*(words.get(part, [part]) for part in parts))]
 
 
 def ours(document: Document, line: str) -> str:
-    """A line without upstream's names: the first cell of a difference, and what is left out."""
+    """Returns a line without upstream's names: the first cell of a difference, and rows that are
+    left out."""
     if document.path.endswith("DIFFERENCES.md") and line.startswith("|"):
         first, *rest = line.split("|")[1:]
         return "" if first.strip() == "left out" else "|".join(rest)
@@ -55,7 +57,8 @@ def ours(document: Document, line: str) -> str:
 
 
 def missing(text: str, words: set[str]) -> list[str]:
-    """The steps of a name that are in no source; of several words the first is the name."""
+    """Returns the steps of a name that no source has. In several words the first one is the name.
+    """
     found = IDENTIFIER.match(text)
     if found is None or "/" in text.split()[0]:
         return []
@@ -64,7 +67,7 @@ def missing(text: str, words: set[str]) -> list[str]:
 
 
 def slug(heading: str) -> str:
-    """The anchor of a heading."""
+    """Returns the anchor of a heading."""
     text = unicodedata.normalize("NFC", re.sub(r"[`*]", "", heading).strip().lower())
     return re.sub(r"[^\w\- ]", "", text).replace(" ", "-")
 
@@ -74,7 +77,7 @@ def anchors(text: str) -> set[str]:
 
 
 def links(repository: Repository) -> list[str]:
-    """The links within the repository that lead nowhere."""
+    """Returns the links within the repository that lead to no file."""
     found = []
     for document in repository.documents:
         for n, line in document.lines():
@@ -94,7 +97,7 @@ def leads(root: Path, document: Document, to: str) -> bool:
 
 
 def stale(repository: Repository) -> list[str]:
-    """Dates, durations of proofs and tests, and counts that the next change makes false."""
+    """Returns dates, durations of proofs and tests, and counts that the next change makes false."""
     found = []
     for document in repository.standing:
         for n, line in document.lines():

@@ -1,4 +1,4 @@
-"""Lines of the crates that are too wide to be read beside another file, and files that are too
+"""Finds lines of the crates that are too wide to read next to another file, and files that are too
 long."""
 from pathlib import Path
 
@@ -11,13 +11,14 @@ FOLDERS = {"src", "specs", "proofs"}
 
 
 def is_of_crate(path: str) -> bool:
-    """Whether a source lies in src/, specs/ or proofs/ of a crate."""
+    """Returns whether a source is in src/, specs/ or proofs/ of a crate."""
     parts = path.split("/")
     return parts[0] == "crates" and len(parts) > 3 and parts[2] in FOLDERS
 
 
 def widths(repository: Repository) -> list[str]:
-    """The lines of src/, specs/ and proofs/ of the crates that have more than 100 columns."""
+    """Returns the lines of src/, specs/ and proofs/ of the crates that have more than 100 columns.
+    """
     found = []
     for path, text in sorted(repository.code.items()):
         if is_of_crate(path):
@@ -30,7 +31,7 @@ def widths(repository: Repository) -> list[str]:
 
 
 def lengths(repository: Repository) -> list[str]:
-    """The files of code that have more than 500 lines."""
+    """Returns the files of code that have more than 500 lines."""
     paths = [it for it in repository.paths if Path(it).suffix in CODE]
     counts = {it: repository.read(it).count("\n") for it in paths}
     return [

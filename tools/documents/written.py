@@ -1,7 +1,8 @@
-"""What a tool writes: families, from their templates; and lists, from where their names stand
-first: what vb_pair gives of its files, what vb_kernel and the crate to depend on give of vb_pair,
-what the tests of that crate reach, the table by which the Rust crate calls the C functions, the
-diagram of the crates, and the digest by which the Rust crate knows its archives.
+"""The files that a tool writes: families, from their templates; and lists, from the places that
+define their names. The lists are the names that vb_pair re-exports from its files, and those that
+vb_kernel and the top crate re-export from vb_pair, the names that the tests of that crate reach,
+the table by which the Rust crate calls the C functions, the diagram of the crates, and the digest
+by which the Rust crate recognizes its archives.
 """
 import re
 import textwrap
@@ -23,7 +24,7 @@ REACHED = "crates/vortex_buffer_tests/src/reached.rt"
 
 
 def declared(name: str, signature: Signature) -> str:
-    """A line of the table, which is wrapped between parameters."""
+    """Returns a line of the table, wrapped between parameters."""
     listed = [f"{min(it.names)}: {it.kind}".replace(" ", "\0") for it in signature.parameters]
     answer = "" if signature.answer == "()" else f"\0->\0{signature.answer}"
     text = f"{name.removeprefix('vb_')}({', '.join(listed)}){answer};"
@@ -35,7 +36,7 @@ def declared(name: str, signature: Signature) -> str:
 
 
 def table(repository: Repository) -> str:
-    """The Rust crate's file of C functions, with each function that it calls."""
+    """Returns the Rust crate's file of C functions, with each function that it calls."""
     given: dict[str, Signature] = {}
     for header in headers(repository):
         given |= signatures.of_header(repository.read(header))
@@ -50,7 +51,7 @@ def table(repository: Repository) -> str:
 
 
 def given_on(path: str, names: list[str]) -> str:
-    """A `pub use` item, in the layout of `rt fmt`."""
+    """Returns a `pub use` item, in the layout of `rt fmt`."""
     listed = ", ".join(names)
     if len(names) == 1:
         return f"pub use {path}::{listed};"
@@ -61,7 +62,8 @@ def given_on(path: str, names: list[str]) -> str:
 
 
 def pair(repository: Repository) -> str:
-    """The top of vb_pair, which gives the public functions of each file that it gives any of."""
+    """Returns the top of vb_pair, which re-exports all public functions of the files that it names.
+    """
     text = repository.read(PAIR)
 
     def given(found: re.Match) -> str:
@@ -72,13 +74,14 @@ def pair(repository: Repository) -> str:
 
 
 def kernel(repository: Repository) -> str:
-    """The top of vb_kernel, which gives on all that vb_pair gives."""
+    """Returns the top of vb_kernel, which re-exports all names of vb_pair."""
     given = given_on("vb_pair", sorted(exported(pair(repository))))
     return re.sub(r"pub use vb_pair::[^;]*;", given, repository.read(KERNEL))
 
 
 def facade(repository: Repository) -> str:
-    """The top of the crate to depend on, which gives all of vb_pair among what vb_kernel gives."""
+    """Returns the top of the crate for users, which re-exports all names of vb_pair by way of
+    vb_kernel."""
     start = "pub use vb_kernel::"
     lines = repository.read(CRATE).split("\n")
     places = [n for n, line in enumerate(lines) if line.startswith(start)]
@@ -90,7 +93,7 @@ def facade(repository: Repository) -> str:
 
 
 def reached(repository: Repository) -> str:
-    """The file that reaches each name that the crate to depend on gives."""
+    """Returns the file that reaches each name of the crate for users."""
     names = sorted(exported(repository.read(CRATE)))
     head, _, _ = repository.read(REACHED).partition("pub use ")
     return head + "".join(f"pub use vortex_buffer::{it};\n" for it in names)
@@ -103,7 +106,8 @@ LISTS = {
 
 
 def written(repository: Repository) -> Iterator[tuple[str, str]]:
-    """The path and the text of each file; those behind it may be made of it as it stands then."""
+    """Yields the path and the text of each file. A later file may be derived from an earlier one.
+    """
     for path, file in files(repository):
         yield path, file.text
     for path, text in LISTS.items():
@@ -111,7 +115,7 @@ def written(repository: Repository) -> Iterator[tuple[str, str]]:
 
 
 def not_written(repository: Repository) -> list[str]:
-    """The files that the tool would write anew."""
+    """Returns the files that the tool would change."""
     try:
         return [
             f"{path}: isn't what tools/write-lists makes of its list: run it"

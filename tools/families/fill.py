@@ -1,21 +1,21 @@
-"""Fills the templates of families: of what goes by type, or by operator.
+"""Fills the templates of families: code that differs only by type or by operator.
 
 A template, tools/families/FAMILY.txt, has the text of a family in each language. Its lines that
 begin with `% ` are:
 
-    % file PATH           a file that the text to `% end` is all of
-    % items PATH PATTERN  a file of which the items whose head begins so are the text: all from the
-                          first one, with its docstring, to the last one
-    % region PATH         a file with two lines of comments that the text stands between
-    % for NAME in VALUES  what stands to `% end`, for each of the values
-    % if CONDITION        what stands to `% end`, where it holds
+    % file PATH           the text up to `% end` is the whole file
+    % items PATH PATTERN  the text replaces the items of a file whose head begins with PATTERN, from
+                          the first one, with its docstring, to the end of the last one
+    % region PATH         the text goes between two marker comments of a file
+    % for NAME in VALUES  the text up to `% end` occurs once for each of the values
+    % if CONDITION        the text up to `% end` occurs if the condition holds
 
-Values, conditions and what stands in «» are Python, over the names of tools/families/types.py.
+Values, conditions and the text within «» are Python, over the names of tools/families/types.py.
 
-The text is laid out as its languages are: docstrings are filled, the head of a function stands in
-one line where that has room, a prototype of C is wrapped between parameters, and the backslashes
-of its macros stand below each other. Where a line would be too wide, it is broken at a `¦`, which
-else is a space; a docstring is broken at each.
+The text gets the layout of its language. Docstrings are filled, the head of a function is on one
+line if it fits, a prototype of C is wrapped between parameters, and the backslashes of C's macros
+are aligned. A line that is too wide is broken at a `¦`, which is a space otherwise; a docstring is
+broken at each.
 """
 import re
 import textwrap
@@ -34,7 +34,7 @@ PROTOTYPE = re.compile(r"^(?:VB_CHECKED )?\w+ vb_\w+\([^;{]*;$", re.MULTILINE)
 
 @dataclass
 class Block:
-    """What stands between a line that begins with `% ` and its end."""
+    """The text between a line that begins with `% ` and its end."""
 
     head: str
     body: "list[Block | str]"
@@ -42,7 +42,7 @@ class Block:
 
 @dataclass
 class Target:
-    """What a template writes: of which kind, to which file, and the text."""
+    """A text that a template writes, with its kind and its file."""
 
     kind: str
     path: str
@@ -68,7 +68,7 @@ def filled(text: str, names: dict) -> str:
 
 
 def turns(block: Block, names: dict) -> list[dict] | None:
-    """The names for each time that the block stands; None of a block that is a target."""
+    """Returns the names for each occurrence of the block; None for a block that is a target."""
     word, _, rest = block.head.partition(" ")
     if word == "if":
         return [names] if value(rest, names) else []

@@ -1,4 +1,4 @@
-"""How many lines of the crates are written by hand."""
+"""Counts the lines of the crates that are written by hand."""
 from documents.files import Repository
 from documents.widths import is_of_crate
 from documents.written import REACHED
@@ -6,7 +6,8 @@ from families.written import files, templates
 
 
 def hand(repository: Repository) -> str:
-    """How many lines of src/, specs/ and proofs/ no tool writes, and how many templates have."""
+    """Returns how many lines of src/, specs/ and proofs/ no tool writes, and how many lines the
+    templates have."""
     lines = {
         path: text.count("\n") for path, text in repository.code.items() if is_of_crate(path)
     }

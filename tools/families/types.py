@@ -1,11 +1,11 @@
-"""The tables of types and of operators: what families of functions, lanes and rows go by.
+"""The tables of types and of operators that families of functions, lanes and rows use.
 
 A template (tools/families/*.txt) uses these names. A type that is added here, or to one of the
 groups below, gets its functions in each language by tools/write-lists.
 """
 from dataclasses import dataclass
 
-# How many bytes there are, as docstrings say it, and what bindings/rust calls such a layout.
+# Numbers of bytes in the words of docstrings, and the names of such layouts in bindings/rust.
 COUNTS = {1: "one byte", 2: "two bytes", 4: "four bytes", 8: "eight bytes", 16: "16 bytes"}
 LAYOUTS = {1: "One", 2: "Two", 4: "Four", 8: "Eight", 16: "Sixteen"}
 
@@ -17,7 +17,7 @@ class Number:
     name: str
     bits: int
     c: str
-    # The `usize` that it is as an index, in Rattle; floats are none.
+    # The value as an index, a `usize` in Rattle; empty for floats.
     place: str = ""
 
     def __str__(self) -> str:
@@ -41,7 +41,7 @@ class Number:
 
     @property
     def exponent(self) -> int:
-        """Of which power of two the size is."""
+        """The power of two of the size."""
         return self.size.bit_length() - 1
 
     @property
@@ -62,7 +62,7 @@ class Number:
 
     @property
     def crossing(self) -> str:
-        """The type by which a value of it crosses to C."""
+        """The type of such a value in a call of C."""
         return "Wide" if self.bits == 128 else self.name
 
     @property
@@ -72,18 +72,18 @@ class Number:
 
     @property
     def laid(self) -> str:
-        """The type of fixed width that is laid out as it is."""
+        """The type of fixed width with the same layout."""
         return self.name.replace("size", "64")
 
     @property
     def end(self) -> str:
-        """What the indices that name a place are below, where they are of so many bits."""
+        """The end of the indices that the type can represent, in Rust."""
         if self.bits == 128 or not self.is_signed and self.bits == 64:
             return "usize::MAX"
         return f"1 << {self.bits - self.is_signed}"
 
     def widened(self, value: str) -> str:
-        """A value as one of 64 bits, in Rattle."""
+        """Returns a value as one of 64 bits, in Rattle."""
         if self.name.endswith("size"):
             return f"{value} as {self.laid}"
         return value if self.bits == 64 else f"{value}.into()"
@@ -99,7 +99,7 @@ class Number:
         return f"{self.name[0]}128"
 
     def number(self, value: str) -> str:
-        """A value, as an integer of contracts."""
+        """Returns a value as an integer of contracts."""
         return value if self.is_signed else f"(pos {value})"
 
 
@@ -123,13 +123,13 @@ SIGNED = [I8, I16, I32, I64, I128, ISIZE]
 FLOATS = [F32, F64]
 # Whole numbers, by the name of the file that has them.
 WHOLE = {"unsigned": UNSIGNED, "signed": SIGNED}
-# What C and C++ have: types of values that are moved, those of indices, and those compared.
+# The types of C and C++: of values that are moved, of indices, and of compared values.
 VALUES = [U8, U16, U32, U64, U128]
 INDICES = [U8, U16, U32, U64]
 COMPARED = [*INDICES, I8, I16, I32, I64, *FLOATS]
-# What processors have vectors of.
+# The types that processors have vectors of.
 LANES = {name: [it for it in numbers if it.bits < 128] for name, numbers in WHOLE.items()}
-# How floats compare, by the name of the call and by that of IEEE 754.
+# The comparisons of floats, by the name of the call and by that of IEEE 754.
 FLOAT_TESTS = {"equal": "eq", "not_equal": "ne", "less": "lt", "less_or_equal": "le"}
 # The operators of two floats, by the name of the call.
 FLOAT_SIGNS = {"equal": "==", "not_equal": "!=", "less": "<", "less_or_equal": "<="}
@@ -141,10 +141,11 @@ class Operator:
 
     name: str
     variant: str
-    # What vb_pair calls it in its calls, and as a type.
+    # The names of the operator in vb_pair: in calls, and as a type.
     kernel: str
     merged: str
-    # Of which two bits it makes true, as docstrings say it: of one and another one, and of both.
+    # The condition under which the result is true, in the words of docstrings: for a bit and
+    # another one, and for both.
     one: str
     both: str
 

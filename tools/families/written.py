@@ -1,4 +1,4 @@
-"""The files that have a family's functions, rows or proofs, as the templates write them."""
+"""The files that contain a family's functions, rows or proofs, as the templates write them."""
 import re
 from collections.abc import Iterator
 from dataclasses import dataclass
@@ -8,8 +8,8 @@ from documents.files import Repository
 from families.fill import Target, of_template
 
 FOLDER = "tools/families"
-# Whether a file of a crate says in its first line that it is written. To say so changes the file,
-# and a crate that is changed is proved again.
+# Whether a file of a crate says in its first line that a tool writes it. Adding that line changes
+# the file, and a crate that is changed is proved again.
 SAYS_SO = False
 COMMENTS = {".rt": "//", ".antt": "--"}
 REGION = re.compile(
@@ -20,12 +20,12 @@ REGION = re.compile(
 
 
 class NoPlace(Exception):
-    """A file has no place for what a template writes, or one that none writes."""
+    """A file has no place for the text of a template, or a place that no template fills."""
 
 
 @dataclass
 class Written:
-    """A file as it is written, and how many of its lines are."""
+    """A file with its new text, and how many of its lines templates write."""
 
     text: str
     lines: int = 0
@@ -37,7 +37,7 @@ def templates(repository: Repository) -> dict[str, str]:
 
 
 def files(repository: Repository) -> Iterator[tuple[str, Written]]:
-    """Each file that has something of a template, with its path."""
+    """Yields each file with text of a template, with its path."""
     found: dict[str, list[tuple[str, Target]]] = {}
     for template, text in templates(repository).items():
         for it in of_template(text):
@@ -54,7 +54,7 @@ def files(repository: Repository) -> Iterator[tuple[str, Written]]:
 
 
 def put(file: Written, template: str, part: Target, before: int) -> None:
-    """Writes a part, before which the file has so many others of the template."""
+    """Writes a part. The file has `before` other parts of the template before it."""
     if part.kind == "file":
         where = slice(0, len(file.text))
     elif part.kind == "items":
@@ -71,7 +71,8 @@ def put(file: Written, template: str, part: Target, before: int) -> None:
 
 
 def items(text: str, part: Target) -> slice:
-    """From the first item with such a head, and its docstring, to the end of the last one."""
+    """Returns the range from the first item with such a head, including its docstring, to the end
+    of the last one."""
     heads = list(re.finditer(rf"^{part.pattern}", text, re.MULTILINE))
     if not heads:
         raise NoPlace(f"{part.path}: nothing in it begins as `{part.pattern}`")

@@ -1,4 +1,4 @@
-"""The documents of bindings/rust are found by the words that the field has for its calls."""
+"""Tests that a search for the field's words finds the calls of bindings/rust."""
 import re
 import unittest
 from pathlib import Path

@@ -1,4 +1,4 @@
-"""bench/run over two checkouts whose programs a test of this file wrote."""
+"""Tests bench/run over two checkouts with programs that a test writes."""
 import os
 import runpy
 import shutil
@@ -8,7 +8,7 @@ import unittest
 from pathlib import Path
 
 COMMAND = Path(__file__).resolve().parent.parent.parent / "bench/run"
-# Says how many instructions the program has, by the number on its second line.
+# Prints the number of instructions of the program, by the number on its second line.
 VALGRIND = """#!/bin/sh
 echo "==7== Collected : $(sed -n '2s/# //p' "$3")" >&2
 exec "$3" "$4"
@@ -34,7 +34,7 @@ class Run(unittest.TestCase):
         file.chmod(0o755)
 
     def run_it(self, *words: str) -> tuple[int, list[list[str]]]:
-        """The status, and the fields of each line that was printed, but for those of `progress`."""
+        """Returns the status, and the fields of each printed line except those of `progress`."""
         env = {**os.environ, "PATH": f"{self.root / 'bin'}:{os.environ['PATH']}"}
         sides = [self.root / "old", self.root / "new"]
         command = [self.root / "old/bench/run", *words, *sides]

@@ -1,4 +1,4 @@
-"""When cargo builds the Rust crate again."""
+"""Tests when cargo builds the Rust crate again."""
 import os
 import shutil
 import subprocess
@@ -20,7 +20,7 @@ class BuildScript(unittest.TestCase):
         self.target = Path(folder.name) / "target"
 
     def compiles(self) -> bool:
-        """Whether a build compiles the crate."""
+        """Returns whether a build compiles the crate."""
         kept = {name: it for name, it in os.environ.items() if name != "VORTEX_BITS_NATIVE"}
         ended = subprocess.run(
             ["cargo", "build", "--offline"],

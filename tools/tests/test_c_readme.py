@@ -1,5 +1,5 @@
-"""The programs of bindings/c/README.md, by the commands that it gives, and what it names of a
-release.
+"""Runs the programs of bindings/c/README.md, by the commands on that page, and tests the names that
+it gives for a release.
 """
 import re
 import shutil
@@ -27,7 +27,7 @@ class CReadme(unittest.TestCase):
         (self.folder / "bindings").symlink_to(TOP / "bindings")
 
     def is_taken(self, command: str, language: str) -> None:
-        """The program is compiled without a warning; that needs no archive."""
+        """Tests that the program compiles without a warning. That needs no archive."""
         code, _ = block(language, README)
         (self.folder / f"app.{language}").write_text(code)
         words = [it for it in command.split() if not it.endswith(".a")]
@@ -35,7 +35,7 @@ class CReadme(unittest.TestCase):
         self.assertEqual(printed([*words, *flags], cwd=self.folder), [])
 
     def prints(self, command: str, language: str) -> None:
-        """The program prints what the page says."""
+        """Tests that the program prints the output on the page."""
         code, lines = block(language, README)
         (self.folder / f"app.{language}").write_text(code)
         self.assertEqual(printed(command.split(), cwd=self.folder), [])

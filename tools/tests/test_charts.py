@@ -1,4 +1,4 @@
-"""bench/charts draws each table of bench/results, as the pictures that are committed show it."""
+"""Tests that bench/charts draws each table of bench/results as the committed pictures show it."""
 import csv
 import subprocess
 import tempfile
@@ -12,7 +12,7 @@ SVG = "{http://www.w3.org/2000/svg}"
 
 
 class Charts(unittest.TestCase):
-    """The pictures of bench/results."""
+    """Returns the pictures of bench/results."""
 
     def test_the_pictures_are_those_of_the_tables(self):
         with tempfile.TemporaryDirectory() as folder:

@@ -1,4 +1,4 @@
-"""The command `edits`, with an `rt` that says what a file beside it holds."""
+"""Tests the command `edits`, with an `rt` that prints the contents of a file next to it."""
 import os
 import shutil
 import subprocess

@@ -1,4 +1,4 @@
-"""tools/growth over a table of this file, with a valgrind that counts by a formula."""
+"""Tests tools/growth over a table of this file, with a valgrind that counts by a formula."""
 import os
 import shutil
 import subprocess
@@ -13,7 +13,7 @@ sets,clone,"constant, of one owner",1000,call,Set::clone
 sets,count,each word,2.5,64 bits,Set::count
 session,get,constant,1000,call,
 """
-# Its output has the count of a run: one word of arguments is the size, the last one the calls.
+# Prints the count of a run: one word of arguments is the size, the last one the calls.
 VALGRIND = """#!{python}
 import sys
 words = sys.argv[5:]
@@ -31,7 +31,7 @@ sys.exit({status})
 class Growth(unittest.TestCase):
     def said(self, steps: str, *words: str, session: str = "500", status: int = 0,
              programs: tuple[str, ...] = ("run_growth", "vbits")) -> tuple[int, list[str]]:
-        """The status and the lines, where a call takes `steps`."""
+        """Returns the status and the lines if a call takes `steps`."""
         with tempfile.TemporaryDirectory() as folder:
             top = Path(folder)
             for path in ("tools", "docs", "bin"):

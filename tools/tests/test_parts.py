@@ -1,5 +1,5 @@
-"""tools/parts.sh, and the commands that are built on it, beside an `rt` and parts that a test of
-this file wrote."""
+"""Tests tools/parts.sh, and the commands that use it, with an `rt` and parts that a test of this
+file writes."""
 import os
 import shutil
 import signal
@@ -11,7 +11,7 @@ from pathlib import Path
 
 TOP = Path(__file__).resolve().parent.parent.parent
 NO_RT = "rt isn't on the PATH: it comes with Rattle's kit (README.md, 'What is trusted')"
-# What `rt ci` prints of two crates, the second of which isn't proved, and then of much else.
+# The output of `rt ci` for two crates, the second of which isn't proved, and then much else.
 HALF_PROVED = """echo '== low'
 echo 'rt: low proved'
 echo 'rt: low: its tests are proved'
@@ -20,7 +20,7 @@ echo 'rt: high NOT PROVED'
 seq 1000
 echo '5 passed, 1 failed'
 exit 1"""
-# What `rt lib` prints of a crate that it proves, and of one that it doesn't.
+# The output of `rt lib` for a crate that it proves, and for one that it doesn't.
 STOPS = """echo 'rt: chose --jobs 4 for low'
 echo 'logic=proved functions=1'
 echo 'rt: chose --jobs 4 for vb_c'
@@ -46,7 +46,7 @@ chmod +x "$2\""""
 
 
 class Folder(unittest.TestCase):
-    """A repository of a test's own, with the commands as they stand here."""
+    """A repository for a test, with copies of the commands."""
 
     def setUp(self):
         folder = tempfile.TemporaryDirectory(prefix="parts-test-")
@@ -63,7 +63,7 @@ class Folder(unittest.TestCase):
         shutil.copy(TOP / path, self.top / path)
 
     def write(self, path: str, text: str):
-        """A file; a text for bash is a command."""
+        """Writes a file; a text for bash becomes a command."""
         file = self.top / path
         file.parent.mkdir(parents=True, exist_ok=True)
         file.write_text(text)
@@ -73,7 +73,7 @@ class Folder(unittest.TestCase):
         self.write(path, f"#!/usr/bin/env bash\n{text}\n")
 
     def start(self, *words: str) -> subprocess.Popen:
-        """The command, where the only `rt` is the one in bin/."""
+        """Returns the command; the only `rt` is the one in bin/."""
         kept = [it for it in os.environ["PATH"].split(":") if not Path(it, "rt").exists()]
         env = {**os.environ, "PATH": ":".join([str(self.top / "bin"), *kept])}
         env.pop("PARTS_LOG", None)
@@ -84,18 +84,18 @@ class Folder(unittest.TestCase):
             text=True,
             stdout=subprocess.PIPE,
             stderr=subprocess.STDOUT,
-            # A shell that was started with an interrupt ignored can't act on one.
+            # A shell that was started with an interrupt ignored can't trap one.
             preexec_fn=lambda: signal.signal(signal.SIGINT, signal.SIG_DFL),
         )
 
     def run_it(self, *words: str) -> tuple[int, list[str]]:
-        """The status, and the lines that it printed."""
+        """Returns the status, and the lines that it printed."""
         run = self.start(*words)
         printed = run.communicate(timeout=60)[0]
         return run.returncode, printed.splitlines()
 
     def interrupt(self, sign: int, log: str, *words: str) -> tuple[int, list[str]]:
-        """The same of a command that gets the signal once `begun` is in its log."""
+        """Does the same for a command that gets the signal once `begun` is in its log."""
         run = self.start(*words)
         self.addCleanup(run.stdout.close)
         self.await_begun(run, log)
@@ -112,7 +112,7 @@ class Folder(unittest.TestCase):
             time.sleep(0.02)
 
     def assert_gone(self, path: str):
-        """The process whose number the file has is ended."""
+        """Tests that the process whose number is in the file has ended."""
         number = (self.top / path).read_text().strip()
         until = time.monotonic() + 10
         while self.runs(Path("/proc", number, "stat")):
@@ -295,7 +295,7 @@ try 'the % name' printf 'a\tb %%s \\n \303\244\n5 passed, 0 failed'""")
 
 
 class Check(Folder):
-    """tools/check, all of whose parts are those of this class."""
+    """Tests tools/check with parts of this class only."""
 
     def setUp(self):
         super().setUp()
@@ -369,7 +369,7 @@ class Bindings(Folder):
         self.command("bindings/c/functions", "exit 0")
 
     def commit(self):
-        """Commits all files but those that commands make."""
+        """Commits all files except those that commands make."""
         self.write(".gitignore", "out/\ndist/\n")
         who = ("-c", "user.name=a", "-c", "user.email=a@example")
         for words in (["init"], ["add", "--all"], [*who, "commit", "--message", "all"]):
@@ -399,7 +399,7 @@ class Bindings(Folder):
 
 
 class Rows(Folder):
-    """bench/rows with crates, a program and measurements of this class."""
+    """Tests bench/rows with crates, a program and measurements of this class."""
 
     def setUp(self):
         super().setUp()
@@ -439,7 +439,7 @@ class Rows(Folder):
 
 
 class WithoutRt(Folder):
-    """Each command says at once that it has no `rt`, and where that comes from."""
+    """Tests that each command reports a missing `rt` at once, and where it comes from."""
 
     def test_each_says_so_in_one_line(self):
         commands = {
@@ -456,7 +456,8 @@ class WithoutRt(Folder):
                 self.assertEqual(said, (1, [NO_RT, "0 passed, 1 failed"]))
 
     def test_help_prints_what_the_command_does_and_runs_nothing(self):
-        """bindings/build took the word for a level, and bindings/release began to build."""
+        """Tests that --help isn't a level for bindings/build, and that bindings/release doesn't
+        build."""
         for path in ("tools/check", "bindings/build", "bindings/run", "bindings/release",
                      "bench/rows"):
             with self.subTest(path):

@@ -1,4 +1,4 @@
-"""The command `plant`, with an `rt` that says what a file in the crate holds."""
+"""Tests the command `plant`, with an `rt` that prints the contents of a file in the crate."""
 import os
 import shutil
 import subprocess

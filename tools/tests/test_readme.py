@@ -1,4 +1,4 @@
-"""The programs of README.md, as they stand, by the commands that stand beside them."""
+"""Runs the programs of README.md, by the commands next to them."""
 import os
 import re
 import shutil
@@ -14,7 +14,7 @@ VBITS = TOP / "crates/vbits/out/vbits"
 
 
 def block(language: str, document: str = README) -> tuple[str, list[str]]:
-    """The one block of a language, and the lines that it prints, as is said behind it."""
+    """Returns the one block of a language, and the lines that the text after it says it prints."""
     found = re.findall(
         rf"^```{language}\n(.*?)^```\n\nIt prints (.*?)[.:] ", document, re.MULTILINE | re.DOTALL
     )

@@ -1,4 +1,4 @@
-"""bindings/release in a repository of its own, with changes that no commit has and without."""
+"""Tests bindings/release in a repository for the test, with and without uncommitted changes."""
 import os
 import subprocess
 import tempfile
@@ -7,7 +7,7 @@ from pathlib import Path
 from shutil import copy
 
 TOP = Path(__file__).resolve().parent.parent.parent
-# It ends where the libraries would be built, behind what is tested here.
+# It ends at the build of the libraries, after all that the test is about.
 BUILD = "#!/bin/sh\necho builds >&2\nexit 3\n"
 BUILDS = "failed: libraries\n    builds\n"
 

@@ -1,4 +1,4 @@
-"""Whether a C function that is declared or called in another way than the crate has it is found."""
+"""Tests that a C function that is declared or called differently from the crate's is found."""
 import unittest
 from pathlib import Path
 
@@ -12,7 +12,7 @@ TABLE = "bindings/rust/src/native.rs"
 
 
 class Planted(Repository):
-    """The repository as it stands, with one text in place of another in one file."""
+    """The repository, with one text replaced in one file."""
 
     def __init__(self, path: str, old: str, new: str) -> None:
         super().__init__(TOP)

@@ -1,4 +1,4 @@
-"""tools/try-tests beside an `rt` that says what a test of this file wrote into it."""
+"""Tests tools/try-tests with an `rt` that a test of this file writes."""
 import os
 import subprocess
 import tempfile
@@ -13,7 +13,7 @@ REFUSED = "echo 'questions.rt:46:27: error[mismatched-types]'; exit 1"
 
 class TryTests(unittest.TestCase):
     def said(self, rt: str, *words: str) -> tuple[int, str]:
-        """The status, and all that was printed, where `rt` is the shell's text of that name."""
+        """Returns the status and all output; `rt` is the shell text with that name."""
         with tempfile.TemporaryDirectory() as folder:
             command = Path(folder, "rt")
             command.write_text(f"#!/bin/sh\n{rt}\n")

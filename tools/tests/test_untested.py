@@ -1,4 +1,4 @@
-"""tools/untested over a few crates that a test of this file writes."""
+"""Tests tools/untested over a few crates that a test of this file writes."""
 import shutil
 import subprocess
 import tempfile
@@ -37,7 +37,7 @@ impl<A: Allocator + Clone> Hidden<A> {
 
 class Untested(unittest.TestCase):
     def said(self, test: str) -> tuple[int, list[str]]:
-        """The status and the lines, where the only test is this text."""
+        """Returns the status and the lines if this text is the only test."""
         sources = {
             "vortex_buffer": "pub use low::{Set,\n    join};\n",
             "vb_script": "pub use low::Absent;\n",

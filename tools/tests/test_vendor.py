@@ -1,4 +1,4 @@
-"""tools/vendor into folders that are empty, copied to before, or changed by hand."""
+"""Tests tools/vendor into folders that are empty, copied to before, or changed by hand."""
 import subprocess
 import tempfile
 import unittest
@@ -17,7 +17,7 @@ class Vendor(unittest.TestCase):
         self.folder.cleanup()
 
     def vendor(self) -> tuple[int, str]:
-        """The status, and what was said on standard error."""
+        """Returns the status and standard error."""
         ended = subprocess.run([COMMAND, self.top], capture_output=True, text=True)
         return ended.returncode, ended.stderr
 

@@ -1,4 +1,5 @@
-"""Whether a C function that the table of calls lacks is found, and a name that no source has."""
+"""Tests that a C function missing from the table of calls is found, and a name that no source has.
+"""
 import tempfile
 import unittest
 from pathlib import Path
@@ -58,7 +59,7 @@ class Calls(unittest.TestCase):
         (self.root / path).write_text(text)
 
     def replace(self, path: str, old: str, new: str) -> list[str]:
-        """What is found where one text stands for another."""
+        """Returns the faults if one text replaces another."""
         self.assertEqual(FILES[path].count(old), 1)
         self.put(path, FILES[path].replace(old, new))
         return calls(Repository(self.root))

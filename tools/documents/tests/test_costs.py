@@ -1,4 +1,5 @@
-"""Whether a call whose docstring promises a cost and that no row of docs/costs.csv has is found."""
+"""Tests that a call is found whose docstring promises a cost and that has no row in docs/costs.csv.
+"""
 import unittest
 from pathlib import Path
 
@@ -43,7 +44,7 @@ SOURCE, ROWS = "crates/vb_low/src/set.rt", "crates/run_growth/src/low.rt"
 
 
 class Sources(Repository):
-    """A table, a crate, a program and the crate to depend on, with one text for another."""
+    """A table, a crate, a program and the top crate, with one text replaced."""
 
     def __init__(self, old: str = "", new: str = "") -> None:
         super().__init__(TOP)
@@ -60,7 +61,7 @@ class Sources(Repository):
 
 class Costs(unittest.TestCase):
     def found(self, old: str, new: str) -> str:
-        """The one thing that is wrong."""
+        """Returns the only fault."""
         found = costs(Sources(old, new))
         self.assertEqual(len(found), 1, found)
         return found[0].removeprefix(f"{COSTS}: ")

@@ -1,4 +1,4 @@
-"""The digest by which the Rust crate knows its archives: which files it is of."""
+"""Tests which files the digest of the archives covers."""
 import subprocess
 import tempfile
 import unittest

@@ -1,4 +1,4 @@
-"""What the checks of documents find, and what they leave alone."""
+"""Tests which faults the checks of documents find, and what they leave alone."""
 import tempfile
 import unittest
 from pathlib import Path

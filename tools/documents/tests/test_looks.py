@@ -1,4 +1,4 @@
-"""Whether a call over a counted source without the bound on its looks is found."""
+"""Tests that a call over a counted source without a bound on its looks is found."""
 import unittest
 from pathlib import Path
 
@@ -44,7 +44,7 @@ TABLE = """# Promises
 
 
 class Sources(Repository):
-    """A table, a crate and the crate to depend on, with one text in place of another."""
+    """A table, a crate and the top crate, with one text replaced."""
 
     def __init__(self, old: str = "", new: str = "", given: str = "low::one_by") -> None:
         super().__init__(TOP)
@@ -60,7 +60,7 @@ class Sources(Repository):
 
 class Looks(unittest.TestCase):
     def found(self, old: str, new: str) -> str:
-        """The one thing that is wrong."""
+        """Returns the only fault."""
         found = looks(Sources(old, new))
         self.assertEqual(len(found), 1, found)
         return found[0].removeprefix(f"{PROMISES}: ")

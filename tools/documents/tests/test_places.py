@@ -1,4 +1,4 @@
-"""Which places of a name are shown, and which of its uses aren't."""
+"""Tests which places of a name are shown, and which of its uses aren't."""
 import tempfile
 import unittest
 from pathlib import Path

@@ -1,4 +1,4 @@
-"""How templates are filled and laid out, and where in a file what they give is written."""
+"""Tests how templates are filled and laid out, and where in a file their text goes."""
 import tempfile
 import unittest
 from pathlib import Path
