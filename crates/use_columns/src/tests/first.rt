@@ -29,13 +29,11 @@ fn sets_are_asked(rt: &impl Abort, alloc: Global) -> Result<()> {
 fn sets_are_combined(rt: &impl Abort, alloc: Global) -> Result<()> {
     let left = BitBuffer::from_indices(alloc, 6, [1, 4])?;
     let right = BitBuffer::from_indices(alloc, 6, [4, 5])?;
-    let both = (&left & &right)?;
-    assert_eq!(rt; both.select(0), Some(4));
 
     let first = left.bitand_not(&right)?;
     assert_eq!(rt; first.select(0), Some(1));
 
-    drop((left, right, both, first));
+    drop((left, right, first));
     Ok(())
 }
 
