@@ -20,9 +20,10 @@
 //! call reads or changes a bit outside of its windows. Lengths, offsets and indices are in bits.
 //!
 //! The constructor of a window tests that it is in bounds of its bytes. Later calls panic, with a
-//! message, only for conditions that involve more than one window: that two lengths are the same,
-//! or that an index is in bounds. Calls that return a `Bitmap` (bits with their bytes) allocate
-//! memory. So do calls that let one grow, write one with shared bytes, or make it `Ranked`.
+//! message, only for conditions that the constructor can't test: that two windows have the same
+//! length, or that an index is in bounds. Calls that return a `Bitmap` (bits with their bytes)
+//! allocate memory. So do calls that let one grow, write one with shared bytes, or make it
+//! `Ranked`.
 //!
 //! # What is proved
 //!

@@ -210,8 +210,8 @@ pub enum Fault {
         /// The number that the struct has.
         got: i64,
     },
-    /// A required buffer is null: that of the values, offsets, sizes, types or views if there are
-    /// items, that of the validity if there are nulls, and that of texts if they have bytes.
+    /// A required buffer is null: the values, offsets, sizes, types or views if there are items,
+    /// the validity if there are nulls, or the bytes of texts if the rows have bytes.
     NoBuffer(&'static str),
     /// An offset of texts or lists is below the one before it, negative, or above `isize::MAX`; or
     /// a list view isn't in bounds of its items.

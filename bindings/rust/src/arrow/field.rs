@@ -228,7 +228,7 @@ impl Field {
     /// # Safety
     ///
     /// The schema is released, or is as the interface requires: each of its pointers is null or
-    /// leads to what it says.
+    /// leads to an object of its type, and `children` to `n_children` pointers.
     pub(super) unsafe fn read(schema: &ArrowSchema, depth: usize) -> Result<Field, ArrowError> {
         if schema.release.is_none() {
             return Err(Fault::Released("ArrowSchema").into());

@@ -26,8 +26,8 @@ pub(super) struct Node {
     pub values: *const u8,
     /// All buffers, as the producer passed them.
     pub buffers: Vec<*const c_void>,
-    /// Children of a struct and of a sparse union have at least `offset + len` items, those of
-    /// fixed-size lists that number times the length of a list.
+    /// The children. Let `end` be `offset + len`: a child of a struct or of a sparse union has at
+    /// least `end` items, and one of fixed-size lists at least `end` times the length of a list.
     pub children: Vec<Arc<Node>>,
     pub dictionary: Option<Arc<Node>>,
     /// The outermost array. It is released with the last node of the tree.
@@ -46,8 +46,8 @@ impl Node {
     /// # Safety
     ///
     /// The array is released, or is as the interface requires: each of its pointers is null or
-    /// leads to what it says. That memory stays until `owner`, the array or a parent of it, is
-    /// released.
+    /// leads to as much memory as the numbers say. That memory stays until `owner`, the array or a
+    /// parent of it, is released.
     pub unsafe fn read(
         array: &ArrowArray,
         field: &Arc<Field>,

@@ -30,9 +30,9 @@ impl Array {
     /// # Errors
     ///
     /// Returns [`ArrowError::Type`] if the array isn't of texts or lists. Returns
-    /// [`ArrowError::Malformed`] with [`Fault::Range`] if an offset is below the one before it,
-    /// with [`Fault::Short`] if the rows end after the last item, and with [`Fault::Back`] if these
-    /// rows are a slice and end after the last row of the array.
+    /// [`ArrowError::Malformed`] with [`Fault::Range`] if an offset is negative or below the one
+    /// before it, with [`Fault::Short`] if the rows end after the last item, and with
+    /// [`Fault::Back`] if these rows are a slice and end after the last row of the array.
     pub fn ranges(&self) -> Result<Ranges<'_>, ArrowError> {
         let ranges = self.offsets()?;
         if let Some(items) = self.node.children.first() {
