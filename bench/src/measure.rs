@@ -5,8 +5,8 @@
 use std::hint::black_box;
 use std::time::{Duration, Instant};
 
-/// How many rounds there are at least, however long they take.
-const ROUNDS: usize = 3;
+/// For each so much of the time that rounds go on there is at least one, however long it takes.
+const ROUND: Duration = Duration::from_millis(25);
 
 /// What a contender's part of a round takes at least, so that the clock is fine enough.
 const PART: Duration = Duration::from_micros(20);
@@ -84,9 +84,10 @@ pub fn best(contenders: &[Contender], budget: Duration) -> Vec<f64> {
     let times: Vec<usize> = contenders.iter().map(|c| c.times_in_a_round()).collect();
     let mut makings = vec![Duration::MAX; contenders.len()];
     let mut best = vec![Duration::MAX; contenders.len()];
+    let rounds = (budget.as_millis() / ROUND.as_millis()).max(1);
     let start = Instant::now();
     let mut round = 0;
-    while round < ROUNDS || start.elapsed() < budget {
+    while round < rounds || start.elapsed() < budget {
         for (k, contender) in contenders.iter().enumerate() {
             makings[k] = makings[k].min(contender.making());
             contender.time(1);
