@@ -7,7 +7,7 @@ ghost use Rattle.vb_c_core.specs.Fits.{DoneIf};
 
 use vb_bits::window_fits;
 use vb_count::count_ones_wide;
-use vb_filter::filter_into_at;
+use vb_filter::{filter_into, filter_into_at};
 use vb_view::BitBufferView;
 
 /// Writes those of the `len` bits of `bytes` from bit `offset` on whose bit of `mask` from bit `m`
@@ -87,5 +87,9 @@ fn filter_at(
     let values = BitBufferView::new_with_offset(bytes, len, offset);
     let mask = BitBufferView::new_with_offset(mask, len, m);
     let end = (o + kept).div_ceil(8);
+    // The kernel for the first bits is the faster one: it loads nothing of `out`.
+    if o % 8 == 0 {
+        return filter_into(&mut out[o / 8..end], values, mask);
+    }
     filter_into_at(&mut out[o / 8..end], o % 8, values, mask)
 }
