@@ -115,14 +115,12 @@ bool vb_try_set_slices(vb_run *out, size_t out_count, const uint8_t *bytes, size
 /* Packs bools as bytes: a bool that is neither 0 nor 1 then changes no bit but its own. */
 void vb_pack_bools_padded(uint8_t *out, size_t out_size, const bool *bools, size_t bools_count)
 {
-    CALL(pack_truthy_padded)(ANY(out, out_size), ANY((const uint8_t *)bools, bools_count));
+    vb_pack_truthy_padded(out, out_size, (const uint8_t *)bools, bools_count);
 }
 
 bool vb_try_pack_bools_padded(uint8_t *out, size_t out_size, const bool *bools, size_t bools_count)
 {
-    return MAY_HAVE(out, out_size) && MAY_HAVE(bools, bools_count)
-        && CALL(try_pack_truthy_padded)(ANY(out, out_size),
-            ANY((const uint8_t *)bools, bools_count));
+    return vb_try_pack_truthy_padded(out, out_size, (const uint8_t *)bools, bools_count);
 }
 
 #endif

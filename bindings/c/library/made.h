@@ -9,23 +9,21 @@
 void vb_pack_bools(uint8_t *out, size_t out_size, size_t out_offset, const bool *bools,
     size_t bools_count)
 {
-    CALL(pack_truthy)(ANY(out, out_size), out_offset, ANY((const uint8_t *)bools, bools_count));
+    vb_pack_truthy(out, out_size, out_offset, (const uint8_t *)bools, bools_count);
 }
 
 bool vb_try_pack_bools(uint8_t *out, size_t out_size, size_t out_offset, const bool *bools,
     size_t bools_count)
 {
-    return MAY_HAVE(out, out_size) && MAY_HAVE(bools, bools_count)
-        && CALL(try_pack_truthy)(ANY(out, out_size), out_offset,
-            ANY((const uint8_t *)bools, bools_count));
+    return vb_try_pack_truthy(out, out_size, out_offset, (const uint8_t *)bools, bools_count);
 }
 
 /* Returns whether there are functions for items of `size` bytes, and the items are aligned for
  * them. */
 static bool is_laid(const void *items, size_t size, size_t most)
 {
-    const bool known = size == 1 || size == 2 || size == 4 || size == 8 || size == 16;
-    return known && size <= most && (uintptr_t)items % (size < 8 ? size : 8) == 0;
+    const bool is_power = size != 0 && (size & (size - 1)) == 0;
+    return is_power && size <= most && ((uintptr_t)items & (size - 1) & 7) == 0;
 }
 
 /* Written by tools/write-lists from tools/families/filter.txt. */
@@ -40,7 +38,7 @@ static bool is_laid(const void *items, size_t size, size_t most)
 
 /* Returns the result of the function for values of one size. */
 #define OF_VALUES(name, V, ...)                                                                   \
-    CALL(name)(ANY((V *)out, out_count), ANY((const V *)values, values_count), __VA_ARGS__)
+    vb_##name((V *)out, out_count, (const V *)values, values_count, __VA_ARGS__)
 
 size_t vb_filter_values(void *out, size_t out_count, const void *values, size_t values_count,
     size_t value_size, const uint8_t *mask, size_t mask_size, size_t mask_offset)
@@ -48,7 +46,7 @@ size_t vb_filter_values(void *out, size_t out_count, const void *values, size_t 
     switch (value_size) {
 #define WIDTH(size, name, V)                                                                      \
     case size:                                                                                    \
-        return OF_VALUES(filter_values_##name, V, ANY(mask, mask_size), mask_offset);
+        return OF_VALUES(filter_values_##name, V, mask, mask_size, mask_offset);
         EACH_VALUE(WIDTH)
 #undef WIDTH
     default:
@@ -59,15 +57,13 @@ size_t vb_filter_values(void *out, size_t out_count, const void *values, size_t 
 bool vb_try_filter_values(void *out, size_t out_count, const void *values, size_t values_count,
     size_t value_size, const uint8_t *mask, size_t mask_size, size_t mask_offset, size_t *written)
 {
-    if (!MAY_HAVE(out, out_count) || !MAY_HAVE(values, values_count) || !MAY_HAVE(mask, mask_size)
-            || !is_laid(out, value_size, 16) || !is_laid(values, value_size, 16)) {
+    if (!is_laid(out, value_size, 16) || !is_laid(values, value_size, 16)) {
         return false;
     }
     switch (value_size) {
 #define WIDTH(size, name, V)                                                                      \
     case size:                                                                                    \
-        return OF_VALUES(try_filter_values_##name, V, ANY(mask, mask_size), mask_offset,          \
-            written);
+        return OF_VALUES(try_filter_values_##name, V, mask, mask_size, mask_offset, written);
         EACH_VALUE(WIDTH)
 #undef WIDTH
     default:
@@ -115,8 +111,8 @@ vb_taken vb_take_values(void *out, size_t out_count, const void *values, size_t 
     switch (pair(value_size, index_size)) {
 #define WIDTH(size, name, V, wide, index, I)                                                      \
     case PAIR(size, wide):                                                                        \
-        return OF_VALUES(take_values_##name##_##index, V, ANY((const I *)indices, indices_count), \
-            all_valid, ANY(validity, validity_size), validity_offset);
+        return OF_VALUES(take_values_##name##_##index, V, (const I *)indices, indices_count,      \
+            all_valid, validity, validity_size, validity_offset);
         EACH_PAIR(WIDTH)
 #undef WIDTH
     default:
@@ -128,18 +124,15 @@ bool vb_try_take_values(void *out, size_t out_count, const void *values, size_t 
     size_t value_size, const void *indices, size_t indices_count, size_t index_size, bool all_valid,
     const uint8_t *validity, size_t validity_size, size_t validity_offset, vb_taken *taken)
 {
-    if (!MAY_HAVE(out, out_count) || !MAY_HAVE(values, values_count)
-            || !MAY_HAVE(indices, indices_count) || !MAY_HAVE(validity, validity_size)
-            || !is_laid(out, value_size, 16) || !is_laid(values, value_size, 16)
+    if (!is_laid(out, value_size, 16) || !is_laid(values, value_size, 16)
             || !is_laid(indices, index_size, 8)) {
         return false;
     }
     switch (pair(value_size, index_size)) {
 #define WIDTH(size, name, V, wide, index, I)                                                      \
     case PAIR(size, wide):                                                                        \
-        return OF_VALUES(try_take_values_##name##_##index, V,                                     \
-            ANY((const I *)indices, indices_count), all_valid, ANY(validity, validity_size),      \
-            validity_offset, taken);
+        return OF_VALUES(try_take_values_##name##_##index, V, (const I *)indices, indices_count,  \
+            all_valid, validity, validity_size, validity_offset, taken);
         EACH_PAIR(WIDTH)
 #undef WIDTH
     default:

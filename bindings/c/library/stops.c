@@ -24,7 +24,7 @@ static void see(int first, ...)
 #define ANY(items, number) look(items), number
 #define KNOWN(op) op
 #define SEE(...) see(0, __VA_ARGS__)
-#define F(type, name, parameters, arguments)                                                      \
+#define F(type, name, parameters, given, arguments, rare)                                         \
     type vb_v2_##name parameters;                                                                 \
     type vb_v2_##name parameters                                                                  \
     {                                                                                             \
@@ -32,14 +32,14 @@ static void see(int first, ...)
         SEE arguments;                                                                            \
         return nothing;                                                                           \
     }
-#define P(name, parameters, arguments)                                                            \
+#define P(name, parameters, given, arguments, rare)                                               \
     void vb_v2_##name parameters;                                                                 \
     void vb_v2_##name parameters                                                                  \
     {                                                                                             \
         SEE arguments;                                                                            \
     }
 /* A checked form accepts all numbers, so only vortex_bits.c itself can return false. */
-#define T(name, parameters, arguments, tests)                                                     \
+#define T(name, parameters, given, arguments, rare, tests)                                        \
     bool vb_v2_##name parameters;                                                                 \
     bool vb_v2_##name parameters                                                                  \
     {                                                                                             \

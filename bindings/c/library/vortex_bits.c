@@ -21,25 +21,38 @@ static max_align_t nothing;
 /* Returns whether a pointer may point to this number of items: a null pointer points to none. */
 #define MAY_HAVE(items, number) ((items) != NULL || (number) == 0)
 
-/* The functions of the levels. */
-#define F(type, name, parameters, arguments)                                                      \
+/*
+ * The functions of the levels. They are in the same object or shared library, so that taking the
+ * address of one reads no table.
+ */
+#pragma GCC visibility push(hidden)
+#define F(type, name, parameters, given, arguments, rare)                                         \
     type vb_v2_##name parameters;                                                                 \
     type vb_v3_##name parameters;                                                                 \
     type vb_v4_##name parameters;
-#define P(name, parameters, arguments) F(void, name, parameters, arguments)
-#define T(name, parameters, arguments, tests) F(bool, name, parameters, arguments)
+#define P(name, parameters, given, arguments, rare)                                               \
+    F(void, name, parameters, given, arguments, rare)
+#define T(name, parameters, given, arguments, rare, tests)                                        \
+    F(bool, name, parameters, given, arguments, rare)
 FUNCTIONS
 #undef F
 #undef P
 #undef T
+#pragma GCC visibility pop
 
 #ifdef VB_LEVEL
 
 #define JOIN(level, name) vb_v##level##_##name
 #define LEVEL(level, name) JOIN(level, name)
 #define CALL(name) LEVEL(VB_LEVEL, name)
+#define CALL_OF(level, name) CALL(name)
 #define TEXT(level) "x86-64-v" #level
 #define NAME(level) TEXT(level)
+
+static inline int chosen(void)
+{
+    return VB_LEVEL;
+}
 
 const char *vb_level(void)
 {
@@ -63,6 +76,11 @@ bool vb_has_level(void)
  */
 static _Atomic(int) current;
 
+static inline int chosen(void)
+{
+    return atomic_load_explicit(&current, memory_order_relaxed);
+}
+
 static int choose(void)
 {
     const int best = has_v3() ? 3 : 2;
@@ -72,11 +90,12 @@ static int choose(void)
 
 static inline int level(void)
 {
-    const int chosen = atomic_load_explicit(&current, memory_order_relaxed);
-    return chosen != 0 ? chosen : choose();
+    const int known = chosen();
+    return known != 0 ? known : choose();
 }
 
-#define CALL(name) (level() == 3 ? vb_v3_##name : vb_v2_##name)
+#define CALL_OF(level, name) ((level) == 3 ? vb_v3_##name : vb_v2_##name)
+#define CALL(name) CALL_OF(level(), name)
 
 const char *vb_level(void)
 {
@@ -100,20 +119,48 @@ static inline uint8_t known(uint8_t op)
 }
 #define KNOWN(op) known(op)
 
-#define F(type, name, parameters, arguments)                                                      \
-    type vb_##name parameters                                                                     \
+/*
+ * Few calls have a null pointer or a comparison that there isn't, or come before a level is chosen:
+ * the function rare_NAME is for these. The others pay for one test of the highest digit of several
+ * numbers. The test selects the function that is called, since a compiler that branches moves each
+ * argument that is on the stack to a register and back. A pointer with that digit goes to
+ * rare_NAME too, which accepts any.
+ */
+#define NULL_DIGIT(number) ((uintptr_t)(number) - 1)
+#define UNKNOWN_DIGIT(op) ((uintptr_t)VB_GREATER_OR_EQUAL - (op))
+#define IS_RARE(digits) ((intptr_t)((digits) | NULL_DIGIT(now)) < 0)
+#define RARE __attribute__((noinline, cold)) static
+#define CHOSEN_OF(name, rare) (IS_RARE(rare) ? rare_##name : CALL_OF(now, name))
+
+#define F(type, name, parameters, given, arguments, rare)                                         \
+    RARE type rare_##name parameters                                                              \
     {                                                                                             \
         return CALL(name) arguments;                                                              \
+    }                                                                                             \
+    type vb_##name parameters                                                                     \
+    {                                                                                             \
+        const int now = chosen();                                                                 \
+        return CHOSEN_OF(name, rare) given;                                                       \
     }
-#define P(name, parameters, arguments)                                                            \
-    void vb_##name parameters                                                                     \
+#define P(name, parameters, given, arguments, rare)                                               \
+    RARE void rare_##name parameters                                                              \
     {                                                                                             \
         CALL(name) arguments;                                                                     \
+    }                                                                                             \
+    void vb_##name parameters                                                                     \
+    {                                                                                             \
+        const int now = chosen();                                                                 \
+        CHOSEN_OF(name, rare) given;                                                              \
     }
-#define T(name, parameters, arguments, tests)                                                     \
-    bool vb_##name parameters                                                                     \
+#define T(name, parameters, given, arguments, rare, tests)                                        \
+    RARE bool rare_##name parameters                                                              \
     {                                                                                             \
         return (tests) && CALL(name) arguments;                                                   \
+    }                                                                                             \
+    bool vb_##name parameters                                                                     \
+    {                                                                                             \
+        const int now = chosen();                                                                 \
+        return CHOSEN_OF(name, rare) given;                                                       \
     }
 PASSED_ON
 
