@@ -5,6 +5,7 @@
 use std::fs;
 use std::path::{Path, PathBuf};
 use std::process;
+use std::sync::atomic::{AtomicUsize, Ordering};
 
 use demo::query::condition::{Condition, Literal, Name, Operand};
 use vortex_bits::Comparison;
@@ -34,7 +35,10 @@ pub struct Folder(PathBuf);
 
 impl Folder {
     pub fn new(name: &str) -> Folder {
-        let path = std::env::temp_dir().join(format!("demo_{name}_{}", process::id()));
+        // Two tests of one program may name their folders alike.
+        static NEXT: AtomicUsize = AtomicUsize::new(0);
+        let at = NEXT.fetch_add(1, Ordering::Relaxed);
+        let path = std::env::temp_dir().join(format!("demo_{name}_{}_{at}", process::id()));
         fs::create_dir_all(&path).unwrap();
         Folder(path)
     }
