@@ -1,4 +1,5 @@
-use Rattle.std.proofs.Common.{◌≡◌, ℕ, ◌+◌, ◌-◌, ◌/◌, ◌%◌, ◌∙◌, Bool, false, List, length, sym, ap, subst}
+use Rattle.std.proofs.Common.{◌≡◌, ℕ, ◌+◌, ◌-◌, ◌/◌, ◌%◌, ◌∙◌, Bool, false, List, length}
+use Rattle.std.proofs.Common.{sym, ap, subst}
 use Rattle.std.specs.Int.{div_ceil}
 use borrow.Rule.Slice.PartMut.{put_mid}
 use Rattle.vb_bits.specs.Bits.{bits, count}
