@@ -3,6 +3,8 @@
 #[path = "../../examples/query/engine.rs"]
 mod engine;
 mod gdal;
+#[path = "../../examples/geopackage/gdal.rs"]
+mod library;
 #[path = "../../examples/query/loops.rs"]
 mod loops;
 #[path = "../../examples/query/rows.rs"]
