@@ -1,0 +1,343 @@
+/*
+ * SQL's queries over a GeoPackage that GDAL opens, by the classes of vortex_bits.hpp: a filter with
+ * three-valued logic, a semi-join, groups, the first rows of an order and a page.
+ *
+ *     geopackage FILE [ROWS]
+ *
+ * FILE is one that ../gdal/make_parcels.py writes. GDAL gives its tables by Arrow's C stream
+ * interface, in batches of at most ROWS rows, else 65,536. Each query is printed with its rows;
+ * ../gdal/compare compares them with those of SQLite.
+ */
+#include "query_columns.hpp"
+
+#include <algorithm>
+#include <cmath>
+#include <cstdio>
+#include <cstdlib>
+#include <cstring>
+#include <functional>
+#include <numeric>
+#include <string>
+#include <string_view>
+
+#include <gdal.h>
+#include <ogr_api.h>
+
+/* A mask of a batch, in bytes of its own. */
+struct mask {
+    explicit mask(std::size_t len) : bytes((len + 7) / 8), len(len) {}
+
+    bits_mut write() { return bits_mut(bytes, 0, len); }
+    operator bits() const { return bits(bytes, 0, len); }
+
+    std::vector<std::uint8_t> bytes;
+    std::size_t len;
+};
+
+/* Ends the program where GDAL doesn't do what it should. */
+static void must(bool good, const char *what)
+{
+    if (!good) {
+        std::fprintf(stderr, "%s\n", what);
+        std::exit(1);
+    }
+}
+
+/* The columns of a table that are asked for, with the batches of it. */
+struct table {
+    table(GDALDatasetH file, const char *layer, const std::string &most,
+        std::vector<const char *> names)
+    {
+        std::string option = "MAX_FEATURES_IN_BATCH=" + most;
+        std::vector<char *> options = {option.data(), nullptr};
+        ArrowArrayStream stream;
+        OGRLayerH found = GDALDatasetGetLayerByName(file, layer);
+        must(found != nullptr && OGR_L_GetArrowStream(found, &stream, options.data()),
+            "GDAL has no such stream");
+        find(stream, names);
+        while (true) {
+            batch next(new ArrowArray);
+            must(stream.get_next(&stream, next.get()) == 0, "GDAL can't read on");
+            if (next->release == nullptr) {
+                delete next.release();
+                break;
+            }
+            batches.push_back(std::move(next));
+        }
+        stream.release(&stream);
+    }
+
+    /* The number of each name among the columns. */
+    void find(ArrowArrayStream &stream, const std::vector<const char *> &names)
+    {
+        ArrowSchema schema;
+        must(stream.get_schema(&stream, &schema) == 0, "GDAL has no schema");
+        for (const char *name : names) {
+            std::int64_t i = 0;
+            while (i < schema.n_children && std::strcmp(schema.children[i]->name, name) != 0) {
+                i++;
+            }
+            must(i < schema.n_children, name);
+            places.push_back(static_cast<std::size_t>(i));
+        }
+        schema.release(&schema);
+    }
+
+    std::vector<std::size_t> places;
+    std::vector<batch> batches;
+};
+
+/* A column of an answer. */
+template <class T> struct kept {
+    /* Appends the values of a batch that the mask selects, `count` of them. */
+    void add(const column &from, bits mask, std::size_t count)
+    {
+        const std::size_t at = values.size();
+        values.resize(at + count);
+        mask.keep_into(from.values<T>(), view<T>(values.data() + at, count));
+        valid.resize((at + count + 7) / 8);
+        bits_mut out(valid, at, count);
+        if (from.valid()) {
+            out.filter_of(*from.valid(), mask);
+        } else {
+            out.fill(true);
+        }
+    }
+
+    /* The rows at indices. */
+    kept take(const std::vector<std::uint32_t> &at) const
+    {
+        kept taken;
+        taken.values.resize(at.size());
+        taken.valid.resize((at.size() + 7) / 8);
+        const bool fails = vortex_bits::take_values(values, at, taken.values)
+            || bits_mut(taken.valid, 0, at.size()).take_of(bits(valid, 0, values.size()), at);
+        must(!fails, "an index is not one of a row");
+        return taken;
+    }
+
+    std::string shown(std::size_t row) const
+    {
+        char text[32];
+        if (!bits(valid, 0, values.size())[row]) {
+            return "NULL";
+        }
+        if constexpr (std::is_floating_point_v<T>) {
+            std::snprintf(text, sizeof text, "%.3f", values[row]);
+            return text;
+        } else {
+            return std::to_string(values[row]);
+        }
+    }
+
+    std::vector<T> values;
+    std::vector<std::uint8_t> valid;
+};
+
+/* The parcels of a batch. */
+struct parcels {
+    parcels(const table &of, const batch &all)
+        : fid(all, of.places[0]), weight(all, of.places[1]), truck(all, of.places[2]),
+          cents(all, of.places[3]), days(all, of.places[4]), express(all, of.places[5])
+    {
+    }
+
+    std::size_t size() const { return fid.size(); }
+
+    column fid, weight, truck, cents, days, express;
+};
+
+/* The rows of an answer: select fid, weight, truck, cents. */
+struct rows {
+    void add(const parcels &from, bits mask)
+    {
+        const std::size_t count = mask.count_ones();
+        fid.add(from.fid, mask, count);
+        weight.add(from.weight, mask, count);
+        truck.add(from.truck, mask, count);
+        cents.add(from.cents, mask, count);
+    }
+
+    rows take(const std::vector<std::uint32_t> &at) const
+    {
+        return {fid.take(at), weight.take(at), truck.take(at), cents.take(at)};
+    }
+
+    void print() const
+    {
+        for (std::size_t row = 0; row < fid.values.size(); row++) {
+            std::printf("%s,%s,%s,%s\n", fid.shown(row).c_str(), weight.shown(row).c_str(),
+                truck.shown(row).c_str(), cents.shown(row).c_str());
+        }
+    }
+
+    kept<std::int64_t> fid;
+    kept<double> weight;
+    kept<std::int64_t> truck, cents;
+};
+
+/* Which values of a column compare with a number; nulls do by what they happen to hold. */
+template <class T> static mask compared(const column &of, std::uint8_t op, T number)
+{
+    mask made(of.size());
+    vortex_bits::compare(of.values<T>(), op, number, made.write());
+    return made;
+}
+
+/* The same without the nulls. */
+template <class T> static mask passed(const column &of, std::uint8_t op, T number)
+{
+    mask made = compared(of, op, number);
+    if (of.valid()) {
+        made.write() &= *of.valid();
+    }
+    return made;
+}
+
+/* Where there is a `not`, a null has to stay null up to it. */
+static mask neither_near_nor_light(const parcels &of)
+{
+    const mask near = compared<std::int32_t>(of.days, VB_LESS_OR_EQUAL, 3);
+    const mask light = compared(of.weight, VB_LESS, 2.5);
+    const mask quick = compared<std::int32_t>(of.express, VB_EQUAL, 1);
+    mask either(of.size()), valid(of.size()), any(of.size()), any_valid(of.size());
+    either.write().or_kleene_of(near, of.days.valid(), light, of.weight.valid(), valid.write());
+    any.write().or_kleene_of(either, valid, quick, of.express.valid(), any_valid.write());
+    any_valid.write().and_not(any);
+    return any_valid;
+}
+
+/* A bit for each truck, and of those the bit at the number in each row that names one. */
+static mask of_chosen(const parcels &of, const mask &chosen)
+{
+    const auto end = static_cast<std::int64_t>(chosen.len);
+    mask known = passed<std::int64_t>(of.truck, VB_GREATER_OR_EQUAL, 0), made(of.size());
+    known.write() &= compared<std::int64_t>(of.truck, VB_LESS, end);
+    const bool fails =
+        made.write().take_of(chosen, of.truck.values<std::int64_t>(), known).has_value();
+    must(!fails, "a truck is not one of the trucks");
+    return made;
+}
+
+using rule = std::function<mask(const parcels &)>;
+
+static rows filter(const table &from, const rule &where)
+{
+    rows found;
+    for (const batch &all : from.batches) {
+        const parcels some(from, all);
+        found.add(some, where(some));
+    }
+    return found;
+}
+
+/* Which trucks are in Linz. C has no tests of texts: this is the one loop over rows. */
+static mask in_linz(const table &trucks)
+{
+    mask made(0);
+    for (const batch &all : trucks.batches) {
+        const ArrowArray &city = *all->children[trucks.places[0]];
+        const auto *ends = static_cast<const std::int32_t *>(city.buffers[1]) + city.offset;
+        const auto *texts = static_cast<const char *>(city.buffers[2]);
+        for (std::int64_t row = 0; row < all->length; row++) {
+            const auto size = static_cast<std::size_t>(ends[row + 1] - ends[row]);
+            const std::string_view text(texts + ends[row], size);
+            made.bytes.resize(made.len / 8 + 1);
+            made.len++;
+            made.write().set(made.len - 1, text == "Linz");
+        }
+    }
+    return made;
+}
+
+/* Each truck in turn: how many parcels it has, how many of these have a price, and its sum. */
+static void print_groups(const table &from, std::size_t trucks)
+{
+    for (std::size_t truck = 0; truck < trucks; truck++) {
+        const auto number = static_cast<std::int64_t>(truck);
+        const rows of = filter(from, [&](const parcels &some) {
+            return passed(some.truck, VB_EQUAL, number);
+        });
+        std::int64_t sum = 0;
+        const bits valid(of.cents.valid, 0, of.cents.values.size());
+        valid.for_each_set([&](std::size_t row) { sum += of.cents.values[row]; });
+        if (valid.size() > 0) {
+            std::printf("%zu,%zu,%zu,%s\n", truck, valid.size(), valid.count_ones(),
+                valid.any() ? std::to_string(sum).c_str() : "NULL");
+        }
+    }
+}
+
+/* Keeps the heaviest rows so far, and looks at those alone that are heavier than all of these. */
+static rows heaviest(const table &from, std::size_t most)
+{
+    rows top;
+    for (const batch &all : from.batches) {
+        const parcels some(from, all);
+        const bool full = top.fid.values.size() == most;
+        top.add(some, full ? passed(some.weight, VB_GREATER, top.weight.values.back())
+                           : passed(some.weight, VB_GREATER_OR_EQUAL, -HUGE_VAL));
+        const std::vector<double> &weight = top.weight.values;
+        std::vector<std::uint32_t> order(weight.size());
+        std::iota(order.begin(), order.end(), 0u);
+        std::stable_sort(order.begin(), order.end(),
+            [&](std::uint32_t one, std::uint32_t other) { return weight[one] > weight[other]; });
+        order.resize(std::min(order.size(), most));
+        top = top.take(order);
+    }
+    return top;
+}
+
+/* Skips rows by their number alone. */
+static rows page(const table &from, std::size_t offset, std::size_t limit)
+{
+    rows found;
+    for (const batch &all : from.batches) {
+        const parcels some(from, all);
+        mask express = passed<std::int32_t>(some.express, VB_EQUAL, 1);
+        const std::size_t count = bits(express).count_ones();
+        const std::size_t first = bits(express).select(offset).value_or(express.len);
+        const std::size_t end = bits(express).select(offset + limit).value_or(express.len);
+        express.write().slice(0, first).fill(false);
+        express.write().slice(end, express.len - end).fill(false);
+        limit -= bits(express).count_ones();
+        offset -= std::min(offset, count);
+        found.add(some, express);
+    }
+    return found;
+}
+
+static void ask(const table &of, const mask &linz)
+{
+    const char *const columns = "-- select fid, weight, truck, cents from parcels where";
+    std::printf("%s not (days <= 3 or weight < 2.5 or express = 1);\n", columns);
+    filter(of, neither_near_nor_light).print();
+    std::printf("%s truck in (select truck from trucks where city = 'Linz');\n", columns);
+    filter(of, [&](const parcels &some) { return of_chosen(some, linz); }).print();
+    std::printf("%s weight is not null order by weight desc, fid limit 10;\n", columns);
+    heaviest(of, 10).print();
+    std::printf("%s express = 1 order by fid limit 20 offset 50;\n", columns);
+    page(of, 50, 20).print();
+    std::puts("-- select truck, count(*), count(cents), sum(cents) from parcels "
+              "where truck in (select truck from trucks) group by truck order by truck;");
+    print_groups(of, linz.len);
+}
+
+int main(int count, char **words)
+{
+    if (count < 2) {
+        std::puts("skipped: no file, such as bindings/gdal/make_parcels.py writes");
+        return 0;
+    }
+    GDALAllRegister();
+    GDALDatasetH file = GDALOpenEx(words[1], GDAL_OF_VECTOR, nullptr, nullptr, nullptr);
+    must(file != nullptr, "GDAL can't open the file");
+    {
+        const std::string most = count > 2 ? words[2] : "65536";
+        const table all(file, "parcels", most,
+            {"fid", "weight", "truck", "cents", "days", "express"});
+        ask(all, in_linz(table(file, "trucks", most, {"city"})));
+    }
+    GDALClose(file);
+    return 0;
+}
