@@ -1,0 +1,145 @@
+//! A library for programs in any language that have Arrow arrays by the C data interface, such as
+//! Python by ctypes: `bindings/gdal/batches` calls it between GDAL's arrays and numpy's.
+//!
+//!     cargo build --release --features arrow --example plugin
+//!
+//! Each function takes over an array with its schema, and writes another array with its schema.
+//! Both inputs are left released. It returns 0, or 22 (EINVAL), and then writes nothing: after a
+//! wrong mask or index, or a struct that isn't as the interface requires.
+
+use std::ffi::c_int;
+use std::slice;
+
+use vortex_bits::arrow::{Array, ArrowArray, ArrowError, ArrowSchema, Export};
+use vortex_bits::{Bitmap, Bits, Comparison, values};
+
+const EINVAL: c_int = 22;
+
+/// An array and its schema.
+#[derive(Clone, Copy)]
+#[repr(C)]
+pub struct Pair {
+    array: *mut ArrowArray,
+    schema: *mut ArrowSchema,
+}
+
+/// # Safety
+///
+/// Both pairs point to structs: those of `given` are as the interface requires, and those of `out`
+/// may be written.
+unsafe fn answer(
+    given: Pair,
+    out: Pair,
+    call: impl FnOnce(Array) -> Result<Export, ArrowError>,
+) -> c_int {
+    // SAFETY: as of this function.
+    let taken = unsafe { Array::from_raw(given.array, given.schema) };
+    match taken.and_then(call) {
+        Ok(made) => {
+            let (array, schema) = made.into_raw();
+            // SAFETY: as of this function.
+            unsafe { (out.array.write(array), out.schema.write(schema)) };
+            0
+        }
+        Err(error) => {
+            eprintln!("{error}");
+            EINVAL
+        }
+    }
+}
+
+/// Writes the rows whose bit of the mask is set.
+///
+/// # Safety
+///
+/// As of [`answer`]; the mask has a bit for each row.
+#[unsafe(no_mangle)]
+pub unsafe extern "C" fn plugin_filter(given: Pair, out: Pair, mask: *const u8) -> c_int {
+    let filter = |rows: Array| {
+        // SAFETY: as of this function.
+        let mask = unsafe { slice::from_raw_parts(mask, rows.len().div_ceil(8)) };
+        rows.filter(Bits::new(mask, 0, rows.len()))
+    };
+    // SAFETY: as of this function.
+    unsafe { answer(given, out, filter) }
+}
+
+/// Writes the rows at indices; a negative index gives a null row.
+///
+/// # Safety
+///
+/// As of [`answer`]; there are as many indices.
+#[unsafe(no_mangle)]
+pub unsafe extern "C" fn plugin_take(
+    given: Pair,
+    out: Pair,
+    indices: *const i64,
+    count: usize,
+) -> c_int {
+    // SAFETY: as of this function.
+    let indices = unsafe { slice::from_raw_parts(indices, count) };
+    let valid = values::compare(indices, Comparison::GreaterOrEqual, 0);
+    // SAFETY: as of this function.
+    unsafe { answer(given, out, |rows| rows.take_valid(indices, valid)) }
+}
+
+/// Writes a copy of `count` rows from `first` on, which has no offset.
+///
+/// # Safety
+///
+/// As of [`answer`].
+#[unsafe(no_mangle)]
+pub unsafe extern "C" fn plugin_slice(given: Pair, out: Pair, first: usize, count: usize) -> c_int {
+    let part = |rows: Array| {
+        let end = first.saturating_add(count);
+        let rows = rows.try_slice(first..end)?;
+        Export::concat(rows.field(), slice::from_ref(&rows))
+    };
+    // SAFETY: as of this function.
+    unsafe { answer(given, out, part) }
+}
+
+/// Writes the same rows without a copy.
+///
+/// # Safety
+///
+/// As of [`answer`].
+#[unsafe(no_mangle)]
+pub unsafe extern "C" fn plugin_forward(given: Pair, out: Pair) -> c_int {
+    // SAFETY: as of this function.
+    unsafe { answer(given, out, Array::try_into_export) }
+}
+
+/// Writes the same rows, whose numbers, truth values and texts are copied into owners of Rust's.
+///
+/// # Safety
+///
+/// As of [`answer`].
+#[unsafe(no_mangle)]
+pub unsafe extern "C" fn plugin_rebuild(given: Pair, out: Pair) -> c_int {
+    let rebuild = |rows: Array| {
+        let columns = rows.columns()?.map(|column| rebuilt(&column));
+        Ok(Export::batch(columns.collect::<Result<Vec<_>, _>>()?))
+    };
+    // SAFETY: as of this function.
+    unsafe { answer(given, out, rebuild) }
+}
+
+fn rebuilt(column: &Array) -> Result<Export, ArrowError> {
+    let valid = column.validity()?.bits().map(Bitmap::from);
+    let made = match column.field().format() {
+        "b" => Export::bits(Bitmap::from(column.bits()?), valid),
+        "s" => Export::values(column.values::<i16>()?.to_vec(), valid),
+        "i" | "tdD" | "ttm" => Export::values(column.values::<i32>()?.to_vec(), valid),
+        "l" | "tsm:" => Export::values(column.values::<i64>()?.to_vec(), valid),
+        "f" => Export::values(column.values::<f32>()?.to_vec(), valid),
+        "g" => Export::values(column.values::<f64>()?.to_vec(), valid),
+        "u" => {
+            let texts = column.texts()?;
+            let text = |row: &[u8]| String::from_utf8_lossy(row).into_owned();
+            Export::texts_or_nulls(texts.iter().map(|row| row.map(text))).narrow()?
+        }
+        _ => return Ok(column.clone().into()),
+    };
+    made.with_field(column.field())
+}
