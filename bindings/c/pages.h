@@ -123,14 +123,4 @@ static void alike(const char *name)
     }
 }
 
-static bool same_place(vb_place a, vb_place b)
-{
-    return a.found == b.found && (!a.found || a.index == b.index);
-}
-
-static bool same_taken(vb_taken a, vb_taken b)
-{
-    return a.out_of_range == b.out_of_range && (!a.out_of_range || a.position == b.position);
-}
-
 #endif
