@@ -11,6 +11,7 @@
 #include <string.h>
 
 #include "vortex_bits.h"
+#include "vortex_bits_aggregate.h"
 #include "vortex_bits_compare.h"
 #include "vortex_bits_gather.h"
 #include "vortex_bits_ranks.h"
@@ -74,6 +75,16 @@ static size_t size;
 #define FILTER(name, type)                                                                        \
     ROW(filter_values_##name, vb_filter_values_##name((type *)written, n, (const type *)values,   \
         n, WINDOW(mixed, LEFT)))
+#define AGGREGATE(name, type)                                                                     \
+    ROW(masked_sum_##name, vb_masked_sum_##name((const type *)values, n, WINDOW(mixed, LEFT)).low) \
+    ROW(masked_checked_sum_##name,                                                                \
+        vb_masked_checked_sum_##name((const type *)values, n, WINDOW(mixed, LEFT)).has_value)     \
+    ROW(masked_wrapping_sum_##name,                                                               \
+        vb_masked_wrapping_sum_##name((const type *)values, n, WINDOW(mixed, LEFT)))              \
+    ROW(masked_min_##name,                                                                        \
+        vb_masked_min_##name((const type *)values, n, WINDOW(mixed, LEFT)).value)                 \
+    ROW(masked_max_##name,                                                                        \
+        vb_masked_max_##name((const type *)values, n, WINDOW(mixed, LEFT)).value)
 #define TAKE_VALUES(name, type, at)                                                               \
     ROW(take_values_##name##_##at, vb_take_values_##name##_##at((type *)written, n,               \
         (const type *)values, n, indices_##at, n, NULLS).position)
@@ -151,6 +162,14 @@ FILTER(u32, uint32_t)
 FILTER(u64, uint64_t)
 FILTER(u128, vb_u128)
 ROW(filter_values, vb_filter_values(written, n, values, n, 4, WINDOW(mixed, LEFT)))
+AGGREGATE(u8, uint8_t)
+AGGREGATE(u16, uint16_t)
+AGGREGATE(u32, uint32_t)
+AGGREGATE(u64, uint64_t)
+AGGREGATE(i8, int8_t)
+AGGREGATE(i16, int16_t)
+AGGREGATE(i32, int32_t)
+AGGREGATE(i64, int64_t)
 TAKE(u8)
 TAKE(u16)
 TAKE(u32)
@@ -169,6 +188,9 @@ typedef struct {
 
 #define OF(name) {#name, row_##name},
 #define OF_COMPARE(name) OF(compare_##name) OF(compare_with_##name)
+#define OF_AGGREGATE(name)                                                                        \
+    OF(masked_sum_##name) OF(masked_checked_sum_##name) OF(masked_wrapping_sum_##name)            \
+    OF(masked_min_##name) OF(masked_max_##name)
 #define OF_TAKE(at)                                                                               \
     OF(take_bits_##at) OF(take_values_u8_##at) OF(take_values_u16_##at) OF(take_values_u32_##at)  \
     OF(take_values_u64_##at) OF(take_values_u128_##at)
@@ -186,8 +208,10 @@ static const row rows[] = {
     OF(or_kleene) OF_COMPARE(u8) OF_COMPARE(u16) OF_COMPARE(u32) OF_COMPARE(u64) OF_COMPARE(i8)
     OF_COMPARE(i16) OF_COMPARE(i32) OF_COMPARE(i64) OF_COMPARE(f32) OF_COMPARE(f64)
     OF(filter_values_u8) OF(filter_values_u16) OF(filter_values_u32) OF(filter_values_u64)
-    OF(filter_values_u128) OF(filter_values) OF_TAKE(u8) OF_TAKE(u16) OF_TAKE(u32) OF_TAKE(u64)
-    OF(take_values) OF(block_counts) OF(rank) OF(ranked_select) OF(ranked_select_unset)
+    OF(filter_values_u128) OF(filter_values) OF_AGGREGATE(u8) OF_AGGREGATE(u16) OF_AGGREGATE(u32)
+    OF_AGGREGATE(u64) OF_AGGREGATE(i8) OF_AGGREGATE(i16) OF_AGGREGATE(i32) OF_AGGREGATE(i64)
+    OF_TAKE(u8) OF_TAKE(u16) OF_TAKE(u32) OF_TAKE(u64) OF(take_values) OF(block_counts) OF(rank)
+    OF(ranked_select) OF(ranked_select_unset)
 };
 #define ROWS (sizeof rows / sizeof *rows)
 

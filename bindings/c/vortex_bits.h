@@ -115,6 +115,21 @@ typedef struct {
     size_t position;
 } vb_taken;
 
+/* A value of 16 bytes, or an unsigned number of 128 bits: low + high * 2^64. */
+typedef struct {
+    uint64_t low;
+    uint64_t high;
+} vb_u128;
+
+/*
+ * A signed number of 128 bits: low + high * 2^64. If `high` is 0, it is `low`; if it is negative, so
+ * is the number. With __int128 it is (__int128)((unsigned __int128)it.high << 64 | it.low).
+ */
+typedef struct {
+    uint64_t low;
+    int64_t high;
+} vb_i128;
+
 /*
  * Returns the bit at `offset`, which must be in the bytes.
  *
@@ -472,6 +487,7 @@ bool vb_has_level(void);
 }
 #endif
 
+#include "vortex_bits_aggregate.h"
 #include "vortex_bits_compare.h"
 #include "vortex_bits_gather.h"
 #include "vortex_bits_ranks.h"

@@ -11,12 +11,6 @@
 extern "C" {
 #endif
 
-/* A value of 16 bytes. */
-typedef struct {
-    uint64_t low;
-    uint64_t high;
-} vb_u128;
-
 /*
  * Writes the values whose bit of `mask`, from bit `mask_offset` on, is true, in order, to the front
  * of `out`, and returns their number (`written`). `out_count`, the capacity of `out`, must be at

@@ -5,10 +5,12 @@ and these have the same names and types.
 import re
 from dataclasses import dataclass
 
-from families.types import FLOATS, SIGNED, UNSIGNED
+from families.types import AGGREGATED, FLOATS, SIGNED, UNSIGNED
 
 OF_NUMBERS = {it.c: it.crossing for it in [*UNSIGNED, *SIGNED, *FLOATS] if it.c}
-TYPES = OF_NUMBERS | {"vb_place": "Place", "vb_taken": "Taken", "vb_run": "Run", "void": "()"}
+OPTIONAL = {f"vb_optional_{it}": f"Optional{it.camel}" for it in AGGREGATED}
+OTHERS = {"vb_place": "Place", "vb_taken": "Taken", "vb_run": "Run", "void": "()"}
+TYPES = OF_NUMBERS | OPTIONAL | OTHERS
 # Names of the crate's parameters of one letter, except the first letter of the window before.
 LETTERS = {"v": "value"}
 

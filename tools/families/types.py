@@ -63,7 +63,7 @@ class Number:
     @property
     def crossing(self) -> str:
         """The type of such a value in a call of C."""
-        return "Wide" if self.bits == 128 else self.name
+        return self.wide if self.bits == 128 else self.name
 
     @property
     def zero(self) -> str:
@@ -102,6 +102,31 @@ class Number:
         """Returns a value as an integer of contracts."""
         return value if self.is_signed else f"(pos {value})"
 
+    @property
+    def numbers(self) -> str:
+        """The function from values to integers of contracts."""
+        return "(λ x. x)" if self.is_signed else "pos"
+
+    @property
+    def range(self) -> str:
+        """The predicate of contracts that holds for the values of the type."""
+        return f"(FitsSigned w{self.bits})" if self.is_signed else f"(λ x. x < 2 ^ {self.bits})"
+
+    @property
+    def wrap(self) -> str:
+        """The function of contracts that wraps an integer around to a value of the type."""
+        return f"{'int_wrap' if self.is_signed else 'wrap_unsigned'} w{self.bits}"
+
+    @property
+    def total_c(self) -> str:
+        """That type in C."""
+        return f"vb_{self.total}"
+
+    @property
+    def wide(self) -> str:
+        """The type of a sum of any values in a call of C."""
+        return "SignedWide" if self.is_signed else "Wide"
+
 
 U8 = Number("u8", 8, "uint8_t", "usize::from(self).place()")
 U16 = Number("u16", 16, "uint16_t", "usize::from(self).place()")
@@ -113,7 +138,7 @@ I8 = Number("i8", 8, "int8_t", "i64::from(self).place()")
 I16 = Number("i16", 16, "int16_t", "i64::from(self).place()")
 I32 = Number("i32", 32, "int32_t", "i64::from(self).place()")
 I64 = Number("i64", 64, "int64_t", "usize::try_from(self).ok()")
-I128 = Number("i128", 128, "", "u128::try_from(self).ok()?.place()")
+I128 = Number("i128", 128, "vb_i128", "u128::try_from(self).ok()?.place()")
 ISIZE = Number("isize", 64, "", "(self as i64).place()")
 F32 = Number("f32", 32, "float")
 F64 = Number("f64", 64, "double")
@@ -127,6 +152,11 @@ WHOLE = {"unsigned": UNSIGNED, "signed": SIGNED}
 VALUES = [U8, U16, U32, U64, U128]
 INDICES = [U8, U16, U32, U64]
 COMPARED = [*INDICES, I8, I16, I32, I64, *FLOATS]
+# The types that C has sums of, and the same by the name of the file that has them.
+AGGREGATED = [it for it in COMPARED if not it.is_float]
+SUMMED = {name: [it for it in AGGREGATED if it in numbers] for name, numbers in WHOLE.items()}
+# The least and the greatest value: the name of the call, the word for it, and its definition.
+EXTREMES = [("min", "least", "LeastOf"), ("max", "greatest", "GreatestOf")]
 # The types that processors have vectors of.
 LANES = {name: [it for it in numbers if it.bits < 128] for name, numbers in WHOLE.items()}
 # The comparisons of floats, by the name of the call and by that of IEEE 754.

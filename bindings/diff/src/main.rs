@@ -6,6 +6,7 @@
 //! CALLS is how many calls are made at each level that there is code for, two million unless it is
 //! said.
 
+mod aggregate;
 mod ask;
 mod case;
 mod gather;
@@ -35,6 +36,7 @@ fn compare(case: &Case, random: &mut Random) -> Result<u64, String> {
     let calls = ask::compare(case)?
         + write::compare(case)?
         + gather::compare(case, random)?
+        + aggregate::compare(case, random)?
         + own::compare(case, random)?;
     #[cfg(feature = "upstream")]
     let calls = calls + upstream::compare(case)?;

@@ -3,6 +3,7 @@
 
 #[macro_use]
 mod call;
+mod aggregate;
 mod compare;
 mod filter;
 mod gather;
@@ -10,6 +11,7 @@ mod kleene;
 mod values;
 mod walk;
 
+pub use aggregate::{masked_checked_sum, masked_max, masked_min, masked_sum, masked_wrapping_sum};
 pub use compare::{compare, compare_with};
 pub use filter::{filter, keep};
 pub use gather::{pack_bools, pack_truthy, take};

@@ -1,6 +1,6 @@
 //! Functions over windows of bits in byte slices, least significant bit first. They count, search,
 //! compare, iterate over, fill, negate, copy, combine, pack, take (gather), filter and rank bits.
-//! [`values`] filters, compares and takes values.
+//! [`values`] filters, compares, takes and sums values, and finds their minimum and maximum.
 //!
 //! ```
 //! use vortex_bits::{Bitmap, Bits, Comparison, values};
@@ -34,8 +34,9 @@
 //! against loops over single bits:
 //!
 //! - single bits, other windows of at most 64, values at up to 16 indices, and types of values and
-//!   indices that [`Value`], [`Compare`] and [`BitIndex`] exclude;
+//!   indices that [`Value`], [`Compare`], [`Summand`] and [`BitIndex`] exclude;
 //! - code that joins calls: `fill_with`, and the blocks that iterators fill;
+//! - sums, minimum and maximum without a mask;
 //! - iterators over false bits and from the end, the building and growth of bitmaps, [`Validity`],
 //!   and `arrow`;
 //! - everything on other targets, under Miri, and if the archives of those functions are missing at
@@ -67,6 +68,7 @@ extern crate alloc;
 #[cfg(feature = "std")]
 extern crate std;
 
+mod aggregate;
 #[cfg(feature = "arrow")]
 #[allow(unsafe_code, reason = "the structs of the interface have pointers")]
 pub mod arrow;
@@ -102,6 +104,7 @@ mod value;
 pub mod values;
 mod written;
 
+pub use aggregate::{Summand, WideSummand};
 #[cfg(feature = "alloc")]
 pub use bitmap::{Bitmap, BitmapMut};
 pub use bits::Bits;

@@ -9,7 +9,8 @@
 //! - Windows are in bounds of their bytes, and end at a `usize`.
 //! - Windows of takes and packs have one bit per item. The output of a filter has one bit or item
 //!   per selected one. There is space for a value at each index. There is a bit of validity per
-//!   index, unless all are valid. A deposit has one bit per set bit of its mask.
+//!   index, unless all are valid. A deposit has one bit per set bit of its mask. The mask of a sum,
+//!   a minimum or a maximum has one bit per value.
 //! - A comparison is a number below 6, and there are as many others as values.
 //! - A table has one entry per block of 512 bits of the window, with any contents.
 //! - The processor has the level.
@@ -78,12 +79,61 @@ pub type CompareNumber<T> = unsafe extern "C" fn(*mut u8, usize, usize, *const T
 pub type CompareOthers<T> =
     unsafe extern "C" fn(*mut u8, usize, usize, *const T, usize, u8, *const T, usize);
 
-/// A value of 16 bytes.
+/// A call on values and their mask: what it returns of those whose bit is true.
+pub type Masked<T, R> = unsafe extern "C" fn(*const T, usize, *const u8, usize, usize) -> R;
+
+/// A value of 16 bytes, or an unsigned sum: `low + high * 2^64`.
 #[repr(C)]
 pub struct Wide {
     low: u64,
     high: u64,
 }
+
+impl From<Wide> for u128 {
+    #[inline]
+    fn from(wide: Wide) -> u128 {
+        u128::from(wide.high) << 64 | u128::from(wide.low)
+    }
+}
+
+/// A signed sum: `low + high * 2^64`.
+#[repr(C)]
+pub struct SignedWide {
+    low: u64,
+    high: i64,
+}
+
+impl From<SignedWide> for i128 {
+    #[inline]
+    fn from(wide: SignedWide) -> i128 {
+        i128::from(wide.high) << 64 | i128::from(wide.low)
+    }
+}
+
+/// A value, or none: `value` says something only where `has_value` is true.
+#[repr(C)]
+pub struct Optional<T> {
+    has_value: bool,
+    value: T,
+}
+
+impl<T> From<Optional<T>> for Option<T> {
+    #[inline]
+    fn from(optional: Optional<T>) -> Option<T> {
+        optional.has_value.then_some(optional.value)
+    }
+}
+
+// Written by tools/write-lists from tools/families/masked_sums.txt.
+pub type OptionalU8 = Optional<u8>;
+pub type OptionalU16 = Optional<u16>;
+pub type OptionalU32 = Optional<u32>;
+pub type OptionalU64 = Optional<u64>;
+pub type OptionalI8 = Optional<i8>;
+pub type OptionalI16 = Optional<i16>;
+pub type OptionalI32 = Optional<i32>;
+pub type OptionalI64 = Optional<i64>;
+// To here.
 
 macro_rules! kernels {
     (@level $table:ident $level:literal
@@ -181,6 +231,86 @@ kernels! {
     and_not_into(out: *mut u8, out_size: usize, out_offset: usize, left: *const u8,
         left_size: usize, left_offset: usize, right: *const u8, right_size: usize,
         right_offset: usize, len: usize);
+    masked_sum_u8(values: *const u8, values_count: usize, mask: *const u8, mask_size: usize,
+        mask_offset: usize) -> Wide;
+    masked_sum_u16(values: *const u16, values_count: usize, mask: *const u8, mask_size: usize,
+        mask_offset: usize) -> Wide;
+    masked_sum_u32(values: *const u32, values_count: usize, mask: *const u8, mask_size: usize,
+        mask_offset: usize) -> Wide;
+    masked_sum_u64(values: *const u64, values_count: usize, mask: *const u8, mask_size: usize,
+        mask_offset: usize) -> Wide;
+    masked_sum_i8(values: *const i8, values_count: usize, mask: *const u8, mask_size: usize,
+        mask_offset: usize) -> SignedWide;
+    masked_sum_i16(values: *const i16, values_count: usize, mask: *const u8, mask_size: usize,
+        mask_offset: usize) -> SignedWide;
+    masked_sum_i32(values: *const i32, values_count: usize, mask: *const u8, mask_size: usize,
+        mask_offset: usize) -> SignedWide;
+    masked_sum_i64(values: *const i64, values_count: usize, mask: *const u8, mask_size: usize,
+        mask_offset: usize) -> SignedWide;
+    masked_checked_sum_u8(values: *const u8, values_count: usize, mask: *const u8, mask_size: usize,
+        mask_offset: usize) -> OptionalU8;
+    masked_checked_sum_u16(values: *const u16, values_count: usize, mask: *const u8,
+        mask_size: usize, mask_offset: usize) -> OptionalU16;
+    masked_checked_sum_u32(values: *const u32, values_count: usize, mask: *const u8,
+        mask_size: usize, mask_offset: usize) -> OptionalU32;
+    masked_checked_sum_u64(values: *const u64, values_count: usize, mask: *const u8,
+        mask_size: usize, mask_offset: usize) -> OptionalU64;
+    masked_checked_sum_i8(values: *const i8, values_count: usize, mask: *const u8, mask_size: usize,
+        mask_offset: usize) -> OptionalI8;
+    masked_checked_sum_i16(values: *const i16, values_count: usize, mask: *const u8,
+        mask_size: usize, mask_offset: usize) -> OptionalI16;
+    masked_checked_sum_i32(values: *const i32, values_count: usize, mask: *const u8,
+        mask_size: usize, mask_offset: usize) -> OptionalI32;
+    masked_checked_sum_i64(values: *const i64, values_count: usize, mask: *const u8,
+        mask_size: usize, mask_offset: usize) -> OptionalI64;
+    masked_wrapping_sum_u8(values: *const u8, values_count: usize, mask: *const u8,
+        mask_size: usize, mask_offset: usize) -> u8;
+    masked_wrapping_sum_u16(values: *const u16, values_count: usize, mask: *const u8,
+        mask_size: usize, mask_offset: usize) -> u16;
+    masked_wrapping_sum_u32(values: *const u32, values_count: usize, mask: *const u8,
+        mask_size: usize, mask_offset: usize) -> u32;
+    masked_wrapping_sum_u64(values: *const u64, values_count: usize, mask: *const u8,
+        mask_size: usize, mask_offset: usize) -> u64;
+    masked_wrapping_sum_i8(values: *const i8, values_count: usize, mask: *const u8,
+        mask_size: usize, mask_offset: usize) -> i8;
+    masked_wrapping_sum_i16(values: *const i16, values_count: usize, mask: *const u8,
+        mask_size: usize, mask_offset: usize) -> i16;
+    masked_wrapping_sum_i32(values: *const i32, values_count: usize, mask: *const u8,
+        mask_size: usize, mask_offset: usize) -> i32;
+    masked_wrapping_sum_i64(values: *const i64, values_count: usize, mask: *const u8,
+        mask_size: usize, mask_offset: usize) -> i64;
+    masked_min_u8(values: *const u8, values_count: usize, mask: *const u8, mask_size: usize,
+        mask_offset: usize) -> OptionalU8;
+    masked_min_u16(values: *const u16, values_count: usize, mask: *const u8, mask_size: usize,
+        mask_offset: usize) -> OptionalU16;
+    masked_min_u32(values: *const u32, values_count: usize, mask: *const u8, mask_size: usize,
+        mask_offset: usize) -> OptionalU32;
+    masked_min_u64(values: *const u64, values_count: usize, mask: *const u8, mask_size: usize,
+        mask_offset: usize) -> OptionalU64;
+    masked_min_i8(values: *const i8, values_count: usize, mask: *const u8, mask_size: usize,
+        mask_offset: usize) -> OptionalI8;
+    masked_min_i16(values: *const i16, values_count: usize, mask: *const u8, mask_size: usize,
+        mask_offset: usize) -> OptionalI16;
+    masked_min_i32(values: *const i32, values_count: usize, mask: *const u8, mask_size: usize,
+        mask_offset: usize) -> OptionalI32;
+    masked_min_i64(values: *const i64, values_count: usize, mask: *const u8, mask_size: usize,
+        mask_offset: usize) -> OptionalI64;
+    masked_max_u8(values: *const u8, values_count: usize, mask: *const u8, mask_size: usize,
+        mask_offset: usize) -> OptionalU8;
+    masked_max_u16(values: *const u16, values_count: usize, mask: *const u8, mask_size: usize,
+        mask_offset: usize) -> OptionalU16;
+    masked_max_u32(values: *const u32, values_count: usize, mask: *const u8, mask_size: usize,
+        mask_offset: usize) -> OptionalU32;
+    masked_max_u64(values: *const u64, values_count: usize, mask: *const u8, mask_size: usize,
+        mask_offset: usize) -> OptionalU64;
+    masked_max_i8(values: *const i8, values_count: usize, mask: *const u8, mask_size: usize,
+        mask_offset: usize) -> OptionalI8;
+    masked_max_i16(values: *const i16, values_count: usize, mask: *const u8, mask_size: usize,
+        mask_offset: usize) -> OptionalI16;
+    masked_max_i32(values: *const i32, values_count: usize, mask: *const u8, mask_size: usize,
+        mask_offset: usize) -> OptionalI32;
+    masked_max_i64(values: *const i64, values_count: usize, mask: *const u8, mask_size: usize,
+        mask_offset: usize) -> OptionalI64;
     compare_u8(out: *mut u8, out_size: usize, out_offset: usize, values: *const u8,
         values_count: usize, op: u8, number: u8);
     compare_u16(out: *mut u8, out_size: usize, out_offset: usize, values: *const u16,

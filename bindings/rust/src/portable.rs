@@ -2,6 +2,7 @@
 //! code, and for windows of one word. They keep the promises of the proved code, but are not
 //! proved. Nothing here is `unsafe`.
 
+mod aggregate;
 mod compare;
 mod count;
 mod filter;
@@ -12,6 +13,7 @@ mod walk;
 mod word;
 mod write;
 
+pub use aggregate::*;
 pub use compare::*;
 pub use count::*;
 pub use filter::*;

@@ -1,6 +1,7 @@
 //! Functions over slices of values. `take_into` writes values at indices to a slice, and `take` to
-//! a new `Vec`. `filter` selects values by a mask. `compare` compares values, into bits.
-//! `and_kleene` and `or_kleene` combine truth values that may be null.
+//! a new `Vec`. `filter` selects values by a mask. `masked_sum`, `masked_min` and `masked_max`
+//! return the sum, the minimum and the maximum of the selected values. `compare` compares values,
+//! into bits. `and_kleene` and `or_kleene` combine truth values that may be null.
 //!
 //! Each take has a form with a validity for the indices, and a `try_` form that returns an error
 //! instead of a panic.
@@ -20,6 +21,9 @@ use alloc::vec;
 #[cfg(feature = "alloc")]
 use alloc::vec::Vec;
 
+pub use crate::aggregate::{
+    masked_checked_sum, masked_max, masked_min, masked_sum, masked_wrapping_sum,
+};
 #[cfg(feature = "alloc")]
 pub use crate::compare::{compare, compare_with};
 pub use crate::compare::{compare_into, compare_with_into};

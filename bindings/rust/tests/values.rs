@@ -1,4 +1,4 @@
-//! Values at indices and under masks: what is refused, of which widths, and what stays.
+//! Values at indices and under masks: what is refused, of which widths, what stays, and sums.
 use support::panics;
 use vortex_bits::*;
 
@@ -84,4 +84,45 @@ fn values_that_a_mask_keeps_are_added_behind_others() {
     let text = panics(|| values::filter_onto(&[1], mask, &mut kept));
     assert_eq!(text.as_deref(), Some("a mask of 4 bits for 1"));
     assert_eq!(kept.len(), 7);
+}
+
+#[test]
+fn values_under_a_mask_are_summed_and_ordered() {
+    let all: Vec<i64> = (0..200).map(|row| row * 7919 % 1000 - 500).collect();
+    for len in 0..=all.len() {
+        let column = &all[..len];
+        for step in [1, 2, 40, 300] {
+            let mask: Bitmap = (0..len).map(|row| row % step == step / 2).collect();
+            let chosen: Vec<i64> = mask.set_indices().map(|row| column[row]).collect();
+            let sum: i64 = chosen.iter().sum();
+            assert_eq!(values::masked_sum(column, &mask), i128::from(sum));
+            assert_eq!(values::masked_checked_sum(column, &mask), Some(sum));
+            assert_eq!(values::masked_wrapping_sum(column, &mask), sum);
+            let ends = (chosen.iter().min(), chosen.iter().max());
+            assert_eq!(values::masked_min(column, &mask).as_ref(), ends.0);
+            assert_eq!(values::masked_max(column, &mask).as_ref(), ends.1);
+        }
+    }
+}
+
+#[test]
+fn sums_past_the_end_of_their_type() {
+    let (mask, none) = (Bits::new(&[0xFF; 9], 1, 70), Bits::new(&[0; 9], 1, 70));
+    let most = [u64::MAX; 70];
+    assert_eq!(values::masked_sum(&most, mask), 70 * u128::from(u64::MAX));
+    assert_eq!(values::masked_checked_sum(&most, mask), None);
+    assert_eq!(values::masked_wrapping_sum(&most, mask), u64::MAX - 69);
+    assert_eq!(values::masked_checked_sum(&most, none), Some(0));
+    assert_eq!(values::masked_max(&most, none), None);
+    let turning: [i8; 70] = std::array::from_fn(|row| if row < 35 { 127 } else { -128 });
+    for mask in [Some(mask), None] {
+        assert_eq!(values::masked_sum(&turning, mask), -35);
+        assert_eq!(values::masked_checked_sum(&turning, mask), Some(-35));
+        assert_eq!(values::masked_min(&turning, mask), Some(-128));
+    }
+    let wide = [u128::MAX, 2];
+    assert_eq!(values::masked_wrapping_sum(&wide, None::<Bits<'_>>), 1);
+    assert_eq!(values::masked_min(&[0i128; 0], None::<Bits<'_>>), None);
+    let text = panics(|| _ = values::masked_sum(&most, mask.slice(0..69)));
+    assert_eq!(text.as_deref(), Some("a mask of 69 bits for 70"));
 }

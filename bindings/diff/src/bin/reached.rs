@@ -71,6 +71,13 @@ const ROWS: &[Row] = &[
     ("compare_with", 1, |n| {
         _ = values::compare_with(&vec![1.0; n], Comparison::Less, &vec![2.0; n]);
     }),
+    ("masked_sum", 65, |n| _ = values::masked_sum(&vec![1i8; n], left(n))),
+    ("masked_checked_sum", 65, |n| _ = values::masked_checked_sum(&vec![1u16; n], left(n))),
+    ("masked_wrapping_sum", 65, |n| _ = values::masked_wrapping_sum(&vec![1; n], left(n))),
+    ("masked_min", 65, |n| _ = values::masked_min(&vec![1usize; n], left(n))),
+    ("masked_max", 65, |n| _ = values::masked_max(&vec![1isize; n], left(n))),
+    ("masked_max without a mask", NEVER, |n| _ = values::masked_max(&vec![1; n], None::<Bits>)),
+    ("masked_min of wide numbers", NEVER, |n| _ = values::masked_min(&vec![1u128; n], left(n))),
     ("Ranks::new", 1, |n| _ = Ranks::new(left(n), &mut [0; 9])),
     ("rank", 1, |n| _ = Ranks::with_table(left(n), &[0; 9]).rank(1)),
     ("Ranks::select", 1, |n| _ = Ranks::with_table(left(n), &[0; 9]).select(0)),

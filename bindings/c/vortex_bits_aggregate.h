@@ -1,0 +1,241 @@
+/*
+ * Sum, minimum and maximum of the values that a mask selects. vortex_bits.h includes this file; its
+ * first comment states what the caller must ensure for every call.
+ *
+ * Value k is selected if bit `mask_offset + k` of `mask` is set; the mask must have one bit for each
+ * of the `values_count` values. Each call processes 64 values at a time, skips them if none is
+ * selected, and doesn't look at single bits if all are.
+ */
+#ifndef VORTEX_BITS_AGGREGATE_H
+#define VORTEX_BITS_AGGREGATE_H
+
+#include "vortex_bits.h"
+
+#ifdef __cplusplus
+extern "C" {
+#endif
+
+/* A value, or none: `value` is meaningful only if `has_value` is true. */
+/* Written by tools/write-lists from tools/families/masked_sums.txt. */
+typedef struct { bool has_value; uint8_t value; } vb_optional_u8;
+typedef struct { bool has_value; uint16_t value; } vb_optional_u16;
+typedef struct { bool has_value; uint32_t value; } vb_optional_u32;
+typedef struct { bool has_value; uint64_t value; } vb_optional_u64;
+typedef struct { bool has_value; int8_t value; } vb_optional_i8;
+typedef struct { bool has_value; int16_t value; } vb_optional_i16;
+typedef struct { bool has_value; int32_t value; } vb_optional_i32;
+typedef struct { bool has_value; int64_t value; } vb_optional_i64;
+/* To here. */
+
+/*
+ * Returns the exact sum of the selected values, 0 if there are none. It can't overflow.
+ *
+ *     const int32_t prices[] = {2000000000, -5, 2000000000, 7};
+ *     const uint8_t mask[] = {0x05};
+ *     vb_i128 sum = vb_masked_sum_i32(prices, 4, mask, 1, 0);
+ *     assert(sum.low == 4000000000 && sum.high == 0);
+ *     assert(vb_masked_sum_i32(prices + 1, 1, mask, 1, 0).high == -1);    // low is 2^64 - 5
+ *     assert(!vb_try_masked_sum_i32(prices, 4, mask, 1, 5, &sum));    // the mask ends too soon
+ */
+/* Written by tools/write-lists from tools/families/masked_sums.txt. */
+vb_u128 vb_masked_sum_u8(const uint8_t *values, size_t values_count, const uint8_t *mask,
+        size_t mask_size, size_t mask_offset);
+VB_CHECKED bool vb_try_masked_sum_u8(const uint8_t *values, size_t values_count,
+        const uint8_t *mask, size_t mask_size, size_t mask_offset, vb_u128 *sum);
+vb_u128 vb_masked_sum_u16(const uint16_t *values, size_t values_count, const uint8_t *mask,
+        size_t mask_size, size_t mask_offset);
+VB_CHECKED bool vb_try_masked_sum_u16(const uint16_t *values, size_t values_count,
+        const uint8_t *mask, size_t mask_size, size_t mask_offset, vb_u128 *sum);
+vb_u128 vb_masked_sum_u32(const uint32_t *values, size_t values_count, const uint8_t *mask,
+        size_t mask_size, size_t mask_offset);
+VB_CHECKED bool vb_try_masked_sum_u32(const uint32_t *values, size_t values_count,
+        const uint8_t *mask, size_t mask_size, size_t mask_offset, vb_u128 *sum);
+vb_u128 vb_masked_sum_u64(const uint64_t *values, size_t values_count, const uint8_t *mask,
+        size_t mask_size, size_t mask_offset);
+VB_CHECKED bool vb_try_masked_sum_u64(const uint64_t *values, size_t values_count,
+        const uint8_t *mask, size_t mask_size, size_t mask_offset, vb_u128 *sum);
+vb_i128 vb_masked_sum_i8(const int8_t *values, size_t values_count, const uint8_t *mask,
+        size_t mask_size, size_t mask_offset);
+VB_CHECKED bool vb_try_masked_sum_i8(const int8_t *values, size_t values_count, const uint8_t *mask,
+        size_t mask_size, size_t mask_offset, vb_i128 *sum);
+vb_i128 vb_masked_sum_i16(const int16_t *values, size_t values_count, const uint8_t *mask,
+        size_t mask_size, size_t mask_offset);
+VB_CHECKED bool vb_try_masked_sum_i16(const int16_t *values, size_t values_count,
+        const uint8_t *mask, size_t mask_size, size_t mask_offset, vb_i128 *sum);
+vb_i128 vb_masked_sum_i32(const int32_t *values, size_t values_count, const uint8_t *mask,
+        size_t mask_size, size_t mask_offset);
+VB_CHECKED bool vb_try_masked_sum_i32(const int32_t *values, size_t values_count,
+        const uint8_t *mask, size_t mask_size, size_t mask_offset, vb_i128 *sum);
+vb_i128 vb_masked_sum_i64(const int64_t *values, size_t values_count, const uint8_t *mask,
+        size_t mask_size, size_t mask_offset);
+VB_CHECKED bool vb_try_masked_sum_i64(const int64_t *values, size_t values_count,
+        const uint8_t *mask, size_t mask_size, size_t mask_offset, vb_i128 *sum);
+/* To here. */
+
+/*
+ * Returns the sum of the selected values, or no value if it is out of the range of their type;
+ * partial sums may be.
+ *
+ *     const uint8_t counts[] = {200, 50, 6};
+ *     const uint8_t mask[] = {0x07};
+ *     assert(vb_masked_checked_sum_u8(counts, 2, mask, 1, 0).value == 250);
+ *     assert(!vb_masked_checked_sum_u8(counts, 3, mask, 1, 0).has_value);
+ */
+/* Written by tools/write-lists from tools/families/masked_sums.txt. */
+vb_optional_u8 vb_masked_checked_sum_u8(const uint8_t *values, size_t values_count,
+        const uint8_t *mask, size_t mask_size, size_t mask_offset);
+VB_CHECKED bool vb_try_masked_checked_sum_u8(const uint8_t *values, size_t values_count,
+        const uint8_t *mask, size_t mask_size, size_t mask_offset, vb_optional_u8 *sum);
+vb_optional_u16 vb_masked_checked_sum_u16(const uint16_t *values, size_t values_count,
+        const uint8_t *mask, size_t mask_size, size_t mask_offset);
+VB_CHECKED bool vb_try_masked_checked_sum_u16(const uint16_t *values, size_t values_count,
+        const uint8_t *mask, size_t mask_size, size_t mask_offset, vb_optional_u16 *sum);
+vb_optional_u32 vb_masked_checked_sum_u32(const uint32_t *values, size_t values_count,
+        const uint8_t *mask, size_t mask_size, size_t mask_offset);
+VB_CHECKED bool vb_try_masked_checked_sum_u32(const uint32_t *values, size_t values_count,
+        const uint8_t *mask, size_t mask_size, size_t mask_offset, vb_optional_u32 *sum);
+vb_optional_u64 vb_masked_checked_sum_u64(const uint64_t *values, size_t values_count,
+        const uint8_t *mask, size_t mask_size, size_t mask_offset);
+VB_CHECKED bool vb_try_masked_checked_sum_u64(const uint64_t *values, size_t values_count,
+        const uint8_t *mask, size_t mask_size, size_t mask_offset, vb_optional_u64 *sum);
+vb_optional_i8 vb_masked_checked_sum_i8(const int8_t *values, size_t values_count,
+        const uint8_t *mask, size_t mask_size, size_t mask_offset);
+VB_CHECKED bool vb_try_masked_checked_sum_i8(const int8_t *values, size_t values_count,
+        const uint8_t *mask, size_t mask_size, size_t mask_offset, vb_optional_i8 *sum);
+vb_optional_i16 vb_masked_checked_sum_i16(const int16_t *values, size_t values_count,
+        const uint8_t *mask, size_t mask_size, size_t mask_offset);
+VB_CHECKED bool vb_try_masked_checked_sum_i16(const int16_t *values, size_t values_count,
+        const uint8_t *mask, size_t mask_size, size_t mask_offset, vb_optional_i16 *sum);
+vb_optional_i32 vb_masked_checked_sum_i32(const int32_t *values, size_t values_count,
+        const uint8_t *mask, size_t mask_size, size_t mask_offset);
+VB_CHECKED bool vb_try_masked_checked_sum_i32(const int32_t *values, size_t values_count,
+        const uint8_t *mask, size_t mask_size, size_t mask_offset, vb_optional_i32 *sum);
+vb_optional_i64 vb_masked_checked_sum_i64(const int64_t *values, size_t values_count,
+        const uint8_t *mask, size_t mask_size, size_t mask_offset);
+VB_CHECKED bool vb_try_masked_checked_sum_i64(const int64_t *values, size_t values_count,
+        const uint8_t *mask, size_t mask_size, size_t mask_offset, vb_optional_i64 *sum);
+/* To here. */
+
+/*
+ * Returns the sum of the selected values, wrapped around at the end of their type.
+ *
+ *     const uint8_t counts[] = {200, 50, 10};
+ *     const uint8_t mask[] = {0x07};
+ *     assert(vb_masked_wrapping_sum_u8(counts, 3, mask, 1, 0) == 4);
+ */
+/* Written by tools/write-lists from tools/families/masked_sums.txt. */
+uint8_t vb_masked_wrapping_sum_u8(const uint8_t *values, size_t values_count, const uint8_t *mask,
+        size_t mask_size, size_t mask_offset);
+VB_CHECKED bool vb_try_masked_wrapping_sum_u8(const uint8_t *values, size_t values_count,
+        const uint8_t *mask, size_t mask_size, size_t mask_offset, uint8_t *sum);
+uint16_t vb_masked_wrapping_sum_u16(const uint16_t *values, size_t values_count,
+        const uint8_t *mask, size_t mask_size, size_t mask_offset);
+VB_CHECKED bool vb_try_masked_wrapping_sum_u16(const uint16_t *values, size_t values_count,
+        const uint8_t *mask, size_t mask_size, size_t mask_offset, uint16_t *sum);
+uint32_t vb_masked_wrapping_sum_u32(const uint32_t *values, size_t values_count,
+        const uint8_t *mask, size_t mask_size, size_t mask_offset);
+VB_CHECKED bool vb_try_masked_wrapping_sum_u32(const uint32_t *values, size_t values_count,
+        const uint8_t *mask, size_t mask_size, size_t mask_offset, uint32_t *sum);
+uint64_t vb_masked_wrapping_sum_u64(const uint64_t *values, size_t values_count,
+        const uint8_t *mask, size_t mask_size, size_t mask_offset);
+VB_CHECKED bool vb_try_masked_wrapping_sum_u64(const uint64_t *values, size_t values_count,
+        const uint8_t *mask, size_t mask_size, size_t mask_offset, uint64_t *sum);
+int8_t vb_masked_wrapping_sum_i8(const int8_t *values, size_t values_count, const uint8_t *mask,
+        size_t mask_size, size_t mask_offset);
+VB_CHECKED bool vb_try_masked_wrapping_sum_i8(const int8_t *values, size_t values_count,
+        const uint8_t *mask, size_t mask_size, size_t mask_offset, int8_t *sum);
+int16_t vb_masked_wrapping_sum_i16(const int16_t *values, size_t values_count, const uint8_t *mask,
+        size_t mask_size, size_t mask_offset);
+VB_CHECKED bool vb_try_masked_wrapping_sum_i16(const int16_t *values, size_t values_count,
+        const uint8_t *mask, size_t mask_size, size_t mask_offset, int16_t *sum);
+int32_t vb_masked_wrapping_sum_i32(const int32_t *values, size_t values_count, const uint8_t *mask,
+        size_t mask_size, size_t mask_offset);
+VB_CHECKED bool vb_try_masked_wrapping_sum_i32(const int32_t *values, size_t values_count,
+        const uint8_t *mask, size_t mask_size, size_t mask_offset, int32_t *sum);
+int64_t vb_masked_wrapping_sum_i64(const int64_t *values, size_t values_count, const uint8_t *mask,
+        size_t mask_size, size_t mask_offset);
+VB_CHECKED bool vb_try_masked_wrapping_sum_i64(const int64_t *values, size_t values_count,
+        const uint8_t *mask, size_t mask_size, size_t mask_offset, int64_t *sum);
+/* To here. */
+
+/*
+ * Returns the minimum or the maximum of the selected values, or no value if none is selected.
+ *
+ *     const int16_t degrees[] = {-40, 21, 3, 18};
+ *     const uint8_t mask[] = {0x0E};
+ *     assert(vb_masked_min_i16(degrees, 4, mask, 1, 0).value == 3);
+ *     assert(vb_masked_max_i16(degrees, 4, mask, 1, 0).value == 21);
+ *     assert(!vb_masked_max_i16(degrees, 1, mask, 1, 0).has_value);
+ */
+/* Written by tools/write-lists from tools/families/masked_extremes.txt. */
+vb_optional_u8 vb_masked_min_u8(const uint8_t *values, size_t values_count, const uint8_t *mask,
+        size_t mask_size, size_t mask_offset);
+VB_CHECKED bool vb_try_masked_min_u8(const uint8_t *values, size_t values_count,
+        const uint8_t *mask, size_t mask_size, size_t mask_offset, vb_optional_u8 *least);
+vb_optional_u16 vb_masked_min_u16(const uint16_t *values, size_t values_count, const uint8_t *mask,
+        size_t mask_size, size_t mask_offset);
+VB_CHECKED bool vb_try_masked_min_u16(const uint16_t *values, size_t values_count,
+        const uint8_t *mask, size_t mask_size, size_t mask_offset, vb_optional_u16 *least);
+vb_optional_u32 vb_masked_min_u32(const uint32_t *values, size_t values_count, const uint8_t *mask,
+        size_t mask_size, size_t mask_offset);
+VB_CHECKED bool vb_try_masked_min_u32(const uint32_t *values, size_t values_count,
+        const uint8_t *mask, size_t mask_size, size_t mask_offset, vb_optional_u32 *least);
+vb_optional_u64 vb_masked_min_u64(const uint64_t *values, size_t values_count, const uint8_t *mask,
+        size_t mask_size, size_t mask_offset);
+VB_CHECKED bool vb_try_masked_min_u64(const uint64_t *values, size_t values_count,
+        const uint8_t *mask, size_t mask_size, size_t mask_offset, vb_optional_u64 *least);
+vb_optional_i8 vb_masked_min_i8(const int8_t *values, size_t values_count, const uint8_t *mask,
+        size_t mask_size, size_t mask_offset);
+VB_CHECKED bool vb_try_masked_min_i8(const int8_t *values, size_t values_count, const uint8_t *mask,
+        size_t mask_size, size_t mask_offset, vb_optional_i8 *least);
+vb_optional_i16 vb_masked_min_i16(const int16_t *values, size_t values_count, const uint8_t *mask,
+        size_t mask_size, size_t mask_offset);
+VB_CHECKED bool vb_try_masked_min_i16(const int16_t *values, size_t values_count,
+        const uint8_t *mask, size_t mask_size, size_t mask_offset, vb_optional_i16 *least);
+vb_optional_i32 vb_masked_min_i32(const int32_t *values, size_t values_count, const uint8_t *mask,
+        size_t mask_size, size_t mask_offset);
+VB_CHECKED bool vb_try_masked_min_i32(const int32_t *values, size_t values_count,
+        const uint8_t *mask, size_t mask_size, size_t mask_offset, vb_optional_i32 *least);
+vb_optional_i64 vb_masked_min_i64(const int64_t *values, size_t values_count, const uint8_t *mask,
+        size_t mask_size, size_t mask_offset);
+VB_CHECKED bool vb_try_masked_min_i64(const int64_t *values, size_t values_count,
+        const uint8_t *mask, size_t mask_size, size_t mask_offset, vb_optional_i64 *least);
+vb_optional_u8 vb_masked_max_u8(const uint8_t *values, size_t values_count, const uint8_t *mask,
+        size_t mask_size, size_t mask_offset);
+VB_CHECKED bool vb_try_masked_max_u8(const uint8_t *values, size_t values_count,
+        const uint8_t *mask, size_t mask_size, size_t mask_offset, vb_optional_u8 *greatest);
+vb_optional_u16 vb_masked_max_u16(const uint16_t *values, size_t values_count, const uint8_t *mask,
+        size_t mask_size, size_t mask_offset);
+VB_CHECKED bool vb_try_masked_max_u16(const uint16_t *values, size_t values_count,
+        const uint8_t *mask, size_t mask_size, size_t mask_offset, vb_optional_u16 *greatest);
+vb_optional_u32 vb_masked_max_u32(const uint32_t *values, size_t values_count, const uint8_t *mask,
+        size_t mask_size, size_t mask_offset);
+VB_CHECKED bool vb_try_masked_max_u32(const uint32_t *values, size_t values_count,
+        const uint8_t *mask, size_t mask_size, size_t mask_offset, vb_optional_u32 *greatest);
+vb_optional_u64 vb_masked_max_u64(const uint64_t *values, size_t values_count, const uint8_t *mask,
+        size_t mask_size, size_t mask_offset);
+VB_CHECKED bool vb_try_masked_max_u64(const uint64_t *values, size_t values_count,
+        const uint8_t *mask, size_t mask_size, size_t mask_offset, vb_optional_u64 *greatest);
+vb_optional_i8 vb_masked_max_i8(const int8_t *values, size_t values_count, const uint8_t *mask,
+        size_t mask_size, size_t mask_offset);
+VB_CHECKED bool vb_try_masked_max_i8(const int8_t *values, size_t values_count, const uint8_t *mask,
+        size_t mask_size, size_t mask_offset, vb_optional_i8 *greatest);
+vb_optional_i16 vb_masked_max_i16(const int16_t *values, size_t values_count, const uint8_t *mask,
+        size_t mask_size, size_t mask_offset);
+VB_CHECKED bool vb_try_masked_max_i16(const int16_t *values, size_t values_count,
+        const uint8_t *mask, size_t mask_size, size_t mask_offset, vb_optional_i16 *greatest);
+vb_optional_i32 vb_masked_max_i32(const int32_t *values, size_t values_count, const uint8_t *mask,
+        size_t mask_size, size_t mask_offset);
+VB_CHECKED bool vb_try_masked_max_i32(const int32_t *values, size_t values_count,
+        const uint8_t *mask, size_t mask_size, size_t mask_offset, vb_optional_i32 *greatest);
+vb_optional_i64 vb_masked_max_i64(const int64_t *values, size_t values_count, const uint8_t *mask,
+        size_t mask_size, size_t mask_offset);
+VB_CHECKED bool vb_try_masked_max_i64(const int64_t *values, size_t values_count,
+        const uint8_t *mask, size_t mask_size, size_t mask_offset, vb_optional_i64 *greatest);
+/* To here. */
+
+#ifdef __cplusplus
+}
+#endif
+
+#endif

@@ -1,0 +1,76 @@
+//! Sums, minimum and maximum of values, 64 at a time.
+
+use super::word::words;
+use crate::Bits;
+use crate::aggregate::{Summand, WideSummand};
+
+pub fn masked_sum<T: WideSummand>(values: &[T], mask: Option<Bits<'_>>) -> T::Total {
+    fold(values, mask, T::NOTHING, T::plus)
+}
+
+pub fn masked_checked_sum<T: WideSummand>(values: &[T], mask: Option<Bits<'_>>) -> Option<T> {
+    T::narrow(masked_sum(values, mask))
+}
+
+pub fn masked_wrapping_sum<T: Summand>(values: &[T], mask: Option<Bits<'_>>) -> T {
+    fold(values, mask, T::ZERO, T::wrapping_plus)
+}
+
+pub fn masked_min<T: Summand>(values: &[T], mask: Option<Bits<'_>>) -> Option<T> {
+    from_first(values, mask, Ord::min)
+}
+
+pub fn masked_max<T: Summand>(values: &[T], mask: Option<Bits<'_>>) -> Option<T> {
+    from_first(values, mask, Ord::max)
+}
+
+/// Returns the first value, after `add` has added the others to it.
+#[inline]
+fn from_first<T: Copy>(
+    values: &[T],
+    mask: Option<Bits<'_>>,
+    add: impl Fn(T, T) -> T + Copy,
+) -> Option<T> {
+    let first = mask.map_or(Some(0), |mask| super::next_set(mask, 0))?;
+    // `add` also gets the first value, which it leaves as it is.
+    let first = *values.get(first)?;
+    Some(fold(values, mask, first, add))
+}
+
+/// Returns `start`, after `add` has added the selected values to it, in order. A mask has one bit
+/// per value; without one all values are selected.
+#[inline]
+fn fold<T: Copy, S>(
+    values: &[T],
+    mask: Option<Bits<'_>>,
+    start: S,
+    add: impl Fn(S, T) -> S + Copy,
+) -> S {
+    match mask {
+        None => all(values, start, add),
+        Some(mask) => words(mask)
+            .zip(values.chunks(64))
+            .fold(start, |state, (mask, values)| {
+                of_word(values, mask, state, add)
+            }),
+    }
+}
+
+/// Does the same with at most 64 values and a word of their bits.
+#[inline]
+fn of_word<T: Copy, S>(values: &[T], mask: u64, start: S, add: impl Fn(S, T) -> S) -> S {
+    if mask.count_ones() as usize == values.len() {
+        return all(values, start, add);
+    }
+    let (mut state, mut left) = (start, mask);
+    while left != 0 {
+        state = add(state, values[left.trailing_zeros() as usize]);
+        left &= left - 1;
+    }
+    state
+}
+
+#[inline]
+fn all<T: Copy, S>(values: &[T], start: S, add: impl Fn(S, T) -> S) -> S {
+    values.iter().fold(start, |state, &value| add(state, value))
+}

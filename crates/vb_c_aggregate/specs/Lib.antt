@@ -1,0 +1,10 @@
+pub mod Optional
+pub mod Selected
+pub mod Wide
+pub use Rattle.vb_aggregate.specs.Extremes
+pub use Rattle.vb_aggregate.specs.Sums
+pub use Rattle.vb_aggregate.specs.Wraps
+pub use Rattle.vb_bits.specs.Bits
+pub use Rattle.vb_bits.specs.InBytes
+pub use Rattle.vb_bits.specs.Kept
+pub use Rattle.vb_c_core.specs.Fits

@@ -1,0 +1,12 @@
+-- What two halves of 64 bits stand for.
+use Rattle.std.specs.Prelude.{◌+◌, ◌*◌, ◌^◌, ℤ, pos, ◌+ℤ◌, ◌*ℤ◌}
+use Rattle.vb_c_aggregate.specs.declared.wide.Wide.{Wide}
+use Rattle.vb_c_aggregate.specs.declared.wide.SignedWide.{SignedWide}
+
+-- the number of an unsigned one
+abbrev pub unsigned_number : Wide → ℤ
+unsigned_number n = pos (n.low + n.high * 2 ^ 64)
+
+-- and of one whose higher half has a sign
+abbrev pub signed_number : SignedWide → ℤ
+signed_number n = pos n.low +ℤ n.high *ℤ pos (2 ^ 64)

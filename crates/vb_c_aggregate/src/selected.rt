@@ -1,0 +1,53 @@
+//! Aggregates of the values whose bit of a mask is true, by a window of bytes.
+ghost use Rattle.std.specs.Prelude.{◌≡◌, length};
+ghost use Rattle.vb_aggregate.specs.Sums.{IsValueOf};
+ghost use Rattle.vb_bits.specs.InBytes.{InBytes};
+ghost use Rattle.vb_c_aggregate.specs.Selected.{sum_of, LeastOf, GreatestOf};
+
+use vb_aggregate::{Summand, WideSummand};
+use vb_view::BitBufferView;
+
+/// The sum of the values whose bit of `mask` from bit `m` on is true, exactly.
+pub(crate) fn exact_sum<T: WideSummand>(values: &[T], mask: &[u8], m: usize) -> T::Total
+    requires { InBytes mask.now m (length values.now) }
+    ensures { T.total_number result ≡ sum_of T.number values.now mask.now m }
+{
+    let mask = BitBufferView::new_with_offset(mask, values.len(), m);
+    vb_aggregate::masked_sum(values, mask)
+}
+
+/// Their sum, where their type has it.
+pub(crate) fn checked_sum<T: WideSummand>(values: &[T], mask: &[u8], m: usize) -> Option<T>
+    requires { InBytes mask.now m (length values.now) }
+    ensures { IsValueOf T.is_in_type T.number (sum_of T.number values.now mask.now m) result }
+{
+    let mask = BitBufferView::new_with_offset(mask, values.len(), m);
+    vb_aggregate::masked_checked_sum(values, mask)
+}
+
+/// Their sum, wrapped around at the end of the type.
+pub(crate) fn wrapping_sum<T: Summand>(values: &[T], mask: &[u8], m: usize) -> T
+    requires { InBytes mask.now m (length values.now) }
+    ensures { result ≡ T.wrapped (sum_of T.number values.now mask.now m) }
+{
+    let mask = BitBufferView::new_with_offset(mask, values.len(), m);
+    vb_aggregate::masked_wrapping_sum(values, mask)
+}
+
+/// The least of them, where there is one.
+pub(crate) fn least<T: Summand>(values: &[T], mask: &[u8], m: usize) -> Option<T>
+    requires { InBytes mask.now m (length values.now) }
+    ensures { LeastOf T.number values.now mask.now m result }
+{
+    let mask = BitBufferView::new_with_offset(mask, values.len(), m);
+    vb_aggregate::masked_min(values, mask)
+}
+
+/// The greatest of them, where there is one.
+pub(crate) fn greatest<T: Summand>(values: &[T], mask: &[u8], m: usize) -> Option<T>
+    requires { InBytes mask.now m (length values.now) }
+    ensures { GreatestOf T.number values.now mask.now m result }
+{
+    let mask = BitBufferView::new_with_offset(mask, values.len(), m);
+    vb_aggregate::masked_max(values, mask)
+}
