@@ -231,7 +231,7 @@ impl<A: Allocator + Clone> Ranked<A> {
     /// let mut ranked = Ranked::new(alloc, set)?;
     ///
     /// ranked.set_to(8, true);
-    /// assert_eq!(rt; ranked.rank(700), 2);
+    /// assert_eq!(rt; ranked.select(1), Some(8));
     /// ```
     pub fn set_to(&mut self, i: usize, v: bool)
         requires { i < length self.old.bits }
