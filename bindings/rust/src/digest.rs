@@ -4,6 +4,6 @@
 /// What tools/digest prints; tools/write-lists writes it here.
 macro_rules! digest {
     () => {
-        "aa61d3b9c0e5cee928c887326d3aaadf61fdd0b6fcd1b24c3d9d276de31bb220"
+        "7e86ca94bf19b393b5353bb268d0c9479ff2eefbfaf054c1c46011fa773f9071"
     };
 }
