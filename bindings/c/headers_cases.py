@@ -128,6 +128,8 @@ REFUSED = [
     ("bits_mut(bytes, 0, 8).take_of(rows, fixed, rows);", UNUSED),
     ("take_values(fixed, fixed, bytes);", UNUSED),
     ("take_values(fixed, fixed, rows, bytes);", UNUSED),
+    ("masked_sum(fixed, rows);", UNUSED),
+    ("masked_max(fixed, rows);", UNUSED),
 ]
 
 

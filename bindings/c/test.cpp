@@ -288,6 +288,29 @@ static void comparisons()
         bits_mut(out, 0, 4)); }, "too few others");
 }
 
+static void aggregates()
+{
+    using namespace vortex_bits;
+    const std::vector<std::int8_t> degrees = {-40, 21, 100, 18, 7};
+    const buffer mask = {0xEE};
+    const bits warm(mask, 0, 5), none(mask, 4, 0);
+    const vb_i128 sum = masked_sum(degrees, warm);
+    check(sum.low == 139 && sum.high == 0, "an exact sum");
+    check(masked_sum(degrees, bits(mask, 3, 5)).high == 0, "an exact sum of others");
+    check(!masked_checked_sum(degrees, warm), "a sum that is past the end of its type");
+    check(masked_checked_sum(degrees, bits(mask, 3, 5)) == std::int8_t{85}, "one that is not");
+    check(masked_wrapping_sum(degrees, warm) == -117, "a sum that is wrapped around");
+    check(masked_min(degrees, warm) == std::int8_t{18}, "the least value");
+    check(masked_max(degrees, warm) == std::int8_t{100}, "the greatest value");
+    const std::array<unsigned long, 0> empty{};
+    check(!masked_min(empty, none) && !masked_max(empty, none), "of no values");
+    const std::array<unsigned long long, 2> most = {SIZE_MAX, SIZE_MAX};
+    const vb_u128 both = masked_sum(most, {mask, 1, 2});
+    check(both.low == SIZE_MAX - 1 && both.high == 1, "a sum of more than 64 bits");
+    refused([&] { (void)masked_sum(degrees, bits(mask, 0, 4)); }, "too few bits of a mask");
+    refused([&] { (void)masked_min(empty, warm); }, "too many bits of a mask");
+}
+
 static void values_at_indices()
 {
     using vortex_bits::take_values;
@@ -438,6 +461,7 @@ int main()
     joins();
     nearest();
     comparisons();
+    aggregates();
     values_at_indices();
     refusals();
     return failures == 0 ? 0 : 1;

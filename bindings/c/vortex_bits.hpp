@@ -1,7 +1,7 @@
 /*
  * The windows of vortex_bits.h as C++ classes, for C++17 and later. This file includes its parts:
- * vortex_bits_compare.hpp, _gather.hpp, _ranks.hpp and _values.hpp. You may also include each part
- * on its own, and in any order.
+ * vortex_bits_aggregate.hpp, _compare.hpp, _gather.hpp, _ranks.hpp and _values.hpp. You may also
+ * include each part on its own, and in any order.
  *
  *     c++ -std=c++17 -O2 app.cpp -I DIST/include DIST/lib/libvortex_bits.a
  *
@@ -308,6 +308,7 @@ public:
 private:
     friend class bits_mut;
     friend class ranks;
+    friend struct detail::aggregate;
     template <class Values, class Indices, class Out>
     friend std::optional<std::size_t> take_values(const Values &, const Indices &,
         const std::optional<bits> &, Out &&);
@@ -484,6 +485,7 @@ private:
 
 } // namespace vortex_bits
 
+#include "vortex_bits_aggregate.hpp"
 #include "vortex_bits_compare.hpp"
 #include "vortex_bits_gather.hpp"
 #include "vortex_bits_ranks.hpp"

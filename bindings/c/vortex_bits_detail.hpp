@@ -144,6 +144,9 @@ template <class Out> constexpr bool is_bytes()
     return std::is_same_v<lent_t<std::remove_reference_t<Out>>, std::uint8_t>;
 }
 
+/* Calls the functions of vortex_bits_aggregate.h with a window as their mask. */
+struct aggregate;
+
 /* Returns how many of `count` items an `Index` can name: a negative one is read as too large. */
 template <class Index> std::size_t reached(std::size_t count)
 {
