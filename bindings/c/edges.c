@@ -15,6 +15,7 @@
 enum { PAGE = 4096, PAGES = 4, BYTES = PAGE * PAGES, BITS = 8 * BYTES, ROUNDS = 300 };
 
 static size_t places[BITS];
+static uint32_t narrow[BITS];
 static vb_run runs[BITS / 2 + 1];
 
 /* Bytes of one kind after the other: all false, all true, and any. */
@@ -43,6 +44,11 @@ static void walk(const uint8_t *bytes, size_t offset, size_t len, size_t room)
         }
     }
     check(found == (seen < room ? seen : room), "vb_set_indices");
+    check(vb_set_indices_u32(narrow, room, bytes, BYTES, offset, len) == found,
+        "vb_set_indices_u32");
+    for (size_t k = 0; k < found; k++) {
+        check(narrow[k] == places[k], "a place of 32 bits");
+    }
     const size_t slices = vb_set_slices(runs, room, bytes, BYTES, offset, len);
     check(vb_try_set_slices(runs, room, bytes, BYTES, offset, len, &count) && count == slices,
         "vb_try_set_slices");
@@ -86,6 +92,32 @@ static void stops(uint8_t *bytes, size_t behind)
     check(vb_set_slices(runs, 0, bytes, size, BITS, 8 * behind) == 0, "no room");
 }
 
+/* Places of 32 bits, of a window of 2^32 bits and of a longer one. */
+static void longest(void)
+{
+    const uint64_t all = (uint64_t)1 << 32;
+    const size_t size = all / 8 + PAGE;
+    void *zeros = mmap(NULL, size, PROT_READ | PROT_WRITE,
+        MAP_PRIVATE | MAP_ANONYMOUS | MAP_NORESERVE, -1, 0);
+    if (zeros == MAP_FAILED) {
+        perror("mmap");
+        failures++;
+        return;
+    }
+    uint8_t *bytes = (uint8_t *)zeros;
+    size_t count = 77;
+    bytes[0] = 0x20;
+    bytes[all / 8] = 0x0F;
+    check(vb_try_set_indices_u32(narrow, 6, bytes, size, 4, all, &count) && count == 5
+            && narrow[0] == 1 && narrow[1] == UINT32_MAX - 3 && narrow[4] == UINT32_MAX,
+        "the last places of 32 bits");
+    check(!vb_try_set_indices_u32(narrow, 6, bytes, size, 3, all + 1, &count) && count == 5,
+        "a window of more bits than 32 bits count");
+    check(vb_try_set_indices(places, 1, bytes, size, 5, all + 1, &count) && count == 1
+            && places[0] == 0, "the same window of other places");
+    munmap(zeros, size);
+}
+
 /* A byte of any value is true where it isn't 0, and changes no bit beside its own. */
 static void bools(void)
 {
@@ -121,6 +153,7 @@ int main(void)
         walk(bytes, offset, len, random_below(3) == 0 ? random_below(50) : random_below(len + 1));
     }
     stops(bytes, behind);
+    longest();
     bools();
     return failures == 0 ? 0 : 1;
 }

@@ -85,6 +85,8 @@ ACCEPTED = [
     "rows.for_each_set([p = std::make_unique<int>(1)](std::size_t &&) mutable { return ++*p; });",
     "bool is = true; rows.for_each_set([&](auto) -> const bool & { return is; });",
     "rows.for_each_run([](std::size_t, std::size_t end) { return end < 9; });",
+    "std::vector<std::uint32_t> all = rows.set_indices<std::uint32_t>(); (void)all;",
+    "std::array<std::uint32_t, 2> all; (void)rows.set_indices_into(all);",
 ]
 ACCEPTED_SINCE_20 = [
     "(void)bits(std::span<const std::uint8_t>(fixed), 0, 8);",

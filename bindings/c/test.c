@@ -58,6 +58,24 @@ static void questions(const uint8_t *bytes, size_t offset, size_t len)
     }
 }
 
+/* The places of 32 bits are those of `size_t`, which are looked at. */
+static void narrow_places(const size_t *places, size_t room, const uint8_t *bytes, size_t offset,
+    size_t len, size_t found)
+{
+    uint32_t narrow[BITS + 1], checked[BITS + 1];
+    size_t count = 0;
+    memset(narrow, 0xEE, sizeof narrow);
+    check(vb_set_indices_u32(narrow, room, bytes, BYTES, offset, len) == found
+            && vb_try_set_indices_u32(checked, room, bytes, BYTES, offset, len, &count)
+            && count == found,
+        "vb_set_indices_u32");
+    for (size_t i = 0; i < BITS + 1; i++) {
+        check(i < found ? narrow[i] == places[i] && checked[i] == places[i]
+                : narrow[i] == 0xEEEEEEEEu,
+            "a place of 32 bits");
+    }
+}
+
 static void walks(const uint8_t *bytes, size_t offset, size_t len)
 {
     size_t places[BITS + 1], checked[BITS + 1];
@@ -80,6 +98,7 @@ static void walks(const uint8_t *bytes, size_t offset, size_t len)
     for (size_t i = written; i < BITS + 1; i++) {
         check(places[i] == (size_t)0xEEEEEEEEEEEEEEEEu, "memory behind the places");
     }
+    narrow_places(places, room, bytes, offset, len, written);
     written = vb_set_slices(runs, room, bytes, BYTES, offset, len);
     check(vb_try_set_slices(runs_checked, room, bytes, BYTES, offset, len, &count)
             && count == written,
@@ -379,6 +398,7 @@ static void refusals(const uint8_t *bytes)
     for (size_t k = 0; k < BAD; k++) {
         const size_t offset = bad[k][0], len = bad[k][1];
         size_t number = 77, places[1] = {5};
+        uint32_t narrow[1] = {5};
         bool flag = true;
         vb_place place = {true, 9};
         vb_run runs[1] = {{3, 4}};
@@ -388,6 +408,7 @@ static void refusals(const uint8_t *bytes)
         check(!vb_try_select_unset(bytes, BYTES, offset, len, 0, &place), "a bad select");
         check(!vb_try_last_set(bytes, BYTES, offset, len, &place), "a bad last place");
         check(!vb_try_set_indices(places, 1, bytes, BYTES, offset, len, &number), "bad places");
+        check(!vb_try_set_indices_u32(narrow, 1, bytes, BYTES, offset, len, &number), "bad places");
         check(!vb_try_set_slices(runs, 1, bytes, BYTES, offset, len, &number), "bad runs");
         check(!vb_try_equal_bits(bytes, BYTES, offset, bytes, BYTES, 0, len, &flag), "a bad left window");
         check(!vb_try_equal_bits(bytes, BYTES, 0, bytes, BYTES, offset, len, &flag), "a bad right window");
@@ -403,7 +424,7 @@ static void refusals(const uint8_t *bytes)
             }
         }
         check(number == 77 && flag && place.found && place.index == 9 && places[0] == 5
-                && runs[0].start == 3 && runs[0].end == 4 && memcmp(got, bytes, BYTES) == 0,
+                && narrow[0] == 5 && runs[0].start == 3 && runs[0].end == 4 && memcmp(got, bytes, BYTES) == 0,
             "a refused call left all as it was");
         bad_takes(bytes, offset, len);
         bad_ranks(bytes, offset, len);

@@ -61,6 +61,11 @@ static void walks_into(bits window, const std::vector<std::size_t> &trues)
     check(window.set_indices_into(places) == found, "set_indices_into");
     check(std::equal(trues.begin(), trues.begin() + static_cast<std::ptrdiff_t>(found),
         places.begin()) && (found == places.size() || places[found] == SIZE_MAX), "places in room");
+    std::array<std::uint32_t, 3> three;
+    const std::size_t narrow = window.set_indices_into(three);
+    check(narrow == std::min<std::size_t>(3, trues.size())
+        && std::equal(three.begin(), three.begin() + static_cast<std::ptrdiff_t>(narrow),
+            trues.begin()), "places of 32 bits in room");
     std::array<vb_run, 2> two;
     const std::size_t some = window.set_slices_into(two);
     check(some == std::min<std::size_t>(2, runs.size()), "set_slices_into");
@@ -87,6 +92,8 @@ static void questions(const buffer &all, std::size_t offset, std::size_t len, st
     check(window.last_set() == last, "last_set");
     check(window.any() == !trues.empty() && window.all() == falses.empty(), "any and all");
     check(window.set_indices() == trues, "set_indices");
+    const std::vector<std::uint32_t> narrow = window.set_indices<std::uint32_t>();
+    check(std::equal(narrow.begin(), narrow.end(), trues.begin(), trues.end()), "of 32 bits");
     window.for_each_set([&](std::size_t place) { walked.push_back(place); });
     check(walked == trues, "for_each_set");
     walked.clear();

@@ -55,9 +55,9 @@
  *
  * The functions of each level are proved. The code in front of them is written by hand, and tested:
  * it replaces a null pointer to no items by one that they accept; checked forms reject others; it
- * selects the level; vb_set_indices, vb_set_slices and their checked forms work by pages of memory,
- * and join runs that cross page ends; it packs bools as bytes; vb_filter_values and vb_take_values
- * choose by sizes. The C++ classes are also written by hand, and tested.
+ * selects the level; vb_set_indices, vb_set_indices_u32, vb_set_slices and their checked forms work
+ * by pages of memory, and join runs that cross page ends; it packs bools as bytes; vb_filter_values
+ * and vb_take_values choose by sizes. The C++ classes are also written by hand, and tested.
  */
 #ifndef VORTEX_BITS_H
 #define VORTEX_BITS_H
@@ -305,6 +305,19 @@ size_t vb_set_indices(size_t *out, size_t out_count, const uint8_t *bytes, size_
         size_t offset, size_t len);
 VB_CHECKED bool vb_try_set_indices(size_t *out, size_t out_count, const uint8_t *bytes, size_t size,
         size_t offset, size_t len, size_t *written);
+
+/*
+ * Does the same with indices of 32 bits, for a window of at most 2^32 bits: `len` must be at most
+ * that, and the checked form returns false for a longer one.
+ *
+ *     const uint8_t rows[] = {0xE8, 0x06};
+ *     uint32_t places[4];
+ *     assert(vb_set_indices_u32(places, 4, rows, 2, 3, 10) == 4 && places[3] == 4);
+ */
+size_t vb_set_indices_u32(uint32_t *out, size_t out_count, const uint8_t *bytes, size_t size,
+        size_t offset, size_t len);
+VB_CHECKED bool vb_try_set_indices_u32(uint32_t *out, size_t out_count, const uint8_t *bytes,
+        size_t size, size_t offset, size_t len, size_t *written);
 
 /*
  * Writes the runs of set bits, from front to end, each as long as possible, to the front of `out`,

@@ -234,11 +234,14 @@ public:
             });
     }
 
-    /* Returns the indices of the set bits. */
-    std::vector<std::size_t> set_indices() const
+    /*
+     * Returns the indices of the set bits, as `Index`: std::size_t, or std::uint32_t of a window of
+     * at most 2^32 bits.
+     */
+    template <class Index = std::size_t> std::vector<Index> set_indices() const
     {
-        std::vector<std::size_t> places(count_ones());
-        vb_set_indices(places.data(), places.size(), bytes_, size_, offset_, len_);
+        std::vector<Index> places(count_ones());
+        set_indices_into(places);
         return places;
     }
 
@@ -253,7 +256,15 @@ public:
     /* Writes them to the front of `out`, up to its capacity, and returns the number written. */
     template <class Out> std::size_t set_indices_into(Out &&out) const
     {
-        return vb_set_indices(out.data(), out.size(), bytes_, size_, offset_, len_);
+        using index = detail::lent_t<std::remove_reference_t<Out>>;
+        static_assert(std::is_same_v<index, std::size_t> || std::is_same_v<index, std::uint32_t>,
+            "set_indices writes indices of std::size_t or std::uint32_t");
+        if constexpr (std::is_same_v<index, std::uint32_t>) {
+            detail::expect(len_ <= std::size_t(UINT32_MAX) + 1, "more bits than 32 bits can index");
+            return vb_set_indices_u32(out.data(), out.size(), bytes_, size_, offset_, len_);
+        } else {
+            return vb_set_indices(out.data(), out.size(), bytes_, size_, offset_, len_);
+        }
     }
     template <class Out> std::size_t set_slices_into(Out &&out) const
     {
@@ -286,24 +297,7 @@ public:
      * that size, those of 16 as one of 8.
      */
     template <class Values, class Out>
-    std::size_t keep_into(const Values &values, Out &&out) const
-    {
-        using value = std::remove_cv_t<detail::lent_t<const Values>>;
-        static_assert(detail::is_value<value>(),
-            "keep_into takes values of 1, 2, 4, 8 or 16 bytes that are copied and aligned as whole "
-            "numbers are: these, floats, bool, vb_u128. std::vector<bool> has none of them");
-        static_assert(std::is_same_v<detail::lent_t<std::remove_reference_t<Out>>, value>,
-            "keep_into writes values of the type that it reads");
-        detail::expect(values.size() == len_, "not a bit for each value");
-        detail::expect(count_ones() <= out.size(), "no room for the values to keep");
-        if constexpr (detail::is_value<value>()) {
-            using laid = detail::laid<sizeof(value)>;
-            return laid::keep(reinterpret_cast<typename laid::type *>(out.data()), out.size(),
-                reinterpret_cast<const typename laid::type *>(values.data()), len_, bytes_, size_,
-                offset_);
-        }
-        return 0;
-    }
+    std::size_t keep_into(const Values &values, Out &&out) const;
 
 private:
     friend class bits_mut;

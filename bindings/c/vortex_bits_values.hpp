@@ -1,5 +1,5 @@
 /*
- * Values at indices, a part of vortex_bits.hpp, which includes this file.
+ * Values at indices and under masks, a part of vortex_bits.hpp, which includes this file.
  *
  *     std::vector<std::int64_t> column = {10, 20, 30, 40}, taken(2);
  *     vortex_bits::take_values(column, std::vector<std::uint8_t>{3, 0}, taken);    // 40, 10
@@ -46,6 +46,26 @@ VB_TAKEN_BY(16, 8, u128_u64)
 #undef VB_TAKEN_BY
 
 } // namespace detail
+
+template <class Values, class Out>
+std::size_t bits::keep_into(const Values &values, Out &&out) const
+{
+    using value = std::remove_cv_t<detail::lent_t<const Values>>;
+    static_assert(detail::is_value<value>(),
+        "keep_into takes values of 1, 2, 4, 8 or 16 bytes that are copied and aligned as whole "
+        "numbers are: these, floats, bool, vb_u128. std::vector<bool> has none of them");
+    static_assert(std::is_same_v<detail::lent_t<std::remove_reference_t<Out>>, value>,
+        "keep_into writes values of the type that it reads");
+    detail::expect(values.size() == len_, "not a bit for each value");
+    detail::expect(count_ones() <= out.size(), "no room for the values to keep");
+    if constexpr (detail::is_value<value>()) {
+        using laid = detail::laid<sizeof(value)>;
+        return laid::keep(reinterpret_cast<typename laid::type *>(out.data()), out.size(),
+            reinterpret_cast<const typename laid::type *>(values.data()), len_, bytes_, size_,
+            offset_);
+    }
+    return 0;
+}
 
 /*
  * Takes (gathers): writes the values at the indices, whole numbers of 8 to 64 bits, to the front of

@@ -104,6 +104,17 @@ static void words(const buffer &all)
     refused([&] { bits_mut(some, 64 * some.size(), 1); }, "a window behind its words");
 }
 
+/* Indices of 32 bits of too long a window: none of its bytes is read. */
+static void narrow_indices()
+{
+    const std::size_t len = (std::size_t(1) << 32) + 1;
+    const std::uint8_t byte = 1;
+    std::array<std::uint32_t, 1> one = {7};
+    refused([&] { bits(&byte, len / 8 + 1, 0, len).set_indices_into(one); },
+        "a window of more bits than 32 bits can index");
+    check(one[0] == 7, "a refused walk wrote nothing");
+}
+
 /* The class view: its items, and what it refuses. */
 static void items()
 {
@@ -129,5 +140,6 @@ int main()
     views();
     words(any);
     items();
+    narrow_indices();
     return failures == 0 ? 0 : 1;
 }

@@ -32,24 +32,34 @@ static bool fits(const uint8_t *bytes, size_t size, size_t offset, size_t len)
     return CALL(try_next_set)(ANY(bytes, size), offset, len, len, &place);
 }
 
+/* Writes the indices of a window page by page, by the function `find` of a level. */
+#define PLACES(find, type)                                                                        \
+    if (out_count >= len) {                                                                       \
+        return CALL(find)(ANY(out, out_count), ANY(bytes, size), offset, len);                    \
+    }                                                                                             \
+    size_t written = 0;                                                                           \
+    for (size_t at = 0, n; at < len && written < out_count; at += n) {                            \
+        const size_t start = offset + at;                                                         \
+        n = in_page(bytes, start, len - at);                                                      \
+        const size_t found = CALL(find)(out + written, out_count - written, bytes,                \
+            bytes_of(start + n), start, n);                                                       \
+        for (size_t k = 0; at != 0 && k < found; k++) {                                           \
+            out[written + k] += (type)at;                                                         \
+        }                                                                                         \
+        written += found;                                                                         \
+    }                                                                                             \
+    return written;
+
 size_t vb_set_indices(size_t *out, size_t out_count, const uint8_t *bytes, size_t size,
     size_t offset, size_t len)
 {
-    if (out_count >= len) {
-        return CALL(set_indices)(ANY(out, out_count), ANY(bytes, size), offset, len);
-    }
-    size_t written = 0;
-    for (size_t at = 0, n; at < len && written < out_count; at += n) {
-        const size_t start = offset + at;
-        n = in_page(bytes, start, len - at);
-        const size_t found = CALL(set_indices)(out + written, out_count - written, bytes,
-            bytes_of(start + n), start, n);
-        for (size_t k = 0; at != 0 && k < found; k++) {
-            out[written + k] += at;
-        }
-        written += found;
-    }
-    return written;
+    PLACES(set_indices, size_t)
+}
+
+size_t vb_set_indices_u32(uint32_t *out, size_t out_count, const uint8_t *bytes, size_t size,
+    size_t offset, size_t len)
+{
+    PLACES(set_indices_u32, uint32_t)
 }
 
 bool vb_try_set_indices(size_t *out, size_t out_count, const uint8_t *bytes, size_t size,
@@ -59,6 +69,17 @@ bool vb_try_set_indices(size_t *out, size_t out_count, const uint8_t *bytes, siz
         return false;
     }
     *written = vb_set_indices(out, out_count, bytes, size, offset, len);
+    return true;
+}
+
+bool vb_try_set_indices_u32(uint32_t *out, size_t out_count, const uint8_t *bytes, size_t size,
+    size_t offset, size_t len, size_t *written)
+{
+    if (!MAY_HAVE(out, out_count) || !MAY_HAVE(bytes, size) || !fits(bytes, size, offset, len)
+            || len > (size_t)UINT32_MAX + 1) {
+        return false;
+    }
+    *written = vb_set_indices_u32(out, out_count, bytes, size, offset, len);
     return true;
 }
 

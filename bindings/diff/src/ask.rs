@@ -72,6 +72,9 @@ fn walks(case: &Case, list: &[bool], trues: &[usize]) -> Result<u64, String> {
     let (bits, n) = (case.left(), case.n);
     let mut out = vec![usize::MAX; n];
     let count = bits.write_set_indices(&mut out);
+    let mut narrow = vec![u32::MAX; n];
+    let narrow_count = bits.write_set_indices_u32(&mut narrow);
+    let written: Vec<u32> = out[..count].iter().map(|&place| place as u32).collect();
     let mut places = bits.set_indices();
     let mut stepped: Vec<usize> = places.by_ref().take(n).collect();
     let left = places.len();
@@ -84,6 +87,16 @@ fn walks(case: &Case, list: &[bool], trues: &[usize]) -> Result<u64, String> {
     let rest = all.len();
     all.for_each(|bit| bools.push(bit));
     Ok(same("write_set_indices", (count, out), filled(trues, n))?
+        + same(
+            "write_set_indices_u32",
+            (narrow_count, &narrow[..count]),
+            (count, &written[..]),
+        )?
+        + same(
+            "behind them",
+            narrow[count..].iter().all(|&place| place == u32::MAX),
+            true,
+        )?
         + same("set_indices", stepped, trues)?
         + same("set_indices, left", left, trues.len().saturating_sub(n))?
         + same("set_slices", runs, plain::runs(list))?

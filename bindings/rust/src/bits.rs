@@ -425,4 +425,31 @@ impl<'a> Bits<'a> {
     pub fn write_set_indices(self, out: &mut [usize]) -> usize {
         kernels::set_indices(self, out)
     }
+
+    /// Writes the indices of the set bits as `u32`, in ascending order, to the front of `out`, up
+    /// to its capacity, and returns the number written. The rest of `out` is unchanged. They can be
+    /// passed to [`values::take`](crate::values::take).
+    ///
+    /// # Panics
+    ///
+    /// If the window has more than 2^32 bits; `out` is unchanged.
+    ///
+    /// ```
+    /// use vortex_bits::Bits;
+    ///
+    /// let mut selected = [0u32; 4];
+    /// assert_eq!(Bits::new(&[0b0111_0110], 0, 7).write_set_indices_u32(&mut selected), 4);
+    /// assert_eq!(selected, [1, 2, 4, 5]);
+    /// ```
+    #[doc(alias("positions", "selection_vector"))]
+    #[inline]
+    #[track_caller]
+    pub fn write_set_indices_u32(self, out: &mut [u32]) -> usize {
+        assert!(
+            u32::try_from(self.len.saturating_sub(1)).is_ok(),
+            "a u32 can't index {} bits",
+            self.len
+        );
+        kernels::set_indices(self, out)
+    }
 }

@@ -17,7 +17,7 @@ pub use filter::{filter, keep};
 pub use gather::{pack_bools, pack_truthy, take};
 pub use kleene::{Column, Logic, combine_truths};
 pub use values::take_values;
-pub use walk::{set_indices, set_slices};
+pub use walk::{Index, set_indices, set_slices};
 
 use crate::written::Written;
 use crate::{Bits, blocks, portable};

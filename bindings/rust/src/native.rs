@@ -208,6 +208,8 @@ kernels! {
         right_size: usize, right_offset: usize, len: usize) -> bool;
     set_indices(out: *mut usize, out_count: usize, bytes: *const u8, size: usize, offset: usize,
         len: usize) -> usize;
+    set_indices_u32(out: *mut u32, out_count: usize, bytes: *const u8, size: usize, offset: usize,
+        len: usize) -> usize;
     set_slices(out: *mut Run, out_count: usize, bytes: *const u8, size: usize, offset: usize,
         len: usize) -> usize;
     fill_bits(bytes: *mut u8, size: usize, offset: usize, len: usize, value: bool);

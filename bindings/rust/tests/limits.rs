@@ -59,6 +59,25 @@ fn windows_that_do_not_lie_in_their_bytes_are_refused() {
 }
 
 #[test]
+#[cfg(target_pointer_width = "64")]
+fn indices_of_32_bits_are_those_of_as_many_bits() {
+    let bytes = vec![0; (1 << 29) + 1];
+    let mut out = [7; 1];
+    let refused = panics(|| {
+        Bits::new(&bytes, 3, (1 << 32) + 1).write_set_indices_u32(&mut out);
+    });
+    assert_eq!(
+        refused.as_deref(),
+        Some("a u32 can't index 4294967297 bits")
+    );
+    assert_eq!(
+        Bits::new(&bytes, 3, 1 << 32).write_set_indices_u32(&mut []),
+        0
+    );
+    assert_eq!(out, [7]);
+}
+
+#[test]
 fn slices_are_ranges_of_places() {
     let bytes = [0b1101_0110, 0b0000_0101];
     let bits = Bits::new(&bytes, 1, 10);

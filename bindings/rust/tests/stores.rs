@@ -321,6 +321,13 @@ fn places_and_counts_are_stored_only_where_they_are_answered() {
             assert!(out[..places.len()] == places);
             let out = &mut pages.all::<usize>()[border - places.len() / 2..border];
             assert_eq!(bits.write_set_indices(out), places.len() / 2);
+            let out = &mut pages.all::<u32>()[2 * border - places.len()..];
+            assert_eq!(bits.write_set_indices_u32(out), places.len());
+            assert!(
+                out.iter()
+                    .zip(&places)
+                    .all(|(&narrow, &place)| narrow as usize == place)
+            );
 
             let table = &mut pages.all::<usize>()[border - blocks(bits.len())..];
             assert_eq!(Ranks::new(bits, table).count(), places.len());

@@ -1,5 +1,5 @@
 //! Indices and runs of set bits, written to the caller's memory.
-ghost use Rattle.std.specs.Prelude.{◌≡◌, map};
+ghost use Rattle.std.specs.Prelude.{◌≡◌, ◌^◌, ◌≤◌, map};
 ghost use Rattle.vb_bits.specs.Bits.{bits, places};
 ghost use Rattle.vb_bits.specs.InBytes.{InBytes};
 ghost use Rattle.vb_bits.specs.Runs.{runs};
@@ -38,6 +38,32 @@ pub extern "C" fn vb_set_indices(
     let mut written = 0;
     for place in BitIndexIterator::new(bytes, offset, len) {
         out[written] = place;
+        written += 1;
+        if written == out.len() {
+            break;
+        }
+    }
+    written
+}
+
+/// [`vb_set_indices`] with indices of 32 bits, of a window of at most 2^32 bits.
+#[unsafe(no_mangle)]
+pub extern "C" fn vb_set_indices_u32(
+    out: &mut [u32],
+    bytes: &[u8],
+    offset: usize,
+    len: usize,
+) -> usize
+    requires window { InBytes bytes.now offset len }
+    requires named { len ≤ 2 ^ 32 }
+    ensures { Fills (places (bits bytes.now offset len)) out.old out.new result }
+{
+    if out.is_empty() {
+        return 0;
+    }
+    let mut written = 0;
+    for place in BitIndexIterator::new(bytes, offset, len) {
+        out[written] = place as u32;
         written += 1;
         if written == out.len() {
             break;
@@ -89,6 +115,28 @@ pub extern "C" fn vb_try_set_indices(
         return false;
     }
     *written = vb_set_indices(out, bytes, offset, len);
+    true
+}
+
+/// Returns whether the window is in the bytes and has at most 2^32 bits. If so, does
+/// [`vb_set_indices_u32`] and writes its result to `written`; else leaves `out` and `written`
+/// unchanged.
+#[unsafe(no_mangle)]
+pub extern "C" fn vb_try_set_indices_u32(
+    out: &mut [u32],
+    bytes: &[u8],
+    offset: usize,
+    len: usize,
+    written: &mut usize,
+) -> bool
+    ensures { DoneIf (InBytes bytes.now offset len × (len ≤ 2 ^ 32))
+        (Fills (places (bits bytes.now offset len)) out.old out.new written.new)
+        ((out.new ≡ out.old) × (written.new ≡ written.old)) result }
+{
+    if len > 1 << 32 || !vb_bits::window_fits(bytes, offset, len) {
+        return false;
+    }
+    *written = vb_set_indices_u32(out, bytes, offset, len);
     true
 }
 

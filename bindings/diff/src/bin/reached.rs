@@ -54,6 +54,7 @@ const ROWS: &[Row] = &[
         _ = left(ones).deposit(right(n));
     }),
     ("set_indices", 65, |n| _ = left(n).set_indices().next()),
+    ("write_set_indices_u32", 65, |n| _ = left(n).write_set_indices_u32(&mut [7; MOST])),
     ("set_slices", 65, |n| _ = left(n).set_slices().next()),
     ("words", 65, |n| _ = left(n).words().next()),
     ("iter", 65, |n| _ = left(n).iter().next()),

@@ -12,10 +12,52 @@ use crate::level::kernels;
 #[cfg(vortex_bits_native)]
 use crate::native::Kernels;
 
+/// The type of an index that is written.
+pub trait Index: Copy {
+    /// Returns an index, which the type can represent.
+    fn of(place: usize) -> Self;
+
+    /// Returns the index plus `base`, which the type can represent too.
+    #[cfg(vortex_bits_native)]
+    fn moved(self, base: usize) -> Self;
+
+    /// Writes the indices of a page's set bits by the level's C function.
+    #[cfg(vortex_bits_native)]
+    fn find(kernels: &Kernels, page: Bits<'_>, out: &mut [Self]) -> usize;
+}
+
+macro_rules! indices {
+    ($($index:ty, $name:ident;)*) => {$(
+        impl Index for $index {
+            #[inline]
+            fn of(place: usize) -> $index {
+                place as $index
+            }
+
+            #[cfg(vortex_bits_native)]
+            #[inline]
+            fn moved(self, base: usize) -> $index {
+                self + base as $index
+            }
+
+            #[cfg(vortex_bits_native)]
+            fn find(kernels: &Kernels, page: Bits<'_>, out: &mut [$index]) -> usize {
+                native!(@call kernels.$name, [] slice_mut out, window page)
+            }
+        }
+    )*};
+}
+
+indices! {
+    usize, set_indices;
+    u32, set_indices_u32;
+}
+
 /// Writes the indices of the set bits to the front of `out`, as many as fit, and returns their
 /// number.
+/// The type can represent each index of the window.
 #[inline]
-pub fn set_indices(bits: Bits<'_>, out: &mut [usize]) -> usize {
+pub fn set_indices<I: Index>(bits: Bits<'_>, out: &mut [I]) -> usize {
     #[cfg(vortex_bits_native)]
     if let Some(kernels) = kernels().filter(|_| !is_word(bits)) {
         return indices_by_pages(kernels, bits, out);
@@ -44,7 +86,7 @@ fn in_page(bits: Bits<'_>, start: usize) -> Bits<'_> {
 }
 
 #[cfg(vortex_bits_native)]
-fn indices_by_pages(kernels: &Kernels, bits: Bits<'_>, out: &mut [usize]) -> usize {
+fn indices_by_pages<I: Index>(kernels: &Kernels, bits: Bits<'_>, out: &mut [I]) -> usize {
     if out.len() >= bits.len() {
         return indices(kernels, bits, 0, out);
     }
@@ -91,11 +133,11 @@ fn run_end(bits: Bits<'_>, start: usize) -> usize {
 
 /// Writes the indices of a page's set bits, plus `base`.
 #[cfg(vortex_bits_native)]
-fn indices(kernels: &Kernels, page: Bits<'_>, base: usize, out: &mut [usize]) -> usize {
-    let found = native!(@call kernels.set_indices, [] slice_mut out, window page);
+fn indices<I: Index>(kernels: &Kernels, page: Bits<'_>, base: usize, out: &mut [I]) -> usize {
+    let found = I::find(kernels, page, out);
     let moved = if base > 0 { found } else { 0 };
     for place in &mut out[..moved] {
-        *place += base;
+        *place = place.moved(base);
     }
     found
 }

@@ -3,7 +3,7 @@
 
 use super::word::{low, word_at};
 use crate::Bits;
-use crate::kernels::Run;
+use crate::kernels::{Index, Run};
 
 pub fn set_slices(bits: Bits<'_>, out: &mut [Run]) -> usize {
     slices(bits, out, |word| word)
@@ -19,7 +19,7 @@ fn seen_at(bits: Bits<'_>, i: usize, seen: impl Fn(u64) -> u64) -> u64 {
     seen(word_at(bits, i)) & low(bits.len() - 64 * i)
 }
 
-pub fn set_indices(bits: Bits<'_>, out: &mut [usize]) -> usize {
+pub fn set_indices<I: Index>(bits: Bits<'_>, out: &mut [I]) -> usize {
     let (mut written, mut i) = (0, 0);
     while written < out.len() && 64 * i < bits.len() {
         let mut word = word_at(bits, i);
@@ -27,7 +27,7 @@ pub fn set_indices(bits: Bits<'_>, out: &mut [usize]) -> usize {
             let Some(place) = out.get_mut(written) else {
                 return written;
             };
-            *place = 64 * i + word.trailing_zeros() as usize;
+            *place = I::of(64 * i + word.trailing_zeros() as usize);
             word &= word - 1;
             written += 1;
         }
