@@ -64,6 +64,12 @@ static size_t size;
 #define IN_PLACE(name) WRITE(name, vb_##name(WINDOW(out, OUT), WINDOW(mixed, LEFT), n))
 #define INTO(name)                                                                                \
     WRITE(name, vb_##name(WINDOW(out, OUT), WINDOW(mixed, LEFT), WINDOW(other, RIGHT), n))
+#define UNPACK(name, type)                                                                        \
+    static size_t row_##name(size_t n)                                                            \
+    {                                                                                             \
+        vb_##name((type *)written, n, WINDOW(mixed, LEFT), n);                                    \
+        return ((const uint8_t *)written)[n / 2];                                                 \
+    }
 #define KLEENE(name)                                                                              \
     WRITE(name, vb_##name(WINDOW(out, OUT), WINDOW(valid, OUT), WINDOW(mixed, LEFT), NULLS,       \
         WINDOW(other, RIGHT), false, WINDOW(mixed, 1), n))
@@ -143,6 +149,8 @@ WRITE(pack_bools, vb_pack_bools(WINDOW(out, OUT), bools, n))
 WRITE(pack_truthy, vb_pack_truthy(WINDOW(out, OUT), indices_u8, n))
 WRITE(pack_bools_padded, vb_pack_bools_padded(out, size, bools, n))
 WRITE(pack_truthy_padded, vb_pack_truthy_padded(out, size, indices_u8, n))
+UNPACK(unpack_bools, bool)
+UNPACK(unpack_bytes, uint8_t)
 ROW(filter_bits, vb_filter_bits(WINDOW(out, OUT), WINDOW(mixed, LEFT), WINDOW(other, RIGHT), n))
 INTO(deposit_bits)
 KLEENE(and_kleene)
@@ -204,10 +212,11 @@ static const row rows[] = {
     OF(far_previous_unset) OF(far_any_set) OF(far_all_set) OF(far_equal_bits)
     OF(far_is_disjoint) OF(far_is_subset) OF(set_indices) OF(set_indices_u32) OF(set_slices)
     OF(fill_bits) OF(negate_bits) OF(copy_bits) OF(and_bits) OF(or_bits) OF(xor_bits)
-    OF(and_not_bits) OF(and_into) OF(or_into) OF(xor_into) OF(and_not_into) OF(pack_bools) OF(pack_truthy)
-    OF(pack_bools_padded) OF(pack_truthy_padded) OF(filter_bits) OF(deposit_bits) OF(and_kleene)
-    OF(or_kleene) OF_COMPARE(u8) OF_COMPARE(u16) OF_COMPARE(u32) OF_COMPARE(u64) OF_COMPARE(i8)
-    OF_COMPARE(i16) OF_COMPARE(i32) OF_COMPARE(i64) OF_COMPARE(f32) OF_COMPARE(f64)
+    OF(and_not_bits) OF(and_into) OF(or_into) OF(xor_into) OF(and_not_into) OF(pack_bools)
+    OF(pack_truthy) OF(pack_bools_padded) OF(pack_truthy_padded) OF(unpack_bools)
+    OF(unpack_bytes) OF(filter_bits) OF(deposit_bits) OF(and_kleene) OF(or_kleene) OF_COMPARE(u8)
+    OF_COMPARE(u16) OF_COMPARE(u32) OF_COMPARE(u64) OF_COMPARE(i8) OF_COMPARE(i16)
+    OF_COMPARE(i32) OF_COMPARE(i64) OF_COMPARE(f32) OF_COMPARE(f64)
     OF(filter_values_u8) OF(filter_values_u16) OF(filter_values_u32) OF(filter_values_u64)
     OF(filter_values_u128) OF(filter_values) OF_AGGREGATE(u8) OF_AGGREGATE(u16) OF_AGGREGATE(u32)
     OF_AGGREGATE(u64) OF_AGGREGATE(i8) OF_AGGREGATE(i16) OF_AGGREGATE(i32) OF_AGGREGATE(i64)

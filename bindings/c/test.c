@@ -251,6 +251,30 @@ static void packs(const uint8_t *bytes, const uint8_t *other)
     check(vb_try_pack_truthy_padded(got, 1, bytes, 8), "a pack that has room");
 }
 
+/* Bits of a window as bools and as bytes, before items that stay as they were. */
+static void unpacks(const uint8_t *bytes, size_t offset, size_t len)
+{
+    static uint8_t got[4][BITS + 9];
+    bool *const bools[] = {(bool *)(void *)got[0], (bool *)(void *)got[1]};
+    const size_t room = len + random_below(9);
+    memset(got, 0xA5, sizeof got);
+    vb_unpack_bools(bools[0], room, bytes, BYTES, offset, len);
+    vb_unpack_bytes(got[2], room, bytes, BYTES, offset, len);
+    check(vb_try_unpack_bools(bools[1], room, bytes, BYTES, offset, len)
+            && vb_try_unpack_bytes(got[3], room, bytes, BYTES, offset, len),
+        "the checked unpacks");
+    for (size_t k = 0; k < 4; k++) {
+        for (size_t i = 0; i < BITS + 9; i++) {
+            check(got[k][i] == (i < len ? (uint8_t)bit(bytes, offset + i) : 0xA5),
+                "an unpacked bit");
+        }
+    }
+    check(len == 0 || (!vb_try_unpack_bools(bools[1], len - 1, bytes, BYTES, offset, len)
+            && !vb_try_unpack_bytes(got[3], len - 1, bytes, BYTES, offset, len)), "no room");
+    check(memcmp(got[0], got[1], sizeof got[0]) == 0 && memcmp(got[2], got[3], sizeof got[2]) == 0,
+        "a refused unpack left all as it was");
+}
+
 enum { INDICES = 200 };
 
 /*
@@ -412,6 +436,7 @@ static void refusals(const uint8_t *bytes)
         check(!vb_try_set_slices(runs, 1, bytes, BYTES, offset, len, &number), "bad runs");
         check(!vb_try_equal_bits(bytes, BYTES, offset, bytes, BYTES, 0, len, &flag), "a bad left window");
         check(!vb_try_equal_bits(bytes, BYTES, 0, bytes, BYTES, offset, len, &flag), "a bad right window");
+        check(!vb_try_unpack_bytes(got, BYTES, bytes, BYTES, offset, len), "a bad unpack");
         check(!vb_try_negate_bits(got, BYTES, offset, len), "a bad window to negate");
         check(!vb_try_fill_bits(got, BYTES, offset, len, true), "a bad window to fill");
         for (size_t c = 0; c < COMBINES; c++) {
@@ -460,6 +485,7 @@ int main(void)
         writes(bytes, other, offset, len);
         ranks(bytes, offset, len);
         packs(bytes, other);
+        unpacks(bytes, offset, len);
         takes(bytes, offset, len, NULL, 0);
         takes(bytes, offset, len, other, random_below(BITS - INDICES + 1));
     }

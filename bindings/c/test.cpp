@@ -169,6 +169,14 @@ static void takes()
     check(out[0] == 5, "pack_truthy");
     vortex_bits::pack_bools(std::array<bool, 4>{false, true, true, false}, out);
     check(out[0] == 6, "pack_bools");
+    std::array<bool, 5> flags;
+    buffer bytes(5, 9);
+    bits(all, 1, 5).copy_to_bools(flags);
+    bits(all, 1, 5).copy_to_bytes(bytes);
+    check(flags == std::array<bool, 5>({true, true, false, true, true}), "copy_to_bools");
+    check(bytes == buffer({1, 1, 0, 1, 1}), "copy_to_bytes");
+    refused([&] { bits(all, 1, 4).copy_to_bools(flags); }, "too many bools");
+    refused([&] { bits(all, 1, 6).copy_to_bytes(bytes); }, "too few bytes");
     refused([&] { (void)window.take_into(std::vector<std::uint32_t>(9), out); }, "no room");
     refused([&] { (void)window.take_into(some, window, out); }, "a long validity");
     refused([&] { vortex_bits::pack_truthy(buffer(9), out); }, "no room");

@@ -299,6 +299,10 @@ public:
     template <class Values, class Out>
     std::size_t keep_into(const Values &values, Out &&out) const;
 
+    /* Copies the bits to one bool each (std::vector<bool> lends none), or to one byte 0 or 1. */
+    template <class Bools> void copy_to_bools(Bools &&out) const;
+    template <class Bytes> void copy_to_bytes(Bytes &&out) const;
+
 private:
     friend class bits_mut;
     friend class ranks;

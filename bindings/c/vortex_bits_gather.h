@@ -1,10 +1,12 @@
 /*
  * Bits built from other bits: pack truth values, take (gather) bits at indices, filter by a mask
- * and deposit again by it, and `and` and `or` of truth values that may be null. vortex_bits.h
- * includes this file; its first comment states what the caller must ensure for every call.
+ * and deposit again by it, and `and` and `or` of truth values that may be null. And bits unpacked
+ * to bools and bytes. vortex_bits.h includes this file; its first comment states what the caller
+ * must ensure for every call.
  *
  * The calls write to any window of `out` and leave its other bits unchanged, so the results of
- * batches can be written one after the other. Those that end in _padded write whole bytes.
+ * batches can be written one after the other. Those that end in _padded write whole bytes, and those
+ * that unpack write bools or bytes.
  */
 #ifndef VORTEX_BITS_GATHER_H
 #define VORTEX_BITS_GATHER_H
@@ -60,6 +62,27 @@ void vb_pack_truthy_padded(uint8_t *out, size_t out_size, const uint8_t *truthy,
         size_t truthy_count);
 VB_CHECKED bool vb_try_pack_truthy_padded(uint8_t *out, size_t out_size, const uint8_t *truthy,
         size_t truthy_count);
+
+/*
+ * Unpacks bits: writes each bit of the window, as a `bool` or as a byte 0 or 1, to the front of
+ * `out`. `out_count`, the capacity of `out`, must be at least `len`; the checked form tests it too.
+ * The items after them are unchanged. Processes 64 bits at a time, by vectors.
+ *
+ *     const uint8_t rows[] = {0xE8};
+ *     bool bools[4];
+ *     uint8_t bytes[4];
+ *     vb_unpack_bools(bools, 4, rows, 1, 3, 4);
+ *     vb_unpack_bytes(bytes, 4, rows, 1, 3, 4);
+ *     assert(bools[0] && !bools[1] && bools[2] && bools[3] && bytes[1] == 0 && bytes[3] == 1);
+ */
+void vb_unpack_bools(bool *out, size_t out_count, const uint8_t *bytes, size_t size, size_t offset,
+        size_t len);
+VB_CHECKED bool vb_try_unpack_bools(bool *out, size_t out_count, const uint8_t *bytes, size_t size,
+        size_t offset, size_t len);
+void vb_unpack_bytes(uint8_t *out, size_t out_count, const uint8_t *bytes, size_t size,
+        size_t offset, size_t len);
+VB_CHECKED bool vb_try_unpack_bytes(uint8_t *out, size_t out_count, const uint8_t *bytes,
+        size_t size, size_t offset, size_t len);
 
 /*
  * Takes (gathers) bits: writes the bits of the window at the indices to the bits of `out` from bit

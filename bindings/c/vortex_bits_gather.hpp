@@ -1,7 +1,7 @@
 /*
- * Bits built from other bits, a part of vortex_bits.hpp, which includes this file: pack truth
- * values, take (gather) bits at indices, filter by a mask and deposit again by it, and `and` and
- * `or` of truth values that may be null.
+ * Bits built from other bits, a part of vortex_bits.hpp, which includes this file: pack and unpack
+ * truth values, take (gather) bits at indices, filter by a mask and deposit again by it, and `and`
+ * and `or` of truth values that may be null.
  *
  *     std::array<bool, 3> flags = {true, false, true};
  *     std::vector<std::uint8_t> packed(1);
@@ -133,6 +133,24 @@ inline void bits_mut::or_kleene_of(bits left, std::optional<bits> left_valid, bi
     std::optional<bits> right_valid, bits_mut valid)
 {
     by_columns(vb_or_kleene, left, left_valid, right, right_valid, valid);
+}
+
+template <class Bools> void bits::copy_to_bools(Bools &&out) const
+{
+    using item = detail::lent_t<std::remove_reference_t<Bools>>;
+    static_assert(std::is_same_v<item, bool>,
+        "copy_to_bools writes values of bool, of which std::vector<bool> lends none");
+    detail::expect(out.size() == len_, "not a bool for each bit");
+    if constexpr (std::is_same_v<item, bool>) {
+        vb_unpack_bools(out.data(), out.size(), bytes_, size_, offset_, len_);
+    }
+}
+
+template <class Bytes> void bits::copy_to_bytes(Bytes &&out) const
+{
+    static_assert(detail::is_bytes<Bytes>(), "copy_to_bytes writes bytes of std::uint8_t");
+    detail::expect(out.size() == len_, "not a byte for each bit");
+    vb_unpack_bytes(out.data(), out.size(), bytes_, size_, offset_, len_);
 }
 
 template <class Bools> void bits_mut::copy_from_bools(const Bools &bools)

@@ -18,6 +18,19 @@ bool vb_try_pack_bools(uint8_t *out, size_t out_size, size_t out_offset, const b
     return vb_try_pack_truthy(out, out_size, out_offset, (const uint8_t *)bools, bools_count);
 }
 
+/* Bits are unpacked to bytes 0 and 1, which bools are too. */
+void vb_unpack_bools(bool *out, size_t out_count, const uint8_t *bytes, size_t size, size_t offset,
+    size_t len)
+{
+    vb_unpack_bytes((uint8_t *)out, out_count, bytes, size, offset, len);
+}
+
+bool vb_try_unpack_bools(bool *out, size_t out_count, const uint8_t *bytes, size_t size,
+    size_t offset, size_t len)
+{
+    return vb_try_unpack_bytes((uint8_t *)out, out_count, bytes, size, offset, len);
+}
+
 /* Returns whether there are functions for items of `size` bytes, and the items are aligned for
  * them. */
 static bool is_laid(const void *items, size_t size, size_t most)

@@ -67,11 +67,17 @@ pub fn compare(case: &Case) -> Result<u64, String> {
     let packed = after(case, |out| out.copy_from_bools(&bools));
     let truths = after(case, |out| out.copy_from_truthy(&truthy));
     let asked = after(case, |out| out.fill_with(|place| bools[place]));
+    let (mut flags, mut digits) = (vec![value; len], vec![n as u8; len]);
+    case.right().copy_to_bools(&mut flags);
+    case.right().copy_to_bytes(&mut digits);
+    let unpacked: Vec<u8> = bools.iter().map(|&it| it.into()).collect();
     let mut calls = same("fill", filled, written(left, l, len, |_| value))?
         + same("negate", negated, written(left, l, len, |i| !a(i)))?
         + same("copy_from_bools", &packed, &copied)?
         + same("copy_from_truthy", &truths, &copied)?
-        + same("fill_with", &asked, &copied)?;
+        + same("fill_with", &asked, &copied)?
+        + same("copy_to_bools", &flags, &bools)?
+        + same("copy_to_bytes", &digits, &unpacked)?;
     if n < len {
         let set = after(case, |out| out.set(n, value));
         let slice = after(case, |out| out.slice(n..).fill(value));

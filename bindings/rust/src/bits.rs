@@ -2,6 +2,7 @@
 
 use core::ops::{Bound, RangeBounds};
 
+use crate::bits_mut::alike;
 use crate::error::{OutOfBounds, expect};
 use crate::iter::{Iter, SetIndices, SetSlices, UnsetIndices, UnsetSlices, Words};
 use crate::kernels;
@@ -409,6 +410,41 @@ impl<'a> Bits<'a> {
     #[must_use]
     pub fn words(self) -> Words<'a> {
         Words::new(self)
+    }
+
+    /// Writes each bit to the bool at its index.
+    ///
+    /// ```
+    /// use vortex_bits::Bits;
+    ///
+    /// let (mut bools, mut bytes) = ([false; 4], [7; 4]);
+    /// Bits::new(&[0b0110_1000], 3, 4).copy_to_bools(&mut bools);
+    /// Bits::new(&[0b0110_1000], 3, 4).copy_to_bytes(&mut bytes);
+    /// assert_eq!((bools, bytes), ([true, false, true, true], [1, 0, 1, 1]));
+    /// ```
+    ///
+    /// # Panics
+    ///
+    /// If there isn't one bool per bit.
+    #[doc(alias("unpack"))]
+    #[inline]
+    #[track_caller]
+    pub fn copy_to_bools(self, out: &mut [bool]) {
+        alike(out.len(), self.len);
+        kernels::unpack_bools(out, self);
+    }
+
+    /// Writes each bit to the byte at its index: 1 if it is set, else 0.
+    ///
+    /// # Panics
+    ///
+    /// If there isn't one byte per bit.
+    #[doc(alias("unpack", "unpackbits"))]
+    #[inline]
+    #[track_caller]
+    pub fn copy_to_bytes(self, out: &mut [u8]) {
+        alike(out.len(), self.len);
+        kernels::unpack_bytes(out, self);
     }
 
     /// Writes the indices of the set bits to the front of `out`, in ascending order and as many as

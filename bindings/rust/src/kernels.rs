@@ -14,7 +14,7 @@ mod walk;
 pub use aggregate::{masked_checked_sum, masked_max, masked_min, masked_sum, masked_wrapping_sum};
 pub use compare::{compare, compare_with};
 pub use filter::{filter, keep};
-pub use gather::{pack_bools, pack_truthy, take};
+pub use gather::{pack_bools, pack_truthy, take, unpack_bools, unpack_bytes};
 pub use kleene::{Column, Logic, combine_truths};
 pub use values::take_values;
 pub use walk::{Index, set_indices, set_slices};

@@ -355,6 +355,8 @@ kernels! {
         values_count: usize, op: u8, others: *const f64, others_count: usize);
     pack_truthy(out: *mut u8, out_size: usize, out_offset: usize, truthy: *const u8,
         truthy_count: usize);
+    unpack_bytes(out: *mut u8, out_count: usize, bytes: *const u8, size: usize, offset: usize,
+        len: usize);
     take_bits_u8(out: *mut u8, out_size: usize, out_offset: usize, bytes: *const u8, size: usize,
         offset: usize, len: usize, indices: *const u8, indices_count: usize, all_valid: bool,
         validity: *const u8, validity_size: usize, validity_offset: usize) -> Taken;

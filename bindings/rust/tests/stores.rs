@@ -329,6 +329,11 @@ fn places_and_counts_are_stored_only_where_they_are_answered() {
                     .all(|(&narrow, &place)| narrow as usize == place)
             );
 
+            let end = 2 * PAGE;
+            bits.copy_to_bytes(&mut pages.all::<u8>()[end - bits.len()..end]);
+            let digits = &pages.all::<u8>()[end - bits.len()..end];
+            assert!(bits.iter().eq(digits.iter().map(|&digit| digit == 1)));
+
             let table = &mut pages.all::<usize>()[border - blocks(bits.len())..];
             assert_eq!(Ranks::new(bits, table).count(), places.len());
         }

@@ -61,6 +61,8 @@ const ROWS: &[Row] = &[
     ("unset_indices", NEVER, |n| _ = left(n).unset_indices().next()),
     ("unset_slices", NEVER, |n| _ = left(n).unset_slices().next()),
     ("copy_from_bools", 1, |n| write(n, |mut out| out.copy_from_bools(&[true; MOST][..n]))),
+    ("copy_to_bools", 1, |n| left(n).copy_to_bools(&mut [true; MOST][..n])),
+    ("copy_to_bytes", 1, |n| left(n).copy_to_bytes(&mut [7; MOST][..n])),
     ("fill_with", 1, |n| write(n, |mut out| out.fill_with(|place| place > 1))),
     ("extend", 1, |n| Bitmap::default().extend((0..n).map(|row| row > 1))),
     ("take of bits", 1, |n| _ = left(n).take(&indices(n))),

@@ -1,4 +1,4 @@
-//! Packs truth values into bits, and takes bits at indices.
+//! Packs truth values into bits, unpacks bits, and takes bits at indices.
 
 use crate::take::BitIndex;
 use crate::written::Written;
@@ -25,6 +25,22 @@ pub fn pack_truthy(out: &mut Written<'_>, truthy: &[u8]) {
     debug_assert_eq!(out.len(), truthy.len());
     native!(pack_truthy: start_mut out, slice truthy);
     portable::pack(out, truthy, |value| value != 0);
+}
+
+/// Writes one bool per bit. The C function writes bytes 0 and 1, which bools are.
+#[inline]
+pub fn unpack_bools(out: &mut [bool], bits: Bits<'_>) {
+    debug_assert_eq!(out.len(), bits.len());
+    native!(unpack_bytes: cast_mut out, window bits);
+    portable::unpack(out, bits, |digit| digit != 0);
+}
+
+/// Writes one byte per bit, 0 or 1.
+#[inline]
+pub fn unpack_bytes(out: &mut [u8], bits: Bits<'_>) {
+    debug_assert_eq!(out.len(), bits.len());
+    native!(unpack_bytes: slice_mut out, window bits);
+    portable::unpack(out, bits, |digit| digit);
 }
 
 /// Writes the bits at the indices. There is one index per bit of `out` and of `validity`. Returns

@@ -1,6 +1,6 @@
-//! Fills, negates, copies, combines and packs windows, by words.
+//! Fills, negates, copies, combines, packs and unpacks windows, by words.
 
-use super::word::{eight_of, low, only_word, quick_words};
+use super::word::{eight_of, low, only_word, quick_words, words};
 use crate::Bits;
 use crate::kernels::Operator;
 use crate::written::Written;
@@ -269,4 +269,24 @@ fn few<T: Copy>(values: &[T], is_true: impl Fn(T) -> bool) -> u64 {
     digits.fold(0, |word, (at, &value)| {
         word | u64::from(is_true(value)) << at
     })
+}
+
+/// Sets each item to `of` of its bit, 1 or 0. There is one item per bit.
+#[inline]
+pub fn unpack<T>(out: &mut [T], bits: Bits<'_>, of: impl Fn(u8) -> T) {
+    for (word, out) in words(bits).zip(out.chunks_mut(64)) {
+        for (byte, out) in word.to_le_bytes().into_iter().zip(out.chunks_mut(8)) {
+            for (item, digit) in out.iter_mut().zip(digits_of(byte)) {
+                *item = of(digit);
+            }
+        }
+    }
+}
+
+/// Returns the bits of a byte, as bytes 0 and 1. A multiplication copies it to each byte of a word,
+/// where one bit is kept; adding 127 sets the highest bit unless that is 0.
+#[inline]
+fn digits_of(byte: u8) -> [u8; 8] {
+    let each = u64::from(byte).wrapping_mul(0x0101_0101_0101_0101) & 0x8040_2010_0804_0201;
+    ((each + 0x7F7F_7F7F_7F7F_7F7F) >> 7 & 0x0101_0101_0101_0101).to_le_bytes()
 }

@@ -1,0 +1,3 @@
+pub use Rattle.vb_bits.specs.Bits
+pub use Rattle.vb_bits.specs.InBytes
+pub use Rattle.vb_c_core.specs.Fits
