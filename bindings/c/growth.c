@@ -91,6 +91,9 @@ static size_t size;
         vb_masked_min_##name((const type *)values, n, WINDOW(mixed, LEFT)).value)                 \
     ROW(masked_max_##name,                                                                        \
         vb_masked_max_##name((const type *)values, n, WINDOW(mixed, LEFT)).value)
+#define SCATTER(name, type)                                                                       \
+    ROW(scatter_values_##name, vb_scatter_values_##name((type *)written, n, (const type *)values, \
+        n, WINDOW(mixed, LEFT)))
 #define TAKE_VALUES(name, type, at)                                                               \
     ROW(take_values_##name##_##at, vb_take_values_##name##_##at((type *)written, n,               \
         (const type *)values, n, indices_##at, n, NULLS).position)
@@ -179,6 +182,12 @@ AGGREGATE(i8, int8_t)
 AGGREGATE(i16, int16_t)
 AGGREGATE(i32, int32_t)
 AGGREGATE(i64, int64_t)
+SCATTER(u8, uint8_t)
+SCATTER(u16, uint16_t)
+SCATTER(u32, uint32_t)
+SCATTER(u64, uint64_t)
+SCATTER(u128, vb_u128)
+ROW(scatter_values, vb_scatter_values(written, n, values, n, 4, WINDOW(mixed, LEFT)))
 TAKE(u8)
 TAKE(u16)
 TAKE(u32)
@@ -218,10 +227,12 @@ static const row rows[] = {
     OF_COMPARE(u16) OF_COMPARE(u32) OF_COMPARE(u64) OF_COMPARE(i8) OF_COMPARE(i16)
     OF_COMPARE(i32) OF_COMPARE(i64) OF_COMPARE(f32) OF_COMPARE(f64)
     OF(filter_values_u8) OF(filter_values_u16) OF(filter_values_u32) OF(filter_values_u64)
-    OF(filter_values_u128) OF(filter_values) OF_AGGREGATE(u8) OF_AGGREGATE(u16) OF_AGGREGATE(u32)
-    OF_AGGREGATE(u64) OF_AGGREGATE(i8) OF_AGGREGATE(i16) OF_AGGREGATE(i32) OF_AGGREGATE(i64)
-    OF_TAKE(u8) OF_TAKE(u16) OF_TAKE(u32) OF_TAKE(u64) OF(take_values) OF(block_counts) OF(rank)
-    OF(ranked_select) OF(ranked_select_unset)
+    OF(filter_values_u128) OF(filter_values) OF(scatter_values_u8) OF(scatter_values_u16)
+    OF(scatter_values_u32) OF(scatter_values_u64) OF(scatter_values_u128) OF(scatter_values)
+    OF_AGGREGATE(u8) OF_AGGREGATE(u16) OF_AGGREGATE(u32) OF_AGGREGATE(u64) OF_AGGREGATE(i8)
+    OF_AGGREGATE(i16) OF_AGGREGATE(i32) OF_AGGREGATE(i64) OF_TAKE(u8) OF_TAKE(u16) OF_TAKE(u32)
+    OF_TAKE(u64) OF(take_values) OF(block_counts) OF(rank) OF(ranked_select)
+    OF(ranked_select_unset)
 };
 #define ROWS (sizeof rows / sizeof *rows)
 

@@ -148,6 +148,44 @@ static void three_valued(const uint8_t *left, size_t l, const uint8_t *left_vali
     }
 }
 
+/* Values of a type that go back to the items of a mask, beside items that stay as they were. */
+#define SCATTERS(V, value_t)                                                                      \
+    static void scatters_##V(const uint8_t *mask, size_t m, size_t len, size_t ones)              \
+    {                                                                                             \
+        static value_t values[BITS], got[2][BITS], wanted[BITS];                                  \
+        size_t written = 77, n = 0;                                                               \
+        memset(got, 0xA5, sizeof got);                                                            \
+        memset(wanted, 0xA5, sizeof wanted);                                                      \
+        for (size_t i = 0; i < len; i++) {                                                        \
+            const uint64_t number = number_at(i);                                                 \
+            memset(&values[i], (int)(number >> 56), sizeof(value_t));                             \
+            memcpy(&values[i], &number, sizeof(value_t) < 8 ? sizeof(value_t) : 8);               \
+        }                                                                                         \
+        for (size_t i = 0; i < len; i++) {                                                        \
+            if (bit(mask, m + i)) {                                                               \
+                wanted[i] = values[n++];                                                          \
+            }                                                                                     \
+        }                                                                                         \
+        const size_t room = ones + random_below(len - ones + 1);                                  \
+        check(vb_scatter_values_##V(got[0], len, values, room, mask, BYTES, m) == ones,           \
+            "how many values of " #V " go back");                                                 \
+        check(vb_try_scatter_values_##V(got[1], len, values, ones, mask, BYTES, m, &written)      \
+                && written == ones, "how many of " #V " go back, checked");                       \
+        check(memcmp(got[0], wanted, sizeof wanted) == 0                                          \
+                && memcmp(got[1], wanted, sizeof wanted) == 0, "values of " #V " that go back");  \
+        check(ones == 0 || !vb_try_scatter_values_##V(got[1], len, values, ones - 1, mask, BYTES, \
+                m, &written), "too few values of " #V);                                           \
+        check(!vb_try_scatter_values_##V(got[1], len, values, len, mask, (m + len) / 8, m + 8,    \
+                &written) && written == ones && memcmp(got[1], wanted, sizeof wanted) == 0,       \
+            "a bad mask of " #V);                                                                 \
+    }
+
+SCATTERS(u8, uint8_t)
+SCATTERS(u16, uint16_t)
+SCATTERS(u32, uint32_t)
+SCATTERS(u64, uint64_t)
+SCATTERS(u128, vb_u128)
+
 /* Of bits and of values the ones that a mask keeps, with what stood in memory behind them. */
 static void filters(const uint8_t *bytes, size_t v, const uint8_t *mask, size_t m, size_t len)
 {
@@ -210,6 +248,11 @@ static void filters(const uint8_t *bytes, size_t v, const uint8_t *mask, size_t 
     }
     check(memcmp(got[0], kept, BYTES) == 0 && memcmp(got[1], kept, BYTES) == 0, "bits that are kept");
     deposits(bytes, v, mask, m, len, ones);
+    scatters_u8(mask, m, len, ones);
+    scatters_u16(mask, m, len, ones);
+    scatters_u32(mask, m, len, ones);
+    scatters_u64(mask, m, len, ones);
+    scatters_u128(mask, m, len, ones);
     combined_counts(bytes, v, mask, m, len);
     relations(bytes, v, mask, m, len);
     three_valued(bytes, v, mask, mask, m, bytes, len);

@@ -40,6 +40,23 @@ static bool same_taken(vb_taken a, vb_taken b)
                 && memcmp(got[0], got[2], sizeof got[0]) == 0, "what a filter of " #V " keeps");  \
     }
 
+#define SCATTERS(V, value_t)                                                                      \
+    static void scatters_##V(void)                                                                \
+    {                                                                                             \
+        static value_t values[VALUES], got[3][VALUES];                                            \
+        const size_t n = random_below(VALUES + 1), m = random_below(9), size = sizeof(value_t);   \
+        randomize(values, sizeof values);                                                         \
+        memset(got, 0xA5, sizeof got);                                                            \
+        size_t written = 77;                                                                      \
+        const size_t kept = vb_scatter_values_##V(got[0], n, values, VALUES, mask, BYTES, m);     \
+        check(vb_scatter_values(got[1], n, values, VALUES, size, mask, BYTES, m) == kept          \
+                && vb_try_scatter_values(got[2], n, values, VALUES, size, mask, BYTES, m,         \
+                    &written) && written == kept, "how many a scatter of " #V " writes");         \
+        check(memcmp(got[0], got[1], sizeof got[0]) == 0                                          \
+                && memcmp(got[0], got[2], sizeof got[0]) == 0,                                    \
+            "what a scatter of " #V " writes");                                                   \
+    }
+
 #define TAKES(V, value_t, I, index_t)                                                             \
     static void takes_##V##_##I(void)                                                             \
     {                                                                                             \
@@ -71,10 +88,12 @@ static bool same_taken(vb_taken a, vb_taken b)
     TAKES(V, value_t, u32, uint32_t) TAKES(V, value_t, u64, uint64_t)
 
 EACH(FILTERS)
+EACH(SCATTERS)
 EACH(BY)
 
 #define RUN(V, value_t)                                                                           \
     filters_##V();                                                                                \
+    scatters_##V();                                                                               \
     takes_##V##_u8();                                                                             \
     takes_##V##_u16();                                                                            \
     takes_##V##_u32();                                                                            \
@@ -90,6 +109,7 @@ static void refusals(void)
     for (size_t size = 0; size <= 40; size++) {
         const bool known = size == 1 || size == 2 || size == 4 || size == 8 || size == 16;
         check(vb_try_filter_values(out, 4, values, 4, size, mask, BYTES, 0, &written) == known
+                && vb_try_scatter_values(out, 4, values, 4, size, mask, BYTES, 0, &written) == known
                 && vb_try_take_values(out, 4, values, 4, size, indices, 4, 8, true, NULL, 0, 0,
                     &past) == known, "a size of values");
         check(vb_try_take_values(out, 4, values, 4, 8, indices, 4, size, true, NULL, 0, 0, &past)
@@ -101,6 +121,8 @@ static void refusals(void)
     const uint8_t *odd = (const uint8_t *)values + 4;
     check(!vb_try_filter_values(out, 4, odd, 4, 8, mask, BYTES, 0, &written)
             && !vb_try_filter_values((uint8_t *)out + 1, 4, values, 4, 2, mask, BYTES, 0, &written)
+            && !vb_try_scatter_values(out, 4, odd, 4, 8, mask, BYTES, 0, &written)
+            && !vb_try_scatter_values((uint8_t *)out + 1, 4, values, 4, 2, mask, BYTES, 0, &written)
             && !vb_try_take_values(out, 4, odd, 4, 16, indices, 4, 8, true, NULL, 0, 0, &past)
             && !vb_try_take_values(out, 4, values, 4, 8, odd, 4, 8, true, NULL, 0, 0, &past),
         "items that aren't aligned");

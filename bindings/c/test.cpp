@@ -199,6 +199,11 @@ static void filters()
     refused([&] { (void)window.filter_into(bits(all, 0, 7), out); }, "two lengths");
     refused([&] { (void)mask.keep_into(some, some); }, "two lengths");
     refused([&] { (void)mask.keep_into(values, std::vector<std::uint16_t>(4)); }, "no room");
+    std::vector<std::uint16_t> back(8, 5);
+    check(mask.scatter_into(some, back) == 5, "how many values go back");
+    check(back == std::vector<std::uint16_t>({5, 11, 12, 5, 14, 15, 5, 17}), "values that go back");
+    refused([&] { (void)mask.scatter_into(some, some); }, "two lengths");
+    refused([&] { (void)mask.scatter_into(std::vector<std::uint16_t>(4), back); }, "few values");
 }
 
 static void pairs()
@@ -397,6 +402,13 @@ template <class Value> static void keep(const buffer &all)
     std::memset(static_cast<void *>(&out), 0x5A, sizeof out);
     const std::size_t kept = mask.keep_into(values, out);
     check(kept == mask.count_ones(), "how many values of a type are kept");
+    std::array<Value, 190> back;
+    std::memset(static_cast<void *>(&back), 0x5A, sizeof back);
+    check(mask.scatter_into(out, back) == kept, "how many values of a type go back");
+    for (std::size_t i = 0; i < back.size(); i++) {
+        const Value &wanted = mask[i] ? values[i] : out.back();
+        check(std::memcmp(&back[i], &wanted, sizeof(Value)) == 0, "values of a type that go back");
+    }
     std::size_t at = 0;
     mask.for_each_set([&](std::size_t i) {
         check(std::memcmp(&out[at++], &values[i], sizeof(Value)) == 0, "values of a type");

@@ -1,7 +1,7 @@
 /*
  * Functions over windows of bits in the caller's bytes. They count, search, compare, fill, copy,
- * combine, pack, unpack, take (gather), filter, walk and rank bits, and are proved to meet their
- * definitions.
+ * combine, pack, unpack, take (gather), filter, scatter, walk and rank bits, and are proved to meet
+ * their definitions.
  *
  *     cc -O2 app.c -I DIST/include DIST/lib/libvortex_bits.a
  *     cc -O2 app.c $(pkg-config --cflags --libs vortex_bits-static)
@@ -57,8 +57,8 @@
  * it replaces a null pointer to no items by one that they accept; checked forms reject others; it
  * selects the level; vb_set_indices, vb_set_indices_u32, vb_set_slices and their checked forms work
  * by pages of memory, and join runs that cross page ends; it packs bools as bytes, and unpacks them
- * so; vb_filter_values and vb_take_values choose by sizes. The C++ classes are also written by hand,
- * and tested.
+ * so; vb_filter_values, vb_scatter_values and vb_take_values choose by sizes. The C++ classes are
+ * also written by hand, and tested.
  */
 #ifndef VORTEX_BITS_H
 #define VORTEX_BITS_H

@@ -299,6 +299,14 @@ public:
     template <class Values, class Out>
     std::size_t keep_into(const Values &values, Out &&out) const;
 
+    /*
+     * Undoes keep_into (scatters): writes the values, in order, over those items of `out` whose bit
+     * is set, and returns their number. There must be one item per bit, and a value per set bit.
+     * Values after these are ignored, and the other items are unchanged.
+     */
+    template <class Values, class Out>
+    std::size_t scatter_into(const Values &values, Out &&out) const;
+
     /* Copies the bits to one bool each (std::vector<bool> lends none), or to one byte 0 or 1. */
     template <class Bools> void copy_to_bools(Bools &&out) const;
     template <class Bytes> void copy_to_bytes(Bytes &&out) const;

@@ -1,6 +1,7 @@
 /*
- * Values of 1, 2, 4, 8 or 16 bytes, selected by a mask or by indices. vortex_bits.h includes this
- * file; its first comment states what the caller must ensure for every call.
+ * Values of 1, 2, 4, 8 or 16 bytes, selected by a mask or by indices, or scattered by a mask.
+ * vortex_bits.h includes this file; its first comment states what the caller must ensure for every
+ * call.
  */
 #ifndef VORTEX_BITS_VALUES_H
 #define VORTEX_BITS_VALUES_H
@@ -66,6 +67,62 @@ VB_CHECKED bool vb_try_filter_values_u128(vb_u128 *out, size_t out_count, const 
 size_t vb_filter_values(void *out, size_t out_count, const void *values, size_t values_count,
         size_t value_size, const uint8_t *mask, size_t mask_size, size_t mask_offset);
 VB_CHECKED bool vb_try_filter_values(void *out, size_t out_count, const void *values,
+        size_t values_count, size_t value_size, const uint8_t *mask, size_t mask_size,
+        size_t mask_offset, size_t *written);
+
+/*
+ * Undoes vb_filter_values (scatters): writes the values, in order, over those items of `out` whose
+ * bit of `mask`, from bit `mask_offset` on, is true, and returns their number (`written`). The mask
+ * has `out_count` bits. `values_count` must be at least the number of set bits; the checked form
+ * tests it too. Values after those are ignored, and the other items of `out` are unchanged.
+ * Processes 64 items at a time.
+ *
+ *     uint32_t column[] = {1, 2, 3};
+ *     const uint32_t values[] = {5, 7};
+ *     const uint8_t mask[] = {0x05};
+ *     assert(vb_scatter_values_u32(column, 3, values, 2, mask, 1, 0) == 2);
+ *     assert(column[0] == 5 && column[1] == 2 && column[2] == 7);
+ */
+/* Written by tools/write-lists from tools/families/scatter.txt. */
+size_t vb_scatter_values_u8(uint8_t *out, size_t out_count, const uint8_t *values,
+        size_t values_count, const uint8_t *mask, size_t mask_size, size_t mask_offset);
+VB_CHECKED bool vb_try_scatter_values_u8(uint8_t *out, size_t out_count, const uint8_t *values,
+        size_t values_count, const uint8_t *mask, size_t mask_size, size_t mask_offset,
+        size_t *written);
+size_t vb_scatter_values_u16(uint16_t *out, size_t out_count, const uint16_t *values,
+        size_t values_count, const uint8_t *mask, size_t mask_size, size_t mask_offset);
+VB_CHECKED bool vb_try_scatter_values_u16(uint16_t *out, size_t out_count, const uint16_t *values,
+        size_t values_count, const uint8_t *mask, size_t mask_size, size_t mask_offset,
+        size_t *written);
+size_t vb_scatter_values_u32(uint32_t *out, size_t out_count, const uint32_t *values,
+        size_t values_count, const uint8_t *mask, size_t mask_size, size_t mask_offset);
+VB_CHECKED bool vb_try_scatter_values_u32(uint32_t *out, size_t out_count, const uint32_t *values,
+        size_t values_count, const uint8_t *mask, size_t mask_size, size_t mask_offset,
+        size_t *written);
+size_t vb_scatter_values_u64(uint64_t *out, size_t out_count, const uint64_t *values,
+        size_t values_count, const uint8_t *mask, size_t mask_size, size_t mask_offset);
+VB_CHECKED bool vb_try_scatter_values_u64(uint64_t *out, size_t out_count, const uint64_t *values,
+        size_t values_count, const uint8_t *mask, size_t mask_size, size_t mask_offset,
+        size_t *written);
+size_t vb_scatter_values_u128(vb_u128 *out, size_t out_count, const vb_u128 *values,
+        size_t values_count, const uint8_t *mask, size_t mask_size, size_t mask_offset);
+VB_CHECKED bool vb_try_scatter_values_u128(vb_u128 *out, size_t out_count, const vb_u128 *values,
+        size_t values_count, const uint8_t *mask, size_t mask_size, size_t mask_offset,
+        size_t *written);
+/* To here. */
+
+/*
+ * Does the same for values of any type, by their size, as vb_filter_values does.
+ *
+ *     double column[] = {0.5, 1.5, 2.5, 3.5};
+ *     const double values[] = {8.5, 9.5};
+ *     const uint8_t mask[] = {0x0A};
+ *     assert(vb_scatter_values(column, 4, values, 2, sizeof *values, mask, 1, 0) == 2);
+ *     assert(column[1] == 8.5 && column[2] == 2.5 && column[3] == 9.5);
+ */
+size_t vb_scatter_values(void *out, size_t out_count, const void *values, size_t values_count,
+        size_t value_size, const uint8_t *mask, size_t mask_size, size_t mask_offset);
+VB_CHECKED bool vb_try_scatter_values(void *out, size_t out_count, const void *values,
         size_t values_count, size_t value_size, const uint8_t *mask, size_t mask_size,
         size_t mask_offset, size_t *written);
 

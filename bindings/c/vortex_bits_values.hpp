@@ -67,6 +67,26 @@ std::size_t bits::keep_into(const Values &values, Out &&out) const
     return 0;
 }
 
+template <class Values, class Out>
+std::size_t bits::scatter_into(const Values &values, Out &&out) const
+{
+    using value = std::remove_cv_t<detail::lent_t<const Values>>;
+    static_assert(detail::is_value<value>(),
+        "scatter_into takes values of 1, 2, 4, 8 or 16 bytes that are copied and aligned as whole "
+        "numbers are: these, floats, bool, vb_u128. std::vector<bool> has none of them");
+    static_assert(std::is_same_v<detail::lent_t<std::remove_reference_t<Out>>, value>,
+        "scatter_into writes values of the type that it reads");
+    detail::expect(out.size() == len_, "not a bit for each item");
+    detail::expect(count_ones() <= values.size(), "not a value for each set bit");
+    if constexpr (detail::is_value<value>()) {
+        using laid = detail::laid<sizeof(value)>;
+        return laid::scatter(reinterpret_cast<typename laid::type *>(out.data()), len_,
+            reinterpret_cast<const typename laid::type *>(values.data()), values.size(), bytes_,
+            size_, offset_);
+    }
+    return 0;
+}
+
 /*
  * Takes (gathers): writes the values at the indices, whole numbers of 8 to 64 bits, to the front of
  * `out`, one each; where `valid` is false, 0, whatever the index. Returns the first position that

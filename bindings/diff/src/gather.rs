@@ -153,7 +153,14 @@ fn keeps<T: Value + Copy + PartialEq + Debug>(
         .collect();
     wanted[..kept.len()].copy_from_slice(&kept);
     let count = case.right().keep_into(&values, &mut out);
-    same("keep_into", (count, out), (kept.len(), wanted))
+    let mut back: Vec<T> = (0..case.len).map(|_| value(case.len)).collect();
+    let mut scattered = back.clone();
+    for i in (0..case.len).filter(|&i| bit(&case.right, case.r + i)) {
+        scattered[i] = values[i];
+    }
+    let put = case.right().scatter_into(&out[..kept.len() + 1], &mut back);
+    Ok(same("keep_into", (count, out), (kept.len(), wanted))?
+        + same("scatter_into", (put, back), (kept.len(), scattered))?)
 }
 
 /// Which values compare so, with a number and with others, in each way there is.

@@ -1,7 +1,8 @@
-//! Deposits: bits scattered to the set bits of a mask.
+//! Deposits: bits and values scattered to the set bits of a mask.
 
 use crate::bits_mut::alike;
-use crate::{Bits, BitsMut, kernels};
+use crate::mask::sealed::Mask as _;
+use crate::{Bits, BitsMut, Value, kernels};
 
 #[cfg(feature = "alloc")]
 use crate::Bitmap;
@@ -50,5 +51,31 @@ impl Bits<'_> {
     pub fn deposit(self, mask: Bits<'_>) -> Bitmap {
         alike(mask.count_ones(), self.len());
         Bitmap::make(mask.len(), |out| self.deposit_into(mask, out))
+    }
+
+    /// Writes the values, in their order, to the items of `out` whose bit is set, and returns their
+    /// number. The other items of `out` are unchanged, and values after those are ignored. It undoes
+    /// a [`keep_into`](Bits::keep_into): new values of the selected rows go back to their column.
+    ///
+    /// ```
+    /// use vortex_bits::Bits;
+    ///
+    /// let mut column = [0.5, 1.5, 2.5, 3.5];
+    /// let mask = Bits::new(&[0b1010], 0, 4);
+    /// assert_eq!(mask.scatter_into(&[8.0, 9.0], &mut column), 2);
+    /// assert_eq!(column, [0.5, 8.0, 2.5, 9.0]);
+    /// ```
+    ///
+    /// # Panics
+    ///
+    /// If there isn't one item per bit, or a value per set bit; `out` is unchanged.
+    #[doc(alias("expand", "masked_scatter", "put"))]
+    #[track_caller]
+    pub fn scatter_into<T: Value>(self, values: &[T], out: &mut [T]) -> usize {
+        self.of_len(out.len());
+        let (set, count) = (self.count_ones(), values.len());
+        assert!(set <= count, "{count} values for {set} set bits");
+        kernels::scatter(out, &values[..set], self);
+        set
     }
 }

@@ -13,7 +13,7 @@ mod walk;
 
 pub use aggregate::{masked_checked_sum, masked_max, masked_min, masked_sum, masked_wrapping_sum};
 pub use compare::{compare, compare_with};
-pub use filter::{filter, keep};
+pub use filter::{filter, keep, scatter};
 pub use gather::{pack_bools, pack_truthy, take, unpack_bools, unpack_bytes};
 pub use kleene::{Column, Logic, combine_truths};
 pub use values::take_values;

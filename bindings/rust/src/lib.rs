@@ -1,6 +1,7 @@
 //! Functions over windows of bits in byte slices, least significant bit first. They count, search,
 //! compare, iterate over, fill, negate, copy, combine, pack, unpack, take (gather), filter and rank
-//! bits. [`values`] filters, compares, takes and sums values, and finds their minimum and maximum.
+//! bits, and scatter values by them. [`values`] filters, compares, takes and sums values, and finds
+//! their minimum and maximum.
 //!
 //! ```
 //! use vortex_bits::{Bitmap, Bits, Comparison, values};

@@ -403,6 +403,16 @@ kernels! {
         mask: *const u8, mask_size: usize, mask_offset: usize) -> usize;
     filter_values_u128(out: *mut Wide, out_count: usize, values: *const Wide, values_count: usize,
         mask: *const u8, mask_size: usize, mask_offset: usize) -> usize;
+    scatter_values_u8(out: *mut u8, out_count: usize, values: *const u8, values_count: usize,
+        mask: *const u8, mask_size: usize, mask_offset: usize) -> usize;
+    scatter_values_u16(out: *mut u16, out_count: usize, values: *const u16, values_count: usize,
+        mask: *const u8, mask_size: usize, mask_offset: usize) -> usize;
+    scatter_values_u32(out: *mut u32, out_count: usize, values: *const u32, values_count: usize,
+        mask: *const u8, mask_size: usize, mask_offset: usize) -> usize;
+    scatter_values_u64(out: *mut u64, out_count: usize, values: *const u64, values_count: usize,
+        mask: *const u8, mask_size: usize, mask_offset: usize) -> usize;
+    scatter_values_u128(out: *mut Wide, out_count: usize, values: *const Wide, values_count: usize,
+        mask: *const u8, mask_size: usize, mask_offset: usize) -> usize;
     take_values_u8_u8(out: *mut u8, out_count: usize, values: *const u8, values_count: usize,
         indices: *const u8, indices_count: usize, all_valid: bool, validity: *const u8,
         validity_size: usize, validity_offset: usize) -> Taken;

@@ -280,6 +280,9 @@ fn value_calls<T: Value + PartialEq>(pages: &Pages, read: &Read, make: fn(u8) ->
             let out = &mut pages.all()[place..];
             assert_eq!(mask.keep_into(values, out), kept.len());
             assert!(pages.all::<T>()[place..border] == kept[..]);
+            let out = &mut pages.all::<T>()[border - len..border];
+            assert_eq!(mask.scatter_into(&kept, out), kept.len());
+            assert!(values::filter(out, mask) == kept);
         }
         let (indices, valid) = (&read.indices[..len], read.right(len));
         for place in [border - len, border / 2] {

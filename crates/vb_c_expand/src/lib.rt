@@ -1,9 +1,12 @@
-//! Bits unpacked to bytes, as C functions.
+//! Bits unpacked to bytes, and values scattered by a mask, as C functions.
 //!
 //! A C caller must ensure the same as for `vb_c`: a slice is a pointer and the number of its items.
-//! A function has the contract of the kernel that it calls. The checked form next to it,
-//! `vb_try_..`, requires nothing: it returns whether the arguments are good, and leaves everything
-//! unchanged if they aren't. No function allocates.
+//! A function has the contract of the kernel that it calls. A value has 1, 2, 4, 8 or 16 bytes. It
+//! is passed as a whole number of that size, whatever it means: no function reads its bits. The
+//! checked form next to a function, `vb_try_..`, requires nothing: it returns whether the arguments
+//! are good, and leaves everything unchanged if they aren't. No function allocates.
 #![tactic(auto)]
 
+pub mod scatter;
 pub mod unpack;
+pub mod wide;

@@ -1,1 +1,2 @@
+mod ScatterLemmas
 mod UnpackLemmas

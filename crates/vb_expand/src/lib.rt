@@ -1,8 +1,10 @@
-//! Bits unpacked to bytes.
+//! Bits unpacked to bytes, and values scattered by a mask, in place.
 //!
-//! Lengths and indices are in bits. No call allocates.
+//! Lengths and indices are in bits, or in values. No call allocates.
 #![tactic(auto)]
 
+mod scatter;
 mod unpack;
 
+pub use scatter::scatter_values_into;
 pub use unpack::unpack_bytes;

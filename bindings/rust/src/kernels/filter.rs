@@ -1,4 +1,4 @@
-//! Selects bits and values by a mask.
+//! Selects bits and values by a mask, and scatters values by one.
 
 use crate::written::Written;
 use crate::{Bits, Value, portable};
@@ -48,4 +48,31 @@ pub fn keep<T: Value>(out: &mut [T], values: &[T], mask: Bits<'_>) -> usize {
         };
     }
     portable::keep(out, values, mask)
+}
+
+/// There is one item per bit of the mask, and one value per set bit.
+#[inline]
+pub fn scatter<T: Value>(out: &mut [T], values: &[T], mask: Bits<'_>) {
+    debug_assert_eq!(out.len(), mask.len());
+    debug_assert_eq!(values.len(), portable::count_ones(mask));
+    #[cfg(vortex_bits_native)]
+    if let (Some(kernels), Some(laid)) = (kernels().filter(|_| !is_word(mask)), Laid::of::<T>()) {
+        macro_rules! by {
+            ($name:ident) => {
+                native!(@call kernels.$name, [] cast_mut out, slice values, start mask)
+            };
+        }
+        let written: usize = match laid {
+            // Written by tools/write-lists from tools/families/scatter.txt.
+            Laid::One => by!(scatter_values_u8),
+            Laid::Two => by!(scatter_values_u16),
+            Laid::Four => by!(scatter_values_u32),
+            Laid::Eight => by!(scatter_values_u64),
+            Laid::Sixteen => by!(scatter_values_u128),
+            // To here.
+        };
+        debug_assert_eq!(written, values.len());
+        return;
+    }
+    portable::scatter(out, values, mask);
 }

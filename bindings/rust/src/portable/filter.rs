@@ -1,4 +1,4 @@
-//! Filters bits and values by a mask, and deposits bits at the indices of a mask's set bits.
+//! Filters bits and values by a mask, and scatters them to the indices of a mask's set bits.
 
 use super::word::{only_word, words};
 use crate::Bits;
@@ -116,4 +116,24 @@ fn expand(word: u64, mask: u64) -> u64 {
         left &= left - 1;
     }
     placed
+}
+
+/// Writes the values, one for each set bit of `mask`, to the items at the indices of these. `out`
+/// is as long as `mask`.
+#[inline]
+pub fn scatter<T: Copy>(out: &mut [T], values: &[T], mask: Bits<'_>) {
+    let mut rest = values;
+    for (mask, out) in words(mask).zip(out.chunks_mut(64)) {
+        let (values, behind) = rest.split_at(mask.count_ones() as usize);
+        rest = behind;
+        if values.len() == out.len() {
+            out.copy_from_slice(values);
+            continue;
+        }
+        let mut left = mask;
+        for &value in values {
+            out[left.trailing_zeros() as usize] = value;
+            left &= left - 1;
+        }
+    }
 }
