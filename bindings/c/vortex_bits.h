@@ -1,7 +1,6 @@
 /*
- * Functions over windows of bits in the caller's bytes. They count, search, compare, fill, copy,
- * combine, pack, unpack, take (gather), filter, scatter, walk and rank bits, and are proved to meet
- * their definitions.
+ * Functions over windows of bits in the caller's bytes, proved to meet their definitions: count,
+ * search, compare, fill, copy, combine, pack, unpack, take (gather), filter, scatter, walk, rank.
  *
  *     cc -O2 app.c -I DIST/include DIST/lib/libvortex_bits.a
  *     cc -O2 app.c $(pkg-config --cflags --libs vortex_bits-static)
@@ -121,15 +120,6 @@ typedef struct {
     uint64_t low;
     uint64_t high;
 } vb_u128;
-
-/*
- * A signed number of 128 bits: low + high * 2^64. If `high` is 0, it is `low`; if it is negative, so
- * is the number. With __int128 it is (__int128)((unsigned __int128)it.high << 64 | it.low).
- */
-typedef struct {
-    uint64_t low;
-    int64_t high;
-} vb_i128;
 
 /*
  * Returns the bit at `offset`, which must be in the bytes.

@@ -1,7 +1,6 @@
 /*
- * The windows of vortex_bits.h as C++ classes, for C++17 and later. This file includes its parts:
- * vortex_bits_aggregate.hpp, _compare.hpp, _gather.hpp, _ranks.hpp and _values.hpp. You may also
- * include each part on its own, and in any order.
+ * The windows of vortex_bits.h as C++ classes, for C++17 and later. This file includes its parts,
+ * such as vortex_bits_values.hpp, which you may also include alone and in any order.
  *
  *     c++ -std=c++17 -O2 app.cpp -I DIST/include DIST/lib/libvortex_bits.a
  *
@@ -11,9 +10,8 @@
  *     rows.for_each_set([&](std::size_t row) { .. });
  *
  * A window is tested once, by its constructor. Like a std::span it does not own its bytes, so a
- * window over a temporary container does not compile. The calls test the rest: that two windows
- * have one length, that an index is in bounds, that the capacity suffices. If a test fails, the
- * call throws std::out_of_range and has written nothing; without exceptions the program aborts.
+ * window over a temporary container does not compile. The calls test lengths, indices and capacity.
+ * A failed test throws std::out_of_range before a write; without exceptions the program aborts.
  */
 #ifndef VORTEX_BITS_HPP
 #define VORTEX_BITS_HPP

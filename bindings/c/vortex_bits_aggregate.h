@@ -15,6 +15,15 @@
 extern "C" {
 #endif
 
+/*
+ * A signed number of 128 bits: low + high * 2^64. If `high` is 0, it is `low`; if it is negative, so
+ * is the number. With __int128 it is (__int128)((unsigned __int128)it.high << 64 | it.low).
+ */
+typedef struct {
+    uint64_t low;
+    int64_t high;
+} vb_i128;
+
 /* A value, or none: `value` is meaningful only if `has_value` is true. */
 /* Written by tools/write-lists from tools/families/masked_sums.txt. */
 typedef struct { bool has_value; uint8_t value; } vb_optional_u8;
