@@ -17,7 +17,7 @@ use crate::{BitIndex, Bitmap, Grow};
 /// if there were no bits. Bits that are present may still be all true; no call tests that. Two
 /// validities are equal if they have the same valid rows, with bits or without.
 ///
-/// Operators always return a [`Bitmap`](crate::Bitmap), as `is null` and `is not null` need: `!`
+/// Operators always return a `Bitmap`, as `is null` and `is not null` need: `!`
 /// returns which rows are null, `Bitmap::from` which are valid, and `&`, `|` and `^` accept a
 /// validity on both sides.
 ///
