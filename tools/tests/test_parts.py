@@ -27,6 +27,8 @@ echo 'rt: chose --jobs 4 for vb_c'
 echo 'fn vb_c::first: not proved'
 exit 1"""
 NEVER_ENDS = "sleep 600 & echo $! >child; echo begun; wait"
+# The signals that end a command, and the exit status after each.
+INTERRUPTS = {signal.SIGINT: 130, signal.SIGTERM: 143, signal.SIGHUP: 129}
 # An `rt` that builds an empty library for each crate, and a compiler for C that makes a program of
 # benchmarks of what it links.
 EMPTY = """[ "$1" != doc ] || { echo kit/START-HERE.md; exit 0; }
@@ -43,6 +45,13 @@ echo '{}' >"$3"
 [ "$4" != wrong ]
 END
 chmod +x "$2\""""
+
+
+def take_signals():
+    """Ends the process on each of the signals, since a shell can't trap one that was ignored when
+    it started, as after `nohup` or `&`."""
+    for sign in INTERRUPTS:
+        signal.signal(sign, signal.SIG_DFL)
 
 
 class Folder(unittest.TestCase):
@@ -84,8 +93,7 @@ class Folder(unittest.TestCase):
             text=True,
             stdout=subprocess.PIPE,
             stderr=subprocess.STDOUT,
-            # A shell that was started with an interrupt ignored can't trap one.
-            preexec_fn=lambda: signal.signal(signal.SIGINT, signal.SIG_DFL),
+            preexec_fn=take_signals,
         )
 
     def run_it(self, *words: str) -> tuple[int, list[str]]:
@@ -243,7 +251,7 @@ try else echo '6 passed, 1 failed (not the gate)'""")
     def test_an_interrupt_keeps_the_file_and_ends_what_runs(self):
         self.command("part", NEVER_ENDS)
         self.script("part first\ntry one true\ntry two ./part\ntry three true")
-        for sign, wanted in ((signal.SIGINT, 130), (signal.SIGTERM, 143), (signal.SIGHUP, 129)):
+        for sign, wanted in INTERRUPTS.items():
             with self.subTest(sign):
                 status, lines = self.interrupt(sign, "out/log", "./script")
                 self.assertEqual(status, wanted)
