@@ -8,9 +8,8 @@ from documents.files import Repository
 from families.fill import Target, of_template
 
 FOLDER = "tools/families"
-# Whether a file of a crate says in its first line that a tool writes it. Adding that line changes
-# the file, and a crate that is changed is proved again.
-SAYS_SO = False
+# How a comment begins in the files whose first line says that a tool writes them; the others have
+# markers around each text.
 COMMENTS = {".rt": "//", ".antt": "--"}
 REGION = re.compile(
     r"^ *(?:/\*|//) Written by tools/write-lists from (\S+\.txt)\.(?: \*/)?\n"
@@ -64,10 +63,13 @@ def put(file: Written, template: str, part: Target, before: int) -> None:
     file.text = file.text[: where.start] + part.text + file.text[where.stop :]
     file.lines += part.text.count("\n")
     mark = COMMENTS.get(Path(part.path).suffix)
-    if SAYS_SO and mark:
+    if mark:
         how = "Written" if part.kind == "file" else "Written in part"
         line = f"{mark} {how} by tools/write-lists from {template}.\n"
-        file.text = line + file.text.removeprefix(line)
+        rest = file.text.removeprefix(line).removeprefix("\n")
+        # A comment about what the file has is another one.
+        gap = "\n" if rest.startswith(f"{mark} ") else ""
+        file.text = line + gap + rest
 
 
 def items(text: str, part: Target) -> slice:

@@ -1,3 +1,4 @@
+// Written in part by tools/write-lists from tools/families/operators.txt.
 //! Windows combined by an operator, in place and into a third one.
 ghost use Rattle.std.specs.Prelude.{◌≡◌};
 ghost use Rattle.vb_bits.specs.Bits.{bits};

@@ -1,3 +1,4 @@
+// Written by tools/write-lists from tools/families/masked_sums.txt.
 //! Values that may be missing, as they cross to C.
 ghost use Rattle.std.specs.Prelude.{◌≡◌};
 ghost use Rattle.vb_c_aggregate.specs.Optional.{optional_u8, optional_u16};

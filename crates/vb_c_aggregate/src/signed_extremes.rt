@@ -1,3 +1,4 @@
+// Written by tools/write-lists from tools/families/masked_extremes.txt.
 //! The least and the greatest of signed values.
 ghost use Rattle.std.specs.Prelude.{◌≡◌, length};
 ghost use Rattle.vb_bits.specs.InBytes.{InBytes};

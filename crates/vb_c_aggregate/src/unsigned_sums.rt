@@ -1,3 +1,4 @@
+// Written by tools/write-lists from tools/families/masked_sums.txt.
 //! Sums of unsigned values.
 ghost use Rattle.std.specs.Int.{w8, w16, w32, w64};
 ghost use Rattle.std.specs.Prelude.{◌≡◌, ◌^◌, ◌<◌, length, pos};

@@ -1,3 +1,4 @@
+// Written in part by tools/write-lists from tools/families/compare.txt.
 //! Floats compared with a number, and with others.
 ghost use Rattle.std.specs.Prelude.{◌≡◌, length, map};
 ghost use Rattle.std.specs.Simd.Lanes.{zip2};

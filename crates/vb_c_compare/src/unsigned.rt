@@ -1,3 +1,4 @@
+// Written by tools/write-lists from tools/families/compare.txt.
 //! Unsigned values compared with a number.
 ghost use Rattle.std.specs.Prelude.{◌≡◌, length, map, pos};
 ghost use Rattle.vb_bits.specs.Writes.{Writes};

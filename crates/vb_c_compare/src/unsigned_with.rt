@@ -1,3 +1,4 @@
+// Written by tools/write-lists from tools/families/compare.txt.
 //! Unsigned values compared with others.
 ghost use Rattle.std.specs.Prelude.{◌≡◌, length, pos};
 ghost use Rattle.std.specs.Simd.Lanes.{zip2};

@@ -1,3 +1,4 @@
+// Written in part by tools/write-lists from tools/families/kleene.txt.
 //! Truth values that may be null, combined by three-valued logic.
 ghost use Rattle.std.specs.Prelude.{◌≡◌};
 ghost use Rattle.std.specs.Simd.Lanes.{zip2};

@@ -1,3 +1,4 @@
+// Written in part by tools/write-lists from tools/families/take_bits.txt.
 //! Bits taken at indices.
 ghost use Rattle.std.specs.Prelude.{◌≡◌, ◌+◌, ◌*◌, ◌≤◌, IfOk, IfErr, length, map, pos};
 ghost use Rattle.std.specs.Option.{ForSome, option_map};

@@ -1,3 +1,4 @@
+// Written in part by tools/write-lists from tools/families/filter.txt.
 //! Values that a mask selects.
 ghost use Rattle.std.specs.Prelude.{◌≡◌, length};
 ghost use Rattle.vb_bits.specs.Bits.{bits, count};

@@ -1,3 +1,4 @@
+// Written in part by tools/write-lists from tools/families/elements.txt.
 //! Whole numbers as indices of bits.
 ghost use Rattle.std.specs.Prelude.{◌≡◌, ℤ, pos};
 ghost use Rattle.vb_core.specs.Indices.{place_of};

@@ -1,3 +1,4 @@
+// Written in part by tools/write-lists from tools/families/lanes.txt.
 //! Floats, compared 64 at a time.
 ghost use Rattle.std.specs.Prelude.{◌≡◌, ◌≤◌, List, length, map, replicate, take};
 ghost use Rattle.std.specs.Simd.Lanes.{zip2};

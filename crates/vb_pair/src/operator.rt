@@ -1,3 +1,4 @@
+// Written in part by tools/write-lists from tools/families/operators.txt.
 //! Counts of two windows that an operator combines.
 ghost use Rattle.std.specs.Prelude.{◌≡◌, ◌+◌, ◌/◌, ◌≤◌, min};
 ghost use Rattle.vb_bits.specs.Bits.{bits, count};

@@ -6,7 +6,6 @@ from unittest.mock import patch
 
 from documents.files import Repository
 from documents.written import REACHED, not_written
-from families import written
 from families.fill import laid_out, of_template
 from families.hand import hand
 from families.types import AND, COMPARED, OPERATORS, SIGNED, UNSIGNED, VALUES
@@ -42,8 +41,9 @@ use lib.{«T»}
 % end
 % end
 """
-MARK = "/* Written by tools/write-lists from tools/families/sum.txt. */"
-SUM = '''//! Sums.
+BY = "by tools/write-lists from tools/families/sum.txt."
+MARK = f"/* Written {BY} */"
+SUM = f"// Written in part {BY}\n" + '''//! Sums.
 use low::sum;
 
 /// The sum of the values, of one byte each.
@@ -68,8 +68,9 @@ FILES = {
     "uint8_t vb_sum_u8(const uint8_t *values, size_t count);\n"
     "uint16_t vb_sum_u16(const uint16_t *values, size_t count);\n"
     "/* To here. */\nvoid by_hand();\n",
-    "crates/low/proofs/sum/U8/Answers.antt": "use lib.{u8}\n",
-    "crates/low/proofs/sum/I8/Answers.antt": "use lib.{signed}\nuse lib.{i8}\n",
+    "crates/low/proofs/sum/U8/Answers.antt": f"-- Written {BY}\nuse lib.{{u8}}\n",
+    "crates/low/proofs/sum/I8/Answers.antt":
+    f"-- Written {BY}\nuse lib.{{signed}}\nuse lib.{{i8}}\n",
     REACHED: "//! All.\npub use low::one;\npub use low::two;\n",
 }
 
@@ -81,7 +82,9 @@ class Templates(unittest.TestCase):
         self.assertEqual(first.pattern, 'pub extern "C" fn vb_')
         self.assertEqual(first.text.count("\n\n"), 1)
         self.assertEqual([it.path for it in others], list(FILES)[2:-1])
-        self.assertEqual([it.text for it in others[1:]], list(FILES.values())[3:-1])
+        self.assertEqual([it.text for it in others[1:]], [
+            "use lib.{u8}\n", "use lib.{signed}\nuse lib.{i8}\n",
+        ])
 
     def test_a_docstring_is_filled_and_broken_where_it_says(self):
         words = " ".join(["word"] * 22)
@@ -120,7 +123,6 @@ class Types(unittest.TestCase):
         self.assertEqual((unsigned.end, signed.end), ("1 << 8", "1 << 7"))
         self.assertEqual((unsigned.number("n"), signed.number("n")), ("(pos n)", "n"))
         self.assertEqual((COMPARED[0].cpp, COMPARED[-1].cpp), ("std::uint8_t", "double"))
-
 
     def test_what_is_said_of_an_operator(self):
         self.assertEqual(AND.of_both("this", "that"), "this and that are true")
@@ -184,22 +186,22 @@ class Places(unittest.TestCase):
         with self.assertRaisesRegex(NoPlace, "no template writes"):
             self.differing(repository)
 
-    def test_a_file_says_that_it_is_written_where_it_may(self):
-        repository = self.repository()
-        with patch.object(written, "SAYS_SO", True):
-            texts = {path: it.text for path, it in files(repository)}
-            for path, text in texts.items():
-                (repository.root / path).write_text(text, encoding="utf-8")
-            self.assertEqual(self.differing(repository), [])
-        by = "by tools/write-lists from tools/families/sum.txt.\n"
-        proof = texts["crates/low/proofs/sum/U8/Answers.antt"]
-        self.assertEqual(texts["crates/low/src/sum.rt"], f"// Written in part {by}{SUM}")
-        self.assertEqual(proof, f"-- Written {by}use lib.{{u8}}\n")
-        self.assertEqual(texts["bindings/c/low.h"], FILES["bindings/c/low.h"])
+    def test_a_file_says_that_it_is_written(self):
+        for path in ("crates/low/src/sum.rt", "crates/low/proofs/sum/U8/Answers.antt"):
+            first = FILES[path].splitlines(keepends=True)[0]
+            repository = self.repository(path, first, "")
+            self.assertEqual(self.differing(repository), [path])
+            self.assertEqual(dict(files(repository))[path].text, FILES[path])
+
+    def test_a_file_says_what_it_has_in_a_comment_of_its_own(self):
+        template = TEMPLATE.replace("use lib.{«T»}", "-- Uses.\nuse lib.{«T»}")
+        repository = self.repository("tools/families/sum.txt", TEMPLATE, template)
+        text = dict(files(repository))["crates/low/proofs/sum/U8/Answers.antt"].text
+        self.assertEqual(text, f"-- Written {BY}\n\n-- Uses.\nuse lib.{{u8}}\n")
 
     def test_the_lines_that_are_written_by_hand(self):
         self.assertEqual(hand(self.repository()), (
-            "7 of 23 lines of src/, specs/ and proofs/ by hand; 16 in 4 files by "
+            "10 of 26 lines of src/, specs/ and proofs/ by hand; 16 in 4 files by "
             "tools/write-lists, whose templates have 29"
         ))
 

@@ -1,3 +1,4 @@
+// Written in part by tools/write-lists from tools/families/summands.txt.
 //! The signed whole numbers as terms of sums that wrap around.
 ghost use Rattle.std.proofs.lemmas.Int.{int_wrap-add_left};
 ghost use Rattle.std.specs.Int.{w8, w16, w32, w64, w128, int_wrap};

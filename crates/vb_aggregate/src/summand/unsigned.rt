@@ -1,3 +1,4 @@
+// Written in part by tools/write-lists from tools/families/summands.txt.
 //! The unsigned whole numbers as terms of sums that wrap around.
 ghost use Rattle.std.specs.Prelude.{pos, refl};
 ghost use Rattle.std.specs.Int.{w8, w16, w32, w64, w128};

@@ -1,3 +1,4 @@
+// Written in part by tools/write-lists from tools/families/summands.txt.
 //! The unsigned whole numbers as terms of exact sums.
 ghost use Rattle.std.specs.Prelude.{◌^◌, pos};
 

@@ -1,3 +1,4 @@
+// Written by tools/write-lists from tools/families/take_values.txt.
 //! Values at indices of 32 bits.
 ghost use Rattle.std.specs.Prelude.{◌≡◌, ◌≤◌, length, map, pos};
 ghost use Rattle.vb_c_core.specs.Fits.{DoneIf};

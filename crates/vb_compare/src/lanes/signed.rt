@@ -1,3 +1,4 @@
+// Written in part by tools/write-lists from tools/families/lanes.txt.
 //! The signed whole numbers, compared by vectors.
 //!
 //! `load` builds a vector from an array, value by value, since a contract knows only of a value

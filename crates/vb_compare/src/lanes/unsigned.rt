@@ -1,3 +1,4 @@
+// Written in part by tools/write-lists from tools/families/lanes.txt.
 //! The unsigned whole numbers, compared by vectors.
 ghost use Rattle.std.specs.Prelude.{◌≡◌, length, map, pos};
 

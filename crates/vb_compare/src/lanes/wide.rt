@@ -1,3 +1,4 @@
+// Written in part by tools/write-lists from tools/families/lanes.txt.
 //! The whole numbers of 128 bits, compared one by one, since no vector has them.
 ghost use Rattle.std.specs.Prelude.{◌≡◌, All, length, map, pos, FitsSigned};
 ghost use Rattle.std.specs.Int.{w128};

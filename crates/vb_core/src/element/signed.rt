@@ -1,3 +1,4 @@
+// Written in part by tools/write-lists from tools/families/elements.txt.
 //! The signed whole numbers as elements, in two's complement.
 ghost use Rattle.std.specs.Prelude.{FitsSigned, pos};
 ghost use Rattle.std.specs.Int.{w8, w16, w32, w64, w128, to_le_bytes, from_le_bytes, cast_signed};

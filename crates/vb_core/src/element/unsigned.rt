@@ -1,3 +1,4 @@
+// Written in part by tools/write-lists from tools/families/elements.txt.
 //! The unsigned whole numbers as elements.
 ghost use Rattle.std.specs.Prelude.{◌^◌, ◌<◌};
 ghost use Rattle.std.specs.Int.{w8, w16, w32, w64, w128, to_le_bytes, from_le_bytes};

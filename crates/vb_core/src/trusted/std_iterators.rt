@@ -1,3 +1,4 @@
+// Written in part by tools/write-lists from tools/families/elements.txt.
 //! Slice iterators and ranges of whole numbers know their number of items.
 ghost use Rattle.std.specs.Prelude.{◌≡◌, ◌-◌, length};
 ghost use Rattle.std.specs.Int.{int_gap};

@@ -1,3 +1,4 @@
+-- Written by tools/write-lists from tools/families/compare.txt.
 use Rattle.std.proofs.Common.{map}
 use Rattle.std.proofs.lemmas.List.{length-map}
 use Rattle.vb_float.specs.Floats.{compares_floats}

@@ -1,3 +1,4 @@
+-- Written by tools/write-lists from tools/families/compare.txt.
 use Rattle.std.specs.Simd.Lanes.{zip2}
 use Rattle.vb_compare.proofs.TruthLemmas.{length_paired}
 use Rattle.vb_float.specs.Floats.{compares_floats}

@@ -1,3 +1,4 @@
+-- Written by tools/write-lists from tools/families/kleene.txt.
 use Rattle.vb_kleene.specs.Kleene.{and_truths}
 use Rattle.vb_c_gather.proofs.ColumnLemmas.{column_of, columns_combined, column_in_parts}
 use Rattle.vb_c_gather.proofs.ColumnLemmas.{length-combined}

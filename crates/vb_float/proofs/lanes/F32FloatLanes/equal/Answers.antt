@@ -1,3 +1,4 @@
+-- Written by tools/write-lists from tools/families/lanes.txt.
 use mir.Syntax.{w32}
 use lib.Ieee.{eq}
 use Rattle.vb_compare.proofs.LaneLemmas.{digits_compared}

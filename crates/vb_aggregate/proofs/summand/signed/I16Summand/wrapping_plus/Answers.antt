@@ -1,3 +1,4 @@
+-- Written by tools/write-lists from tools/families/summands.txt.
 use Rattle.std.proofs.lemmas.Int.{wrapping_add_is}
 use Rattle.std.specs.Int.{w16}
 use Rattle.vb_aggregate.proofs.summand.signed.I16Summand.wrapping_plus.Goals as goal

@@ -1,3 +1,4 @@
+-- Written by tools/write-lists from tools/families/summands.txt.
 use Rattle.std.proofs.Common.{◌*◌, ◌^◌, refl, arith}
 use Rattle.std.specs.Int.{w128}
 use Rattle.vb_aggregate.proofs.TypesLemmas.{fits_near, added_signed}

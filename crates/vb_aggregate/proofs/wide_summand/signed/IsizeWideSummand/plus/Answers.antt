@@ -1,3 +1,4 @@
+-- Written by tools/write-lists from tools/families/summands.txt.
 use Rattle.std.proofs.Common.{◌*◌, ◌^◌, arith}
 use Rattle.std.proofs.lemmas.Int.{to_z-of_z}
 use Rattle.std.specs.Int.{w64, w128}

@@ -1,3 +1,4 @@
+-- Written by tools/write-lists from tools/families/summands.txt.
 use Rattle.std.proofs.Common.{◌^◌, ◌<◌, pos, sym, subst}
 use Rattle.vb_aggregate.specs.Sums.{IsValueOf}
 use Rattle.vb_aggregate.proofs.TypesLemmas.{narrowed_unsigned}

@@ -1,3 +1,4 @@
+-- Written by tools/write-lists from tools/families/summands.txt.
 use Rattle.std.proofs.Common.{◌*◌, ◌^◌, arith}
 use Rattle.vb_aggregate.proofs.TypesLemmas.{near_unsigned, added_unsigned}
 use Rattle.vb_aggregate.proofs.wide_summand.unsigned.U64WideSummand.plus.Goals as goal

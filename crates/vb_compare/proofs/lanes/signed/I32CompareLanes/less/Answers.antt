@@ -1,3 +1,4 @@
+-- Written by tools/write-lists from tools/families/lanes.txt.
 use mir.Syntax.{w32}
 use Rattle.vb_compare.proofs.LaneLemmas.{signed_less}
 use Rattle.vb_compare.proofs.lanes.signed.I32CompareLanes.less.Goals as goal

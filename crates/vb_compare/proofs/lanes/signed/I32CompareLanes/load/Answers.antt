@@ -1,3 +1,4 @@
+-- Written by tools/write-lists from tools/families/lanes.txt.
 use Rattle.std.proofs.Common.{length, take, sym, ap, ◌∙◌}
 use Rattle.std.proofs.lemmas.List.{map-id, length-take-le}
 use mir.Syntax.{w32}

@@ -1,3 +1,4 @@
+-- Written by tools/write-lists from tools/families/lanes.txt.
 use mir.Syntax.{w8}
 use Rattle.vb_compare.proofs.LaneLemmas.{unsigned_less}
 use Rattle.vb_compare.proofs.lanes.unsigned.U8CompareLanes.less.Goals as goal
