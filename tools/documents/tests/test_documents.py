@@ -1,4 +1,6 @@
 """Tests which faults the checks of documents find, and what they leave alone."""
+import os
+import subprocess
 import tempfile
 import unittest
 from pathlib import Path
@@ -265,9 +267,11 @@ class Checked(unittest.TestCase):
             found = stale(self.repository(LOW_dot_md=("It takes", f"It {text} takes")))
             self.assertEqual([it.split(": ")[1] for it in found], [what], text)
 
-    def test_words_are_those_of_text_cells_and_code(self):
-        text = "# A head\n\n| `one` | |\n|---|---|\n| -- | 2 |\n\n```c\nf(x);\n}\n```\n"
-        self.assertEqual(words(Document("", text)), len(["A", "head", "one", "2", "c", "f(x);"]))
+    def test_words_are_counted_as_wc_does(self):
+        text = "# A head\n\n| `one` | |\n|---|---|\n| ─ █ | 2 |\n\n```c\nf(x);\n}\n```\n"
+        counted = subprocess.run(["wc", "-w"], input=text, capture_output=True, text=True,
+                                 env={**os.environ, "LC_ALL": "C.UTF-8"}, check=True)
+        self.assertEqual(words(Document("", text)), int(counted.stdout))
 
     def test_documents_of_too_many_words(self):
         rest = MOST - sum(map(words, self.repository().documents))
