@@ -7,6 +7,8 @@ mod flags;
 mod formats;
 mod honest;
 mod hostile;
+#[cfg(target_pointer_width = "64")]
+mod huge;
 mod import;
 mod made;
 mod malformed;

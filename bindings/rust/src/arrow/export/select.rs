@@ -223,7 +223,8 @@ impl Export {
     /// - Returns [`ArrowError::Field`] if an array doesn't have the type of the field, or has a
     ///   null and the field allows none.
     /// - Returns [`ArrowError::LongTexts`] or [`ArrowError::TooLong`] if offsets of 32 bits, the
-    ///   ends of runs or the indices of a dictionary can't represent all rows.
+    ///   ends of runs or the indices of a dictionary can't represent all rows, or if there are 2^63
+    ///   rows or items or more, which is possible if these take no memory.
     /// - Returns the errors of `filter`.
     pub fn concat(field: &Field, arrays: &[Array]) -> Result<Export, ArrowError> {
         for array in arrays {
@@ -249,8 +250,11 @@ fn export(field: Field, of: &[Array], rows: Rows<'_>) -> Result<Export, ArrowErr
     })
 }
 
-/// Copies rows of arrays of one type.
+/// Copies rows of arrays of one type. Rows that take no memory may be more than an array can have.
 fn selected(field: &Field, of: &[Array], rows: Rows<'_>) -> Result<Owned<ArrowArray>, ArrowError> {
+    if i64::try_from(rows.len()).is_err() {
+        return Err(too_long(field, "rows", rows.len(), i64::MAX));
+    }
     let nulls = match field.layout {
         Layout::Nulls => Nulls::Unmarked(rows.len()),
         layout if layout.has_validity() => Nulls::Marked(fixed::validity(field, of, rows)?),

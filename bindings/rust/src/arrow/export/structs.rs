@@ -45,7 +45,8 @@ impl Export {
     ///
     /// # Panics
     ///
-    /// Panics if a column has another number of rows, or the validity another number of bits.
+    /// Panics if a column has another number of rows, the validity another number of bits, or if
+    /// there are 2^63 rows or more.
     #[must_use]
     #[track_caller]
     pub fn structs(
@@ -53,6 +54,7 @@ impl Export {
         columns: impl IntoIterator<Item = Export>,
         valid: Option<Bitmap>,
     ) -> Export {
+        assert!(i64::try_from(len).is_ok(), "{len} rows");
         let (mut fields, mut children) = (Vec::new(), Vec::new());
         for column in columns {
             let own = column.len;

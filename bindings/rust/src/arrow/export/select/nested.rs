@@ -63,10 +63,10 @@ pub(super) fn list_views(
     let sizes: Vec<&[u8]> = numbers.iter().map(|it| it[1]).collect();
     let items = whole(of, 0);
     let mut moved = Vec::new();
-    let mut before = 0;
+    let mut before = 0_usize;
     for (one, items) in of.iter().zip(&items).filter(|_| of.len() > 1) {
         moved.push(moved_offsets(one, width, items.len(), before)?);
-        before += items.len();
+        before = items.len().saturating_add(before);
     }
     let offsets: Vec<&[u8]> = if let [[offsets, _]] = numbers[..] {
         [offsets].into()
@@ -105,7 +105,7 @@ fn moved_offsets(
             return Err(of.malformed(Fault::Range { row, start, end }));
         }
         let start = usize::try_from(start).unwrap_or(usize::MAX);
-        put(&mut moved, row, width, start + before);
+        put(&mut moved, row, width, start.saturating_add(before));
     }
     Ok(moved)
 }
@@ -145,10 +145,10 @@ pub(super) fn coded(
         return Ok(made);
     }
     let mut moved = Vec::new();
-    let mut before = 0;
+    let mut before = 0_usize;
     for (one, items) in of.iter().zip(&dictionaries) {
         moved.push(moved_indices(field, one, before)?);
-        before += items.len();
+        before = items.len().saturating_add(before);
     }
     let bytes: Vec<&[u8]> = moved.iter().map(Vec::as_slice).collect();
     let mut made = Made::of([fixed::values(field, width, &bytes, rows)?]);
@@ -172,7 +172,8 @@ fn moved_indices(field: &Field, of: &Array, before: usize) -> Result<Vec<u8>, Ar
         };
         if u64::try_from(index).is_ok_and(|it| it > most) {
             let most = i64::try_from(most).unwrap_or(i64::MAX);
-            return Err(too_long(field, "items of a dictionary", index + 1, most));
+            let items = index.saturating_add(1);
+            return Err(too_long(field, "items of a dictionary", items, most));
         }
         put(&mut moved, row, width, index);
     }
