@@ -45,6 +45,15 @@ impl Maker {
         self.made("+s", &rows, vec![], (columns, None))
     }
 
+    /// Rows without nulls, at an offset by chance.
+    fn whole(&mut self, len: usize) -> Rows {
+        Rows {
+            len,
+            valid: None,
+            ..self.rows(len)
+        }
+    }
+
     /// Offsets by chance, and the last one of them.
     fn offsets(&mut self, rows: &Rows, width: usize) -> (Vec<i64>, usize) {
         let mut ends = vec![i64::try_from(self.below(3)).unwrap()];
@@ -70,13 +79,8 @@ impl Maker {
     pub(super) fn map(&mut self, len: usize) -> Tree {
         let rows = self.rows(len);
         let (ends, last) = self.offsets(&rows, 4);
-        let entries = Rows {
-            offset: 0,
-            len: last,
-            end: last,
-            valid: None,
-        };
-        let columns = (0..2).map(|_| self.bits(last)).collect();
+        let entries = self.whole(last);
+        let columns = (0..2).map(|_| self.bits(entries.end)).collect();
         let entries = self.made("+s", &entries, vec![], (columns, None));
         let ends = vec![Some(numbers(&ends, 4))];
         let (array, mut schema) = self.made("+m", &rows, ends, (vec![entries], None));
@@ -113,10 +117,12 @@ impl Maker {
         let ids = [0i64, 5, 127];
         let types: Vec<usize> = (0..rows.end).map(|_| self.below(3)).collect();
         let mut places = [0i64; 3];
+        // A row names the next item of its child, or the last one again.
         let mut offsets: Vec<i64> = types
             .iter()
             .map(|&child| {
-                places[child] += 1;
+                let is_next = is_sparse || places[child] == 0 || self.below(4) > 0;
+                places[child] += i64::from(is_next);
                 places[child] - 1
             })
             .collect();
@@ -154,12 +160,10 @@ impl Maker {
             ends.pop();
         }
         let number = ends.len();
-        let of = Rows {
-            offset: 0,
-            len: number,
-            end: number,
-            valid: None,
-        };
+        let of = self.whole(number);
+        // Before the offset there may be any ends.
+        let before = (0..of.offset).map(|_| i64::try_from(self.below(9)).unwrap() - 4);
+        let ends: Vec<i64> = before.collect::<Vec<_>>().into_iter().chain(ends).collect();
         let ends = vec![Some(numbers(&ends, width))];
         let ends = self.made(format, &of, ends, (vec![], None));
         let values = self.child_len(number);

@@ -107,7 +107,7 @@ impl Maker {
     }
 
     fn rows(&mut self, len: usize) -> Rows {
-        let offset = self.one_of(&[0, 0, 1, 7, 8, 9]);
+        let offset = self.one_of(&[0, 0, 0, 1, 7, 8, 9, 63, 64, 65]);
         let offset = self.offset.unwrap_or(offset);
         let end = offset + len;
         let valid = match self.below(3) {
