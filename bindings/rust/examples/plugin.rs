@@ -48,6 +48,19 @@ unsafe fn answer(
     }
 }
 
+/// Returns `count` items. If there are none, the pointer may be null, as callers in C expect.
+///
+/// # Safety
+///
+/// There are as many.
+unsafe fn items<'a, T>(first: *const T, count: usize) -> &'a [T] {
+    if count == 0 {
+        return &[];
+    }
+    // SAFETY: as of this function.
+    unsafe { slice::from_raw_parts(first, count) }
+}
+
 /// Writes the rows whose bit of the mask is set.
 ///
 /// # Safety
@@ -57,7 +70,7 @@ unsafe fn answer(
 pub unsafe extern "C" fn plugin_filter(given: Pair, out: Pair, mask: *const u8) -> c_int {
     let filter = |rows: Array| {
         // SAFETY: as of this function.
-        let mask = unsafe { slice::from_raw_parts(mask, rows.len().div_ceil(8)) };
+        let mask = unsafe { items(mask, rows.len().div_ceil(8)) };
         rows.filter(Bits::new(mask, 0, rows.len()))
     };
     // SAFETY: as of this function.
@@ -77,7 +90,7 @@ pub unsafe extern "C" fn plugin_take(
     count: usize,
 ) -> c_int {
     // SAFETY: as of this function.
-    let indices = unsafe { slice::from_raw_parts(indices, count) };
+    let indices = unsafe { items(indices, count) };
     let valid = values::compare(indices, Comparison::GreaterOrEqual, 0);
     // SAFETY: as of this function.
     unsafe { answer(given, out, |rows| rows.take_valid(indices, valid)) }
