@@ -177,10 +177,10 @@ impl<R: BufRead> Reader<R> {
             rows.push(&buffer[..taken]);
             let byte = end.map(|end| buffer[end]);
             self.consume(taken);
+            check_length(rows, start, self.line, field)?;
             if let Some(byte) = byte {
                 return self.read_end(byte, field);
             }
-            check_length(rows, start, self.line, field)?;
         }
     }
 
@@ -189,7 +189,9 @@ impl<R: BufRead> Reader<R> {
         let opened = self.line;
         loop {
             self.consume(1);
-            while self.read_to_quote(rows)? {
+            let mut has_more = true;
+            while has_more {
+                has_more = self.read_to_quote(rows)?;
                 check_length(rows, start, opened, field)?;
             }
             if self.peek()?.is_none() {

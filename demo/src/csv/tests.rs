@@ -126,6 +126,25 @@ fn rows_are_bounded() {
     );
 }
 
+/// A row may have as many bytes as the limit says and not one more, however it is written.
+#[test]
+fn rows_are_bounded_to_the_byte() {
+    let most = vec![b'a'; LONGEST_ROW];
+    let rows: [(&[u8], &[u8], [&[u8]; 2], usize); 4] = [
+        (b"", &most, [b"\n", b"a\n"], 0),
+        (b"\"", &most, [b"\"\r\n", b"a\"b"], 0),
+        (b"", &most[2..], [b",\"\"\"\"\"\"", b",\"\"\"\"\"\"\"\""], 1),
+        (b"", &most[1..], [b",a", b",aa\r"], 1),
+    ];
+    for (start, bytes, [end, over], field) in rows {
+        let row = [start, bytes, end].concat();
+        assert_eq!(read(&row, COMMAS, 1 << 16).1, None);
+        let row = [start, bytes, over].concat();
+        let error = Some((1, field, Malformed::TooLong));
+        assert_eq!(read(&row, COMMAS, 1 << 16).1, error);
+    }
+}
+
 #[test]
 fn other_dialects() {
     let plain = Dialect {
