@@ -9,9 +9,9 @@
  *     rows.count_ones();                                // 6
  *     rows.for_each_set([&](std::size_t row) { .. });
  *
- * A window is tested once, by its constructor. Like a std::span it does not own its bytes, so a
- * window over a temporary container does not compile. The calls test lengths, indices and capacity.
- * A failed test throws std::out_of_range before a write; without exceptions the program aborts.
+ * A window is tested once, by its constructor. It owns no bytes, like a std::span, so over a
+ * temporary container it does not compile. Calls test lengths, indices and capacity, and throw
+ * std::out_of_range before a write, or abort without exceptions. No output may overlap an input.
  */
 #ifndef VORTEX_BITS_HPP
 #define VORTEX_BITS_HPP

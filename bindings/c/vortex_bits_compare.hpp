@@ -52,7 +52,8 @@ template <class Value> constexpr bool is_compared()
 
 /*
  * Writes to `out` which of the values compare with `number` by `op`: VB_EQUAL, VB_LESS, .. of
- * vortex_bits_compare.h. Values are whole numbers of 8 to 64 bits, floats or doubles.
+ * vortex_bits_compare.h. Values are whole numbers of 8 to 64 bits, floats or doubles. C++ converts
+ * `number` to their type before the call, so that 300 becomes 44 beside values of 8 bits.
  */
 template <class Values>
 void compare(const Values &values, std::uint8_t op,
