@@ -191,3 +191,49 @@ fn rows_of_other_arrays_are_those_of_a_plain_reader() {
     println!("{joined} joined, {refused} refused");
     assert!(joined > rounds(1500) / 4 && refused < joined / 10);
 }
+
+/// What the children of a null row are, by whether they may be null.
+#[test]
+fn children_of_null_rows_are_null_or_empty() {
+    let columns = || {
+        let words = Export::texts(["no", "yes"], None);
+        let coded = Export::values(vec![1i8], None).with_dictionary(words);
+        [
+            Export::values(vec![7i64], None),
+            Export::bits(Bitmap::from([true]), None),
+            Export::texts(["a"], None),
+            coded.unwrap(),
+        ]
+    };
+    for may_be_null in [false, true] {
+        let columns = columns().map(|column| {
+            let field = column.field().clone().nullable(may_be_null);
+            column.with_field(&field).unwrap()
+        });
+        let rows = Export::structs(1, columns, None).into_array();
+        let taken = rows.take_valid(&[0u8, 9], Bits::new(&[0b01], 0, 2));
+        let taken = taken.unwrap().into_array();
+        assert_eq!(
+            taken.validity().unwrap().bits(),
+            Some(Bits::new(&[0b01], 0, 2))
+        );
+
+        let columns: Vec<Array> = taken.columns().unwrap().collect();
+        for column in &columns {
+            assert_eq!(column.field().is_nullable(), may_be_null);
+            assert_eq!(column.null_count().unwrap(), usize::from(may_be_null));
+        }
+        let [number, flag, text, coded] = &columns[..] else {
+            unreachable!()
+        };
+        assert_eq!(number.values::<i64>().unwrap(), [7, 0]);
+        assert_eq!(flag.bits().unwrap(), Bits::new(&[0b01], 0, 2));
+        assert!(
+            text.texts()
+                .unwrap()
+                .iter()
+                .eq([Some(&b"a"[..]), (!may_be_null).then_some(b"")])
+        );
+        assert_eq!(coded.dictionary_indices().unwrap(), [1, 0]);
+    }
+}

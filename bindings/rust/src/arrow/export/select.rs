@@ -110,8 +110,8 @@ impl Array {
     /// other index, whatever its number is. If there is such an index, the column may have nulls.
     ///
     /// Within a null row of a struct or of a fixed-size list, the children are null too if they may
-    /// have nulls; otherwise they are 0, false, an empty text or an empty list. A null row of a
-    /// union belongs to its first child.
+    /// have nulls; otherwise they are 0, false, an empty text, an empty list or the first item of a
+    /// dictionary. A null row of a union belongs to its first child.
     ///
     /// ```
     /// use vortex_bits::Bits;
@@ -199,7 +199,8 @@ impl Export {
     ///
     /// It copies the rows as [`Array::filter`] does. Arrays that share a dictionary continue to
     /// share it. Otherwise the items of all dictionaries are put one after the other too, and the
-    /// indices are adjusted.
+    /// indices are adjusted. Items may then be equal, and are in no order, whatever the field's
+    /// flags say.
     ///
     /// ```
     /// use vortex_bits::arrow::{Export, Field};
