@@ -129,8 +129,9 @@ fn rows_are_bounded() {
 /// A row may have as many bytes as the limit says and not one more, however it is written.
 #[test]
 fn rows_are_bounded_to_the_byte() {
+    type Long<'a> = (&'a [u8], &'a [u8], [&'a [u8]; 2], usize);
     let most = vec![b'a'; LONGEST_ROW];
-    let rows: [(&[u8], &[u8], [&[u8]; 2], usize); 4] = [
+    let rows: [Long<'_>; 4] = [
         (b"", &most, [b"\n", b"a\n"], 0),
         (b"\"", &most, [b"\"\r\n", b"a\"b"], 0),
         (b"", &most[2..], [b",\"\"\"\"\"\"", b",\"\"\"\"\"\"\"\""], 1),

@@ -29,12 +29,14 @@ pub trait Index: Copy {
 macro_rules! indices {
     ($($index:ty, $name:ident;)*) => {$(
         impl Index for $index {
+            #[allow(clippy::cast_possible_truncation, reason = "the type can represent it")]
             #[inline]
             fn of(place: usize) -> $index {
                 place as $index
             }
 
             #[cfg(vortex_bits_native)]
+            #[allow(clippy::cast_possible_truncation, reason = "the type can represent it")]
             #[inline]
             fn moved(self, base: usize) -> $index {
                 self + base as $index
