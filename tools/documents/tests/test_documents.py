@@ -275,9 +275,9 @@ class Checked(unittest.TestCase):
 
     def test_documents_of_too_many_words(self):
         rest = MOST - sum(map(words, self.repository().documents))
-        just, more = (f"Call{' it' * n} `one`" for n in (rest, rest + 1))
-        self.assertEqual(counts(self.repository(README_dot_md=("Call `one`", just))), [])
-        found = counts(self.repository(README_dot_md=("Call `one`", more)))
+        just, more = (f"It takes{' it' * n}" for n in (rest, rest + 1))
+        self.assertEqual(counts(self.repository(LOW_dot_md=("It takes", just))), [])
+        found = counts(self.repository(LOW_dot_md=("It takes", more)))
         self.assertEqual(found, [f"all documents: {MOST + 1} words, where {MOST} are the most"])
 
     def test_a_document_of_more_words_than_its_limit(self):
