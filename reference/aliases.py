@@ -1,4 +1,5 @@
 """Other words of the field by which a reader looks for a call: `popcount` finds `count_ones`."""
+from functools import cache
 
 # Names of calls, and of traits as `BitOr`, after the words that find them
 WORDS = {
@@ -29,6 +30,7 @@ WORDS = {
 }
 
 
+@cache
 def by_name() -> dict[str, str]:
     """For each name the words that find it."""
     found: dict[str, list[str]] = {}

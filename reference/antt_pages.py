@@ -2,7 +2,7 @@
 import re
 from html import escape
 
-from tools.documents.kinds import FACADE
+from documents.kinds import FACADE
 from reference.antt_items import AnttFile, Declaration
 from reference.fragments import Fragments
 from reference.html_text import name_html, tag

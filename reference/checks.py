@@ -5,7 +5,8 @@ from html import unescape
 from pathlib import Path
 from urllib.parse import unquote
 
-from tools.documents.kinds import FACADE
+from documents.calls import DECLARED
+from documents.kinds import FACADE
 from reference.rust_items import Item
 from reference.site import Site
 
@@ -40,6 +41,7 @@ class Checks:
         self.exports()
         self.words()
         self.docstrings()
+        self.headers()
         self.links()
 
     # ---- nothing is missing
@@ -108,20 +110,34 @@ class Checks:
         if not item.docs.strip():
             self.found.append(f"{item.place}: `{item.name}` has no docstring")
 
+    def headers(self) -> None:
+        """Each function of a header has an entry, and each entry of C a comment."""
+        for header in (it for it in self.site.languages.headers if it.language == "C"):
+            known = {it.name for entry in header.entries for it in entry.declared}
+            missing = [it for it in DECLARED.findall(header.text) if it not in known]
+            self.found += [f"{header.path}: `{it}` has no entry" for it in missing]
+            for first in (it.declared[0] for it in header.entries if not it.comment.strip()):
+                self.found.append(f"{header.path}:{first.line}: `{first.name}` has no comment")
+
     # ---- links
     def links(self) -> None:
         anchors = {
             url: {unescape(it) for it in IDENTITY.findall("\n".join(page.body))}
             for url, page in self.site.pages.items()
         }
+        made = self.site.rust.pages if self.site.rust is not None else set()
         for url, page in self.site.pages.items():
             for to in dict.fromkeys(page.links):
                 path, _, anchor = to.partition("#")
+                if path in made:
+                    continue
                 if path not in self.site.pages:
                     self.found.append(f"{url}: leads to {path}, which isn't there")
                 elif anchor and unquote(anchor) not in anchors[path]:
                     self.found.append(f"{url}: leads to {to}, which isn't there")
         for row in self.site.names():
             path, _, anchor = row[2].partition("#")
+            if path in made:
+                continue
             if path not in self.site.pages or anchor and unquote(anchor) not in anchors[path]:
                 self.found.append(f"names.js: {row[0]} leads to {row[2]}, which isn't there")

@@ -1,7 +1,7 @@
 """The page of all crates, and that of one."""
 from html import escape
 
-from tools.documents.kinds import EXAMPLES, Dependencies, kind_of, reached
+from documents.kinds import EXAMPLES, Dependencies, kind_of, reached
 from reference.antt_items import AnttFile
 from reference.docs_html import Lookup, docs_html
 from reference.fragments import Fragments
@@ -46,11 +46,15 @@ class CratePages:
         page.add(tag("h1", "Reference"), HOW_TO_READ)
         for title, crates in self.groups():
             rows = "".join(self.crate_row(page, it) for it in crates)
-            page.add(tag("h2", title), tag("table", rows, class_="list"))
-            page.nav.append(tag("p", title, class_="heading"))
-            page.nav.append(tag("ul", "".join(
-                tag("li", page.link(f"{it.name}/index.html", it.name)) for it in crates)))
+            self.listed(page, title, rows, [(it.name, f"{it.name}/index.html") for it in crates])
         return page
+
+    def listed(self, page: Page, title: str, rows: str, names: list[tuple[str, str]]) -> None:
+        """A part of the page of all crates, with its names in the contents."""
+        page.add(tag("h2", title), tag("table", rows, class_="list"))
+        page.nav.append(tag("p", title, class_="heading"))
+        page.nav.append(tag("ul", "".join(
+            tag("li", page.link(url, name)) for name, url in names)))
 
     def crate_row(self, page: Page, crate: Crate) -> str:
         name = page.link(f"{crate.name}/index.html", tag("code", crate.name))
@@ -61,14 +65,14 @@ class CratePages:
     def crate(self, crate: Crate) -> Page:
         page = Page(f"{crate.name}/index.html", crate.name)
         place = crate.modules[()].file.source.path
-        every = page.link("index.html", "all crates")
+        every = page.link("index.html", "all languages")
         where = self.fragments.source_link(page, place, 1)
         page.add(tag("p", f"{every} {where}", class_="crumbs"))
         page.add(tag("h1", f'{crate.name} {tag("span", "crate", class_="badge")}'))
         page.add(tag("div", docs_html(crate.docs, self.lookup(page, crate)), class_="docs"))
         if not crate.docs:
             self.fragments.errors.append(f"{place}:1: the crate has no docstring")
-        page.nav.append(tag("p", page.link("index.html", "all crates"), class_="crate"))
+        page.nav.append(tag("p", page.link("index.html", "all languages"), class_="crate"))
         self.items(page, crate)
         self.files(page, crate, "specs", "Definitions", "definitions")
         self.files(page, crate, "proofs", "Lemmas", "lemmas")
@@ -153,8 +157,10 @@ def is_for_examples(name: str, deps: Dependencies) -> bool:
 
 
 HOW_TO_READ = """<div class="docs">
-<p>Each call has its contract: what it asks of its caller, <code>requires</code>, and what then
-holds, <code>ensures</code>. The compiler proves both: a caller that hasn't shown the first is
+<p>The search finds the names of all languages below. A call links to the same call in the
+others.</p>
+<p>In Rattle a call has its contract: what it asks of its caller, <code>requires</code>, and what
+then holds, <code>ensures</code>. The compiler proves both: a caller that hasn't shown the first is
 refused, and so is a body that doesn't give the second.</p>
 <p>A word of a clause is a link to its definition, which has a sentence above it. The words of the
 standard library are listed with their paths under each contract. In a clause a value is what its

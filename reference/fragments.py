@@ -6,6 +6,7 @@ from reference.antt_items import Declaration
 from reference.docs_html import DocLinks, Lookup, docs_html, inline_html
 from reference.examples import MOST_LINES, Call, Examples
 from reference.html_text import linked_html, rust_html, tag
+from reference.languages import Languages
 from reference.library import Library, sentence
 from reference.links import Linked, Linker
 from reference.pages import Page
@@ -31,8 +32,11 @@ def words_of_std(linked: Iterable[Linked]) -> dict[str, str]:
 class Fragments:
     """Makes parts of pages, and keeps what they found wrong and which words they cite."""
 
-    def __init__(self, library: Library, urls: Urls, examples: Examples) -> None:
+    def __init__(
+        self, library: Library, urls: Urls, examples: Examples, languages: Languages
+    ) -> None:
         self.library, self.urls, self.examples = library, urls, examples
+        self.same = languages.same
         self.scopes = Scopes(library, urls)
         self.doc_links = DocLinks(library)
         self.errors: list[str] = []
@@ -62,8 +66,19 @@ class Fragments:
 
     def source_link(self, page: Page, path: str, line: int) -> str:
         self.sources.add(path)
-        shown = path.removeprefix("crates/")
+        shown = path.removeprefix("crates/").removeprefix("bindings/c/")
         return page.link(f"{source_page(path)}#L{line}", escape(f"{shown}:{line}"), class_="where")
+
+    def same_calls(self, page: Page, url: str) -> str:
+        """The names of the same call in the other languages."""
+        said = []
+        for language, names in self.same.get(url, {}).items():
+            shown = [tag("code", escape(it.name)) for it in names]
+            links = [page.link(it.url, code) if it.url else code
+                     for it, code in zip(names, shown)]
+            if links:
+                said.append(f"{language}: {', '.join(links)}")
+        return tag("p", "; ".join(said) + ".", class_="given") if said else ""
 
     # ---- code
     def code_link(self, page: Page, item: Item) -> Callable[[str], tuple[str, str]]:

@@ -7,20 +7,21 @@ from reference.html_text import tag
 # decides.
 GROUPS = [
     ("Count and sum",
-     r"(true_|false_|null_)?count\w*|\w+_count(_by)?|rank(_by)?|most_looks|masked_\w+"),
-    ("Search", r"(try_)?(bit_)?select\w*|(next|previous)_\w+|last_set_index(_by)?"
-     r"|(any|all)_set(_by)?|is_disjoint(_by)?|is_subset(_by)?|equal_bits"),
+     r"(true_|false_|null_)?count\w*|\w+_counts?(_by)?|rank(_by)?|most_looks|masked_\w+"),
+    ("Search", r"((try|bit|ranked)_)?select\w*|(next|previous)_\w+|last_set_index(_by)?"
+     r"|last_set|any|all|(any|all)_set(_by)?|is_disjoint(_by)?|is_subset(_by)?|equal_bits"),
     ("Walk", r"iter\w*|set_indices|set_slices|(unaligned_)?chunks|(try_)?for_each_\w+|remainder_\w+"
      r"|prefix|suffix|\w+_padding|trusted_len"),
     ("Combine", r"(into_)?bitand_not|(try_)?(and|or)_kleene(_into)?|zip_\w+|map_words"
-     r"|intersect_by_rank"),
-    ("Filter and deposit", r"filter\w*|deposit\w*"),
+     r"|intersect_by_rank|(x?or|and|and_not)(_kleene)?(_bits|_of|_into)?|negate\w*|operator[&|^]="),
+    ("Filter and deposit", r"filter\w*|deposit\w*|keep_into|scatter\w*"),
     ("Gather", r"taken|take_\w+|set_bits_at"),
     ("Compare", r"(try_)?compare\w*"),
     ("Edit", r"append\w*|extend\w*|try_extend\w*|push\w*|pop|resize|truncate|clear|set|unset|set_to"
-     r"|fill_\w+|(un)?set_bit\w*|reserve\w*|has_room|as_mut_\w+|items_mut|copy_bits|splice_\w+"),
+     r"|fill\w*|(un)?set_bit\w*|reserve\w*|has_room|as_mut_\w+|items_mut|copy_bits|splice_\w+"),
     ("Build", r"new\w*|full|empty\w*|zeroed\w*|with_capacity\w*|(try_)?from_\w+|copy_from\w*"
-     r"|(collect|map)_(bool|cmp)\w*|pack_\w+|to_bit_buffer|read_from|table_of|align_from|copy_to_\w+|over|of|none"),
+     r"|(collect|map)_(bool|cmp)\w*|(un)?pack_\w+|to_bit_buffer|read_from|table_of|align_from"
+     r"|copy_to_\w+|over|of|none"),
     ("Share and convert", r"clone|slice\w*|narrow|freeze|aligned|ensure_aligned|shrink_offset"
      r"|as_(view|bytes)|into_\w+|try_into_\w+|take|inner|byte_aligned_bytes"),
 ]

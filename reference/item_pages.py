@@ -62,6 +62,7 @@ class ItemPages:
         if item.kind != "enum" and item.kind != "struct":
             page.add(self.fragments.signature(page, item))
         page.add(tag("div", self.fragments.docs(page, item), class_="docs"))
+        page.add(self.fragments.same_calls(page, self.urls.of(item)))
 
     # ---- calls
     def call_parts(self, page: Page, item: Item, is_open: bool) -> None:
@@ -78,6 +79,7 @@ class ItemPages:
         page.add(tag("h3", f"{name} {where}"))
         page.add(self.fragments.signature(page, item))
         page.add(tag("div", self.fragments.docs(page, item), class_="docs"))
+        page.add(self.fragments.same_calls(page, self.urls.of(item)))
         self.call_parts(page, item, False)
         page.add("</section>")
 

@@ -4,7 +4,7 @@ from dataclasses import dataclass, field
 from functools import cached_property
 from pathlib import Path
 
-from tools.documents.kinds import FACADE
+from documents.kinds import FACADE
 from reference.antt_items import AnttFile, Declaration, Use, parse_antt, parse_use
 from reference.rust_heads import base_name, impl_parts, use_names
 from reference.rust_items import File, Item, parse

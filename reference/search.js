@@ -1,5 +1,5 @@
-// The search: names.js has what can be found, as [name, kind, address, sentence, crate, users,
-// words]: `users` where users have it, and other words of the field that find it.
+// The search: names.js has what can be found, as [name, kind, address, sentence, crate or header,
+// users, words, language]: `users` where users have it, and other words of the field that find it.
 (() => {
   "use strict";
   const MOST = 40;
@@ -14,7 +14,8 @@
   // How well a name answers what was typed; 0 where it doesn't.
   function rank(name, typed) {
     const low = name.toLowerCase().split("<")[0];
-    const last = low.slice(Math.max(low.lastIndexOf(":"), low.lastIndexOf(".")) + 1).trim();
+    const last = low.slice(Math.max(low.lastIndexOf(":"), low.lastIndexOf(".")) + 1).trim()
+      .replace(/^vb_/, "");
     if (name === typed) return 100;
     if (low === typed.toLowerCase() || last === typed.toLowerCase()) return 90;
     const want = typed.toLowerCase();
@@ -57,13 +58,13 @@
     return made;
   }
 
-  function entry([name, kind, address, sentence, crate], i) {
+  function entry([name, kind, address, sentence, crate, , , language], i) {
     const item = document.createElement("li");
     item.id = `found-${i}`;
     item.setAttribute("role", "option");
     const link = document.createElement("a");
     link.href = root + address;
-    const what = crate ? `${kind} of ${crate}` : kind;
+    const what = crate ? `${language} ${kind} of ${crate}` : `${language} ${kind}`;
     link.append(element("b", name), element("i", what), element("span", sentence));
     link.addEventListener("click", close);
     item.append(link);

@@ -5,32 +5,38 @@ import shutil
 from html import escape
 from pathlib import Path
 
-from tools.documents.kinds import FACADE
+from documents.kinds import FACADE
 from reference.aliases import by_name
 from reference.antt_items import AnttFile
 from reference.antt_pages import AnttPages
 from reference.crate_pages import CratePages
 from reference.examples import Examples
 from reference.fragments import Fragments
+from reference.header_pages import HeaderPages
 from reference.html_text import rust_lines, tag
 from reference.item_pages import ItemPages, display, public_members
+from reference.languages import MANY, Languages
 from reference.library import Library, sentence
 from reference.pages import HERE, Page
 from reference.rust_heads import impl_parts
 from reference.rust_items import Item
 from reference.rust_text import Source, SourceError
-from reference.urls import Urls, source_page
+from reference.rustdoc import RUST_CRATE, Rustdoc
+from reference.urls import Urls, header_page, source_page
 
 
 class Site:
     """The pages of a repository."""
 
-    def __init__(self, root: Path) -> None:
-        self.root = root
+    def __init__(self, root: Path, rust: Rustdoc | None = None) -> None:
+        self.root, self.rust = root, rust
         self.library = Library(root)
         self.urls = Urls(self.library)
         self.pages: dict[str, Page] = {}
-        self.fragments = Fragments(self.library, self.urls, Examples(self.library, self.calls()))
+        self.languages = Languages(root, self.library, self.urls, rust)
+        examples = Examples(self.library, self.calls())
+        self.fragments = Fragments(self.library, self.urls, examples, self.languages)
+        self.header_pages = HeaderPages(self.fragments, self.languages)
         self.item_pages = ItemPages(self.fragments)
         self.crate_pages = CratePages(self.fragments)
         self.antt_pages = AnttPages(self.fragments)
@@ -38,7 +44,7 @@ class Site:
 
     @property
     def errors(self) -> list[str]:
-        return self.fragments.errors
+        return self.fragments.errors + self.languages.errors
 
     def items(self) -> list[Item]:
         """The public items, those of each crate by their names."""
@@ -59,7 +65,9 @@ class Site:
 
     # ---- pages
     def make(self) -> None:
-        self.add(self.crate_pages.index())
+        self.add(self.index())
+        for header in self.languages.headers:
+            self.add(self.header_pages.page(header))
         for crate in self.library.shown:
             self.add(self.crate_pages.crate(crate))
         for item in self.items():
@@ -71,6 +79,21 @@ class Site:
             self.add(page)
         for path in sorted(self.source_paths()):
             self.add(self.source(path))
+
+    def index(self) -> Page:
+        """The start page: the crates, the headers, and the Rust crate if cargo made its pages."""
+        page = self.crate_pages.index()
+        headers = self.languages.headers
+        if headers:
+            rows = "".join(self.header_pages.row(page, it) for it in headers)
+            names = [(it.name, header_page(it.name)) for it in headers]
+            self.crate_pages.listed(page, "C and C++", rows, names)
+        if self.rust is not None:
+            name, url, says = self.rust.crate()
+            link = tag("th", page.link(url, tag("code", name)), scope="row")
+            rows = tag("tr", link + tag("td", escape(says)))
+            self.crate_pages.listed(page, "Rust", rows, [(name, url)])
+        return page
 
     def led_to(self, pages: list[Page]) -> list[tuple[Page, AnttFile]]:
         """The pages of lemmas to which these lead, and which aren't made yet."""
@@ -89,7 +112,7 @@ class Site:
 
     def add(self, page: Page) -> None:
         if page.url.lower() in (it.lower() for it in self.pages):
-            self.errors.append(f"two pages have the address {page.url}")
+            self.fragments.errors.append(f"two pages have the address {page.url}")
         self.pages[page.url] = page
 
     def antt_files(self) -> list[AnttFile]:
@@ -133,37 +156,64 @@ class Site:
         if path.endswith(".rt"):
             lines = rust_lines(source)
         else:
-            lines = [self.antt_line(it) for it in source.text.rstrip("\n").split("\n")]
+            lines = [self.plain_line(it) for it in source.text.rstrip("\n").split("\n")]
         numbered = "".join(
             f'<a id="L{n}" href="#L{n}" data-n="{n}"></a>{line}\n'
             for n, line in enumerate(lines, 1)
         )
-        crate = path.split("/")[1]
-        if f"{crate}/index.html" in self.pages:
-            page.nav.append(tag("p", page.link(f"{crate}/index.html", crate), class_="crate"))
+        crate, name = path.split("/")[1], path.rpartition("/")[2]
+        for url, of in ((f"{crate}/index.html", crate), (header_page(name), name)):
+            if url in self.pages:
+                page.nav.append(tag("p", page.link(url, of), class_="crate"))
         page.add(tag("h1", escape(path), class_="crumbs"))
         page.add(tag("pre", tag("code", numbered), class_="source"))
         return page
 
-    def antt_line(self, line: str) -> str:
-        body = escape(line, quote=False)
-        return tag("span", body, class_="co") if line.lstrip().startswith("--") else body
+    def plain_line(self, line: str) -> str:
+        """A line of definitions or of a header, marked if it is a comment."""
+        body, marks = escape(line, quote=False), ("--", "/*", "* ", "*/", "//")
+        is_comment = f"{line.strip()} ".startswith(marks)
+        return tag("span", body, class_="co") if is_comment else body
 
     # ---- names to search
     def names(self) -> list[list[str]]:
-        """What can be found: name, kind, address, sentence, crate, `users` and other words.
+        """What can be found: name, kind, address, sentence, crate or header, `users`, other words
+        and language.
 
-        The sixth is `users` where the crate that users name gives the item, else empty; the last
-        has the words of the field that find it too.
+        The sixth is `users` where users name it: in Rattle, where the facade gives it; else it is
+        empty. The seventh has the words of the field that find it too.
         """
         reached = self.library.reached.get(FACADE, {})
         given = {self.urls.of(it.item) for it in reached.values()}
         words = by_name()
         return [
             [*row, "users" if row[2].partition("#")[0] in given else "",
-             words.get(last_of(row[0]), "")]
+             words.get(last_of(row[0]), ""), "Rattle"]
             for row in self.named()
-        ]
+        ] + self.header_rows() + self.rust_rows()
+
+    def header_rows(self) -> list[list[str]]:
+        """The names of headers, each once. Of a family of calls the first one alone has other
+        words."""
+        rows = []
+        for header in self.languages.headers:
+            url, language = header_page(header.name), header.language
+            rows.append([header.name, "header", url, said(header.docs), "", "users", "", language])
+            for entry in header.entries:
+                says, calls = said(self.header_pages.docs(entry)), entry.calls()
+                named = calls if len(calls) <= MANY else calls[:1]
+                for it in entry.declared:
+                    url = self.header_pages.url(entry, it)
+                    words = self.languages.words(url, it.last) if it in named else ""
+                    if url == self.languages.urls[it.name]:
+                        rows.append([it.name, entry.kind, url, says, header.name, "users", words,
+                                     language])
+        return rows
+
+    def rust_rows(self) -> list[list[str]]:
+        items = self.rust.items if self.rust is not None else []
+        return [[it.name, it.kind, it.url, it.says, RUST_CRATE, "users", it.words, "Rust"]
+                for it in items]
 
     def named(self) -> list[list[str]]:
         """What can be found: name, kind, address, sentence and crate."""
@@ -195,7 +245,7 @@ class Site:
         for it, trait in self.item_pages.traits(item):
             lent = "&" if impl_parts(it.head_text)[1].startswith("&") else ""
             url = f"{self.urls.of(item)}#{self.urls.anchors[id(it)]}"
-            rows.append([f"{lent}{item.name}: {trait}", "trait", url, self.said(it), item.crate])
+            rows.append([f"{lent}{item.name}: {trait}", "trait", url, said(it.docs), item.crate])
         return rows
 
     def field_rows(self, file: AnttFile) -> list[list[str]]:
@@ -209,11 +259,7 @@ class Site:
         ]
 
     def name_row(self, item: Item, name: str) -> list[str]:
-        return [name, display(item), self.urls.of(item), self.said(item), item.crate]
-
-    def said(self, item: Item) -> str:
-        """The first sentence of a docstring as plain text."""
-        return re.sub(r"\[(`[^`]+`)\](\([^)]*\))?", r"\1", sentence(item.docs)).replace("`", "")
+        return [name, display(item), self.urls.of(item), said(item.docs), item.crate]
 
     # ---- files
     def write(self, folder: Path) -> None:
@@ -228,8 +274,15 @@ class Site:
             path.write_text(page.html(), encoding="utf-8")
         for name in ("style.css", "search.js"):
             shutil.copy(HERE / name, folder / name)
+        if self.rust is not None:
+            self.rust.copy(folder / "rust")
         names = json.dumps(self.names(), ensure_ascii=False, separators=(",", ":"))
         (folder / "names.js").write_text(f"window.NAMES={names};\n", encoding="utf-8")
+
+
+def said(docs: str) -> str:
+    """The first sentence of a docstring as plain text."""
+    return re.sub(r"\[(`[^`]+`)\](\([^)]*\))?", r"\1", sentence(docs)).replace("`", "")
 
 
 def last_of(name: str) -> str:

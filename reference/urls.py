@@ -11,6 +11,11 @@ def source_page(path: str) -> str:
     return f"source/{path}.html"
 
 
+def header_page(name: str, anchor: str = "") -> str:
+    """The page of a header, or the place of a name in it."""
+    return f"c/{name}.html" + (f"#{quote(anchor)}" if anchor else "")
+
+
 class Urls:
     """The address of an item or a declaration, from the top of the pages."""
 

@@ -145,13 +145,13 @@ public:
     }
 
     std::size_t count_ones() const { return vb_count_ones(bytes_, size_, offset_, len_); }
+    std::size_t count_zeros() const { return len_ - count_ones(); }
 
     /* Returns the number of bits set in both; the windows have one length, as in all calls here. */
     std::size_t and_count(bits right) const { return by_another(vb_and_count, right); }
     std::size_t or_count(bits right) const { return by_another(vb_or_count, right); }
     std::size_t xor_count(bits right) const { return by_another(vb_xor_count, right); }
     std::size_t and_not_count(bits right) const { return by_another(vb_and_not_count, right); }
-    std::size_t count_zeros() const { return len_ - count_ones(); }
 
     /* Returns whether no bit is set in both, and whether each bit set here is set in `right`. */
     bool is_disjoint(bits right) const { return by_another(vb_is_disjoint, right); }

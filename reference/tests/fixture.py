@@ -162,6 +162,111 @@ mod tests {
     }
 }
 """,
+    "bindings/c/README.md": """| In a name | is one of |
+|---|---|
+| `WIDTH` | `u8`, `u16`, `u32`, `u64`, `i8` |
+
+| Calls | C | C++ | Rust | Rattle |
+|---|---|---|---|---|
+| begin | `vb_fresh` | `begin` | `Counter::new` | `fresh` |
+| add, or take away | `vb_added_WIDTH` | `add`, `-=` | `Counter::add` | `add` |
+""",
+    "bindings/c/vortex_bits.h": """/*
+ * Counters for C, some by vb_try_ forms. vortex_bits.hpp has a class.
+ *
+ *     cc app.c
+ */
+#ifndef VORTEX_BITS_H
+#define VORTEX_BITS_H
+
+#include <stddef.h>
+
+#ifdef __cplusplus
+extern "C" {
+#endif
+
+/* A count, or none. */
+typedef struct {
+    bool found;
+    size_t count;
+} vb_count;
+
+/*
+ * Returns a count of `by`. More is added by vb_added_u8.
+ *
+ *     const vb_count one = vb_fresh(1);
+ *
+ *     assert(one.count < 2);
+ */
+vb_count vb_fresh(size_t by);
+VB_CHECKED bool vb_try_fresh(size_t by,
+        vb_count *count);
+
+/* Adds to a count. */
+/* Written by tools/write-lists from tools/families/add.txt. */
+void vb_added_u8(uint8_t by);
+void vb_added_u16(uint16_t by);
+void vb_added_u32(uint32_t by);
+void vb_added_u64(uint64_t by);
+void vb_added_i8(int8_t by);
+/* To here. */
+
+#ifdef __cplusplus
+}
+#endif
+
+#endif
+""",
+    "bindings/c/vortex_bits.hpp": """/* The counts of vortex_bits.h as a class. */
+#ifndef VORTEX_BITS_HPP
+#define VORTEX_BITS_HPP
+
+#include "vortex_bits.h"
+
+namespace vortex_bits {
+
+namespace detail {
+void hidden();
+} // namespace detail
+
+/* Any list. */
+template <class Item> class list {
+public:
+    std::size_t begin() const { return 0; }
+};
+
+/* Counts. */
+class counter {
+public:
+    /* Counts nothing: a case of {. */
+    counter() = default;
+    counter(const counter &) = delete;
+
+    explicit counter(std::size_t count) : count_(count) {}
+
+    vb_count begin() const { return vb_fresh(/* no } yet */ count_); }
+
+    /* Adds a `value`. */
+    template <class Value = std::pair<int, int>> void add(const Value &value);
+    void operator-=(std::size_t by) { count_ -= by; }
+
+private:
+    void secret();
+    std::size_t count_ = 0;
+};
+
+/* Returns twice `by`. */
+constexpr std::size_t twice(std::size_t by) { return 2 * by; }
+
+template <class Value> void counter::add(const Value &value)
+{
+    vb_added_u8(value);
+}
+
+} // namespace vortex_bits
+
+#endif
+""",
 }
 
 

@@ -26,20 +26,21 @@ ASKED = """
 console.log(JSON.stringify(TYPED.map((typed) => {
   query.value = typed;
   query.on.input();
-  return list.children.map((it) => it.texts?.[0]?.texts?.[0]?.textContent ?? "");
+  return list.children.map((it) => it.texts?.[0]?.texts?.[PART]?.textContent ?? "");
 })));
 """
 
 
-def row(name: str, kind: str, users: str = "", words: str = "", says: str = "") -> list[str]:
-    return [name, kind, "a.html", says, "low", users, words]
+def row(name: str, kind: str, users: str = "", words: str = "", says: str = "",
+        language: str = "Rattle") -> list[str]:
+    return [name, kind, "a.html", says, "low", users, words, language]
 
 
-def found(rows: list[list[str]], *typed: str) -> list[list[str]]:
-    """The names that the search lists for each text, the first ones first."""
+def found(rows: list[list[str]], *typed: str, part: int = 0) -> list[list[str]]:
+    """The names that the search lists for each text, or another part of each, the first first."""
     program = f"{PAGE}globalThis.window = {{ NAMES: {json.dumps(rows)} }};\n"
     program += (HERE.parent / "search.js").read_text(encoding="utf-8")
-    program += f"const TYPED = {json.dumps(typed)};\n{ASKED}"
+    program += f"const TYPED = {json.dumps(typed)}, PART = {part};\n{ASKED}"
     done = subprocess.run(["node", "-e", program], capture_output=True, text=True, timeout=60)
     assert done.returncode == 0, done.stderr
     return json.loads(done.stdout)
@@ -62,6 +63,20 @@ class Search(unittest.TestCase):
     def test_a_name_comes_before_what_an_alias_finds(self):
         rows = [row("taken", "call", "users", "gather"), row("gather", "call", "users")]
         self.assertEqual(found(rows, "gather"), [["gather", "taken"]])
+
+
+    def test_each_hit_says_its_language(self):
+        rows = [row("count_ones", "call"), row("bits::count_ones", "call", language="C++"),
+                row("vb_count_ones", "call", language="C")]
+        names = ["bits::count_ones", "count_ones", "vb_count_ones"]
+        self.assertEqual(sorted(found(rows, "count_ones")[0]), names)
+        self.assertEqual(sorted(found(rows, "count_ones", part=1)[0]),
+                         ["C call of low", "C++ call of low", "Rattle call of low"])
+
+    def test_a_function_of_c_is_found_without_its_first_part(self):
+        rows = [row("vb_count", "call", language="C"), row("selects", "call"),
+                row("vb_select", "call", language="C")]
+        self.assertEqual(found(rows, "select"), [["vb_select", "selects"]])
 
 
 class Names(unittest.TestCase):

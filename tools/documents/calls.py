@@ -2,6 +2,7 @@
 and that its other columns have names of C++, Rust and Rattle.
 """
 import re
+from itertools import takewhile
 
 from documents.files import Repository
 from documents.lists import OF_THE_LIBRARY, differ
@@ -24,16 +25,21 @@ def cells(line: str) -> list[str]:
     return [it.strip() for it in re.split(r"(?<!\\)\|", line)[1:-1]]
 
 
+def rows(text: str) -> list[dict[str, str]]:
+    """Returns the rows of the table of calls: for each column its cell."""
+    lines = text.split("\n")
+    starts = [n for n, line in enumerate(lines) if cells(line) == HEAD]
+    listed = lines[starts[0] + 2:] if starts else []
+    table = takewhile(lambda line: line.startswith("|"), listed)
+    return [dict(zip(HEAD, cells(line))) for line in table]
+
+
 def columns(text: str) -> dict[str, set[str]]:
     """Returns the names in each column of the table of calls, with words in capitals expanded."""
-    lines = text.split("\n")
     words = alphabet(text)
     found: dict[str, set[str]] = {it: set() for it in HEAD}
-    starts = [n for n, line in enumerate(lines) if cells(line) == HEAD]
-    for line in lines[starts[0] + 2:] if starts else []:
-        if not line.startswith("|"):
-            break
-        for column, cell in zip(HEAD, cells(line)):
+    for row in rows(text):
+        for column, cell in row.items():
             for name in NAME.findall(cell):
                 found[column].update(expanded(name, words))
     return found
