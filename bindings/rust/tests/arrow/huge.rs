@@ -116,6 +116,17 @@ fn items_of_several_arrays_are_counted_without_overflow() {
 }
 
 #[test]
+fn items_beyond_offsets_of_32_bits_are_refused() {
+    let number = |it: i32| Some(Buffer::exact(&it.to_ne_bytes()));
+    let rows = vec![None, number(i32::MAX - 1), number(1)];
+    let items = (nulls(i32::MAX.into()), field("n", vec![], None));
+    let views = imported("+vl", 1, rows, vec![items]);
+    assert!(Export::concat(views.field(), &times(1, &views)).is_ok());
+    let items = "4294967294 items of lists, and numbers up to 2147483647";
+    refused(&times(2, &views), items);
+}
+
+#[test]
 #[should_panic(expected = "9223372036854775808 rows")]
 fn structs_beyond_63_bits_are_no_structs() {
     let last = usize::try_from(MOST).unwrap();
