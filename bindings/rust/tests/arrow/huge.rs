@@ -24,9 +24,8 @@ fn imported(format: &str, len: i64, buffers: Vec<Option<Buffer>>, children: Vec<
     import(array, field(format, fields, None)).unwrap()
 }
 
-fn numbers(numbers: &[i64]) -> Option<Buffer> {
-    let bytes: Vec<u8> = numbers.iter().flat_map(|it| it.to_ne_bytes()).collect();
-    Some(Buffer::exact(&bytes))
+fn number(number: i64) -> Buffer {
+    Buffer::exact(&number.to_ne_bytes())
 }
 
 #[track_caller]
@@ -66,7 +65,7 @@ fn rows_beyond_63_bits_are_refused() {
 
 #[test]
 fn runs_beyond_63_bits_are_refused() {
-    let ends = raw::Array::new(1, vec![None, numbers(&[MOST])], &Count::default());
+    let ends = raw::Array::new(1, vec![None, Some(number(MOST))], &Count::default());
     let ends = (ends, field("l", vec![], None));
     let array = imported(
         "+r",
@@ -92,8 +91,7 @@ fn items_beyond_63_bits_are_refused() {
 #[test]
 fn items_of_several_arrays_are_counted_without_overflow() {
     let items = || (nulls(MOST), field("n", vec![], None));
-    let rows = || [numbers(&[MOST - 1]), numbers(&[1])];
-    let [starts, sizes] = rows();
+    let [starts, sizes] = [MOST - 1, 1].map(|it| Some(number(it)));
     let views = imported("+vL", 1, vec![None, starts, sizes], vec![items()]);
     refused(&times(2, &views), &format!("column \"0\": {TWICE}"));
     for number in [3, 4] {
@@ -103,7 +101,7 @@ fn items_of_several_arrays_are_counted_without_overflow() {
     let few = TWICE.replace("rows", "items of a dictionary");
     for (format, wanted) in [("l", [&few[..]; 3]), ("L", [&below, NO_MEMORY, NO_MEMORY])] {
         let coded = || {
-            let (indices, none) = (vec![None, numbers(&[MOST - 1])], Count::default());
+            let (indices, none) = (vec![None, Some(number(MOST - 1))], Count::default());
             let (items, of) = items();
             let array = raw::Array::of(1, indices, vec![], Some(items), &none);
             import(array, field(format, vec![], Some(of))).unwrap()
