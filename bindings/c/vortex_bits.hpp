@@ -260,7 +260,7 @@ public:
         if constexpr (std::is_same_v<index, std::uint32_t>) {
             detail::expect(len_ <= std::size_t(UINT32_MAX) + 1, "more bits than 32 bits can index");
             return vb_set_indices_u32(out.data(), out.size(), bytes_, size_, offset_, len_);
-        } else {
+        } else if constexpr (std::is_same_v<index, std::size_t>) {
             return vb_set_indices(out.data(), out.size(), bytes_, size_, offset_, len_);
         }
     }
