@@ -107,6 +107,32 @@ static void packs(void)
     wrote("what stands after a refused pack");
 }
 
+/* Bits that move within one bitmap, mostly to overlap themselves. */
+static void moves(void)
+{
+    const size_t len = length_up_to(BITS / 2), from = random_below(BITS - len + 1);
+    const size_t by = random_below(random_below(2) == 0 ? 100 : BITS), end = BITS - len;
+    const size_t down = from - (by < from ? by : from), up = from + by < end ? from + by : end;
+    const size_t to = random_below(2) == 0 ? down : up;
+    memcpy(wanted, before, BYTES);
+    for (size_t i = 0; i < len; i++) {
+        put(wanted, to + i, bit(before, from + i));
+    }
+    begin();
+    vb_move_bits(got, BYTES, to, from, len);
+    wrote("what vb_move_bits writes");
+    begin();
+    check(vb_try_move_bits(got, BYTES, to, from, len), "vb_try_move_bits");
+    wrote("what vb_try_move_bits writes");
+    memcpy(wanted, before, BYTES);
+    begin();
+    check(!vb_try_move_bits(got, BYTES, BITS + 1 - len, from, len)
+            && !vb_try_move_bits(got, BYTES, to, BITS + 1 - len, len)
+            && !vb_try_move_bits(got, BYTES, SIZE_MAX, from, len + 1)
+            && !vb_try_move_bits(got, BYTES, to, SIZE_MAX, len + 1), "a move past the bits");
+    wrote("what stands after a refused move");
+}
+
 /* A validity, or none: a null pointer of no bytes, with any offset. */
 struct validity {
     const uint8_t *bytes;
@@ -307,6 +333,7 @@ int main(void)
         randomize_bytes(right, BYTES);
         randomize_bytes(before, BYTES);
         filters();
+        moves();
         validities();
         filters_of_validities();
         no_validities();

@@ -351,7 +351,7 @@ VB_CHECKED bool vb_try_negate_bits(uint8_t *bytes, size_t size, size_t offset, s
 /*
  * Copies the `len` bits of `src` from bit `src_offset` on to the bits of `dst` from bit
  * `dst_offset` on, word by word at any two offsets. The bytes of the two must not overlap, even if
- * their windows don't.
+ * their windows don't; vb_move_bits copies within the same bytes.
  *
  *     uint8_t rows[] = {0x00};
  *     const uint8_t more[] = {0x1B};
@@ -362,6 +362,18 @@ void vb_copy_bits(uint8_t *dst, size_t dst_size, size_t dst_offset, const uint8_
         size_t src_size, size_t src_offset, size_t len);
 VB_CHECKED bool vb_try_copy_bits(uint8_t *dst, size_t dst_size, size_t dst_offset,
         const uint8_t *src, size_t src_size, size_t src_offset, size_t len);
+
+/*
+ * Copies the `len` bits from bit `from` on to the bits from bit `offset` on of the same bytes, as
+ * memmove does: the windows may overlap. Processes 4,096 bits at a time.
+ *
+ *     uint8_t rows[] = {0x68};
+ *     vb_move_bits(rows, 1, 1, 3, 5);
+ *     assert(rows[0] == 0x5A);
+ */
+void vb_move_bits(uint8_t *bytes, size_t size, size_t offset, size_t from, size_t len);
+VB_CHECKED bool vb_try_move_bits(uint8_t *bytes, size_t size, size_t offset, size_t from,
+        size_t len);
 
 /*
  * Sets each of the `len` bits of `dst` from bit `dst_offset` on to true if it is true and that of

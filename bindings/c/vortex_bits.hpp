@@ -342,6 +342,14 @@ public:
     void fill(bool value) { vb_fill_bits(bytes_, size_, offset_, len_, value); }
     void negate() { vb_negate_bits(bytes_, size_, offset_, len_); }
 
+    /* Copies the `len` bits from index `from` on to those from index `to` on, as memmove does. */
+    void copy_within(std::size_t from, std::size_t len, std::size_t to)
+    {
+        detail::expect(from <= len_ && len <= len_ - from && to <= len_ && len <= len_ - to,
+            "bits to copy are not in the window");
+        vb_move_bits(bytes_, size_, offset_ + to, offset_ + from, len);
+    }
+
     /* `source` or `right` has this length, and its bytes overlap none of these; so in all below. */
     void copy_from(bits source) { by_another(vb_copy_bits, source); }
     void operator&=(bits right) { by_another(vb_and_bits, right); }

@@ -1,6 +1,6 @@
 /*
- * Walks of vortex_bits.hpp that end before their window does, windows over temporary views, and
- * windows over words.
+ * Walks of vortex_bits.hpp that end before their window does, windows over temporary views, windows
+ * over words, and bits that move within a window.
  */
 #include "vortex_bits.hpp"
 
@@ -126,12 +126,37 @@ static void items()
     check(none.empty() && none.size() == 0 && none.begin() == none.end(), "a view of nothing");
 }
 
+/* Bits that move within their window, beside a loop over a copy. */
+static void moves(const buffer &any)
+{
+    for (const std::size_t len : {0, 1, 64, 65, 500, 1300}) {
+        for (const std::size_t from : {0, 1, 9, 40}) {
+            for (const std::size_t to : {0, 3, 8, 41}) {
+                buffer got = any, wanted = any;
+                bits_mut(got, 5, 1350).copy_within(from, len, to);
+                for (std::size_t i = 0; i < len; i++) {
+                    bits_mut(wanted, 5, 1350).set(to + i, bits(any, 5, 1350)[from + i]);
+                }
+                check(got == wanted, "copy_within");
+            }
+        }
+    }
+    buffer some = any;
+    bits_mut window(some, 5, 1350);
+    refused([&] { window.copy_within(1, 1350, 0); }, "a move of bits past the window");
+    refused([&] { window.copy_within(0, 1350, 1); }, "a move past the window");
+    refused([&] { window.copy_within(1351, 0, 0); }, "a move from past the window");
+    refused([&] { window.copy_within(0, 0, SIZE_MAX); }, "a move to no place");
+    check(some == any, "a refused move left all as it was");
+}
+
 int main()
 {
-    buffer any(170);
-    for (std::size_t i = 0; i < any.size(); i++) {
-        any[i] = static_cast<std::uint8_t>(i * i * 37 >> 3);
+    buffer any(170), more(600);
+    for (std::size_t i = 0; i < more.size(); i++) {
+        more[i] = static_cast<std::uint8_t>(i * i * 37 >> 3);
     }
+    std::copy_n(more.begin(), any.size(), any.begin());
     for (const std::size_t n : {0, 1, 2, 63, 64, 65, 128, 129, 9999}) {
         for (const buffer &all : {any, buffer(200, 0xFF), buffer(200, 0x55), buffer(200)}) {
             stops(all, n);
@@ -140,6 +165,7 @@ int main()
     views();
     words(any);
     items();
+    moves(any);
     narrow_indices();
     return failures == 0 ? 0 : 1;
 }

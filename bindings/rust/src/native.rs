@@ -216,6 +216,7 @@ kernels! {
     negate_bits(bytes: *mut u8, size: usize, offset: usize, len: usize);
     copy_bits(dst: *mut u8, dst_size: usize, dst_offset: usize, src: *const u8, src_size: usize,
         src_offset: usize, len: usize);
+    move_bits(bytes: *mut u8, size: usize, offset: usize, from: usize, len: usize);
     and_bits(dst: *mut u8, dst_size: usize, dst_offset: usize, src: *const u8, src_size: usize,
         src_offset: usize, len: usize);
     or_bits(dst: *mut u8, dst_size: usize, dst_offset: usize, src: *const u8, src_size: usize,
