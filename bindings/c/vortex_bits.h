@@ -58,7 +58,8 @@
  * selects the level; vb_set_indices, vb_set_indices_u32, vb_set_slices and their checked forms work
  * by pages of memory, and join runs that cross page ends; it packs bools as bytes, and unpacks them
  * so; vb_filter_values, vb_scatter_values and vb_take_values choose by sizes, and the functions of
- * validities that may be missing by which are. The C++ classes are also written by hand, and tested.
+ * validities that may be missing by which are; vb_set_slices_u32 narrows the indices of runs. The
+ * C++ classes are also written by hand, and tested.
  */
 #ifndef VORTEX_BITS_H
 #define VORTEX_BITS_H
@@ -106,6 +107,12 @@ typedef struct {
     size_t start;
     size_t end;
 } vb_run;
+
+/* The same with indices of 32 bits. */
+typedef struct {
+    uint32_t start;
+    uint32_t end;
+} vb_run_u32;
 
 /*
  * The result of a take: whether an index that counts is out of range. `position` is that of the
@@ -325,6 +332,19 @@ size_t vb_set_slices(vb_run *out, size_t out_count, const uint8_t *bytes, size_t
         size_t offset, size_t len);
 VB_CHECKED bool vb_try_set_slices(vb_run *out, size_t out_count, const uint8_t *bytes, size_t size,
         size_t offset, size_t len, size_t *written);
+
+/*
+ * Does the same with indices of 32 bits, for a window of fewer than 2^32 bits: the checked form
+ * returns false for a longer one. Makes runs of vb_set_slices shorter, 64 at a time.
+ *
+ *     const uint8_t rows[] = {0xE8, 0x06};
+ *     vb_run_u32 runs[4];
+ *     assert(vb_set_slices_u32(runs, 4, rows, 2, 3, 10) == 3 && runs[1].end == 5);
+ */
+size_t vb_set_slices_u32(vb_run_u32 *out, size_t out_count, const uint8_t *bytes, size_t size,
+        size_t offset, size_t len);
+VB_CHECKED bool vb_try_set_slices_u32(vb_run_u32 *out, size_t out_count, const uint8_t *bytes,
+        size_t size, size_t offset, size_t len, size_t *written);
 
 /*
  * Sets each bit of the window to `value`. Fills whole bytes as a block. To set one bit, pass its

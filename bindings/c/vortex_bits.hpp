@@ -177,11 +177,18 @@ public:
         return places;
     }
 
-    /* Returns the runs of set bits. */
-    std::vector<vb_run> set_slices() const
+    /*
+     * Returns the runs of set bits, as `Run`: vb_run, or vb_run_u32 of a window of fewer than 2^32
+     * bits.
+     */
+    template <class Run = vb_run> std::vector<Run> set_slices() const
     {
-        std::vector<vb_run> runs;
-        for_each_run([&](std::size_t start, std::size_t end) { runs.push_back({start, end}); });
+        using index = decltype(Run::start);
+        detail::expect(len_ <= std::numeric_limits<index>::max(), "more bits than a run can index");
+        std::vector<Run> runs;
+        for_each_run([&](std::size_t start, std::size_t end) {
+            runs.push_back({static_cast<index>(start), static_cast<index>(end)});
+        });
         return runs;
     }
 
@@ -200,7 +207,15 @@ public:
     }
     template <class Out> std::size_t set_slices_into(Out &&out) const
     {
-        return vb_set_slices(out.data(), out.size(), bytes_, size_, offset_, len_);
+        using run = detail::lent_t<std::remove_reference_t<Out>>;
+        static_assert(std::is_same_v<run, vb_run> || std::is_same_v<run, vb_run_u32>,
+            "set_slices writes runs of vb_run or vb_run_u32");
+        if constexpr (std::is_same_v<run, vb_run_u32>) {
+            detail::expect(len_ <= UINT32_MAX, "more bits than 32 bits can index");
+            return vb_set_slices_u32(out.data(), out.size(), bytes_, size_, offset_, len_);
+        } else if constexpr (std::is_same_v<run, vb_run>) {
+            return vb_set_slices(out.data(), out.size(), bytes_, size_, offset_, len_);
+        }
     }
 
     /*

@@ -44,6 +44,17 @@ static void stops(const buffer &all, std::size_t n)
     const bits window(all, 3, 8 * all.size() - 5);
     const std::vector<std::size_t> places = window.set_indices();
     const std::vector<vb_run> runs = window.set_slices();
+    const std::vector<vb_run_u32> narrow = window.set_slices<vb_run_u32>();
+    std::vector<vb_run_u32> some(runs.size() / 2 + 1);
+    check(narrow.size() == runs.size()
+            && window.set_slices_into(some) == std::min(some.size(), runs.size()),
+        "how many runs of 32 bits");
+    for (std::size_t k = 0; k < runs.size(); k++) {
+        const vb_run_u32 written = k < some.size() ? some[k] : narrow[k];
+        check(narrow[k].start == runs[k].start && narrow[k].end == runs[k].end
+                && written.start == narrow[k].start && written.end == narrow[k].end,
+            "a run of 32 bits");
+    }
     std::vector<std::size_t> walked;
     window.for_each_set([&](std::size_t place) {
         walked.push_back(place);
@@ -113,6 +124,10 @@ static void narrow_indices()
     refused([&] { bits(&byte, len / 8 + 1, 0, len).set_indices_into(one); },
         "a window of more bits than 32 bits can index");
     check(one[0] == 7, "a refused walk wrote nothing");
+    std::array<vb_run_u32, 1> run = {{{7, 8}}};
+    refused([&] { bits(&byte, len / 8 + 1, 0, len - 1).set_slices_into(run); },
+        "a window whose end 32 bits can't index");
+    check(run[0].start == 7 && run[0].end == 8, "a refused walk of runs wrote nothing");
 }
 
 /* The class view: its items, and what it refuses. */

@@ -1,9 +1,41 @@
 /*
  * The functions of vortex_bits.h that no level has. Each calls one of several functions, by the
- * size of a value or of an index, or by which validities are missing, or passes bools as bytes.
+ * size of a value or of an index, or by which validities are missing, or passes bools as bytes, or
+ * narrows what another one writes.
  */
 #ifndef VORTEX_BITS_MADE_H
 #define VORTEX_BITS_MADE_H
+
+/* Narrows the runs of a window, some at a time: they go on behind the last one. */
+size_t vb_set_slices_u32(vb_run_u32 *out, size_t out_count, const uint8_t *bytes, size_t size,
+    size_t offset, size_t len)
+{
+    vb_run runs[64];
+    const size_t all = sizeof runs / sizeof *runs;
+    size_t written = 0, at = 0, most, found;
+    do {
+        most = out_count - written < all ? out_count - written : all;
+        found = vb_set_slices(runs, most, bytes, size, offset + at, len - at);
+        for (size_t k = 0; k < found; k++) {
+            out[written + k].start = (uint32_t)(at + runs[k].start);
+            out[written + k].end = (uint32_t)(at + runs[k].end);
+        }
+        written += found;
+        at += found != 0 ? runs[found - 1].end : 0;
+    } while (found == all && written < out_count);
+    return written;
+}
+
+bool vb_try_set_slices_u32(vb_run_u32 *out, size_t out_count, const uint8_t *bytes, size_t size,
+    size_t offset, size_t len, size_t *written)
+{
+    if (!MAY_HAVE(out, out_count) || !MAY_HAVE(bytes, size) || !fits(bytes, size, offset, len)
+            || len > UINT32_MAX) {
+        return false;
+    }
+    *written = vb_set_slices_u32(out, out_count, bytes, size, offset, len);
+    return true;
+}
 
 /* Packs bools as bytes: a bool that is neither 0 nor 1 then changes no bit but its own. */
 void vb_pack_bools(uint8_t *out, size_t out_size, size_t out_offset, const bool *bools,
