@@ -17,6 +17,7 @@ enum { PAGE = 4096, PAGES = 4, BYTES = PAGE * PAGES, BITS = 8 * BYTES, ROUNDS = 
 static size_t places[BITS];
 static uint32_t narrow[BITS];
 static vb_run runs[BITS / 2 + 1];
+static vb_run_u32 narrow_runs[2][BITS / 2 + 1];
 
 /* Bytes of one kind after the other: all false, all true, and any. */
 static void randomize(uint8_t *bytes)
@@ -63,6 +64,18 @@ static void walk(const uint8_t *bytes, size_t offset, size_t len, size_t room)
         }
     }
     check(slices == (ended < room ? ended : room), "vb_set_slices");
+    const size_t space = room < BITS / 2 + 1 ? room : BITS / 2 + 1;
+    memset(narrow_runs, 0x5A, sizeof narrow_runs);
+    check(vb_set_slices_u32(narrow_runs[0], space, bytes, BYTES, offset, len) == slices,
+        "vb_set_slices_u32");
+    check(vb_try_set_slices_u32(narrow_runs[1], space, bytes, BYTES, offset, len, &count)
+            && count == slices, "vb_try_set_slices_u32");
+    for (size_t k = 0; k < BITS / 2 + 1; k++) {
+        const vb_run_u32 one = narrow_runs[0][k], other = narrow_runs[1][k];
+        const bool as_wide = k < slices ? one.start == runs[k].start && one.end == runs[k].end
+                                        : one.start == 0x5A5A5A5A && one.end == 0x5A5A5A5A;
+        check(as_wide && one.start == other.start && one.end == other.end, "a run of 32 bits");
+    }
 }
 
 /* Memory whose last pages can't be read, behind `PAGES` that can. */
@@ -88,6 +101,9 @@ static void stops(uint8_t *bytes, size_t behind)
         "the last place before memory ends");
     check(vb_set_slices(runs, 4, bytes, size, 3, 8 * size - 3) == 4 && runs[3].start == BITS - 6
             && runs[3].end == BITS - 5, "the last run before memory ends");
+    check(vb_set_slices_u32(narrow_runs[0], 4, bytes, size, 3, 8 * size - 3) == 4
+            && narrow_runs[0][3].start == BITS - 6, "the last run of 32 bits before memory ends");
+    check(vb_set_slices_u32(narrow_runs[0], 0, bytes, size, BITS, 8 * behind) == 0, "no room");
     check(vb_set_indices(places, 0, bytes, size, 8 * size, 0) == 0, "no room and no bits");
     check(vb_set_slices(runs, 0, bytes, size, BITS, 8 * behind) == 0, "no room");
 }
@@ -115,6 +131,11 @@ static void longest(void)
         "a window of more bits than 32 bits count");
     check(vb_try_set_indices(places, 1, bytes, size, 5, all + 1, &count) && count == 1
             && places[0] == 0, "the same window of other places");
+    check(vb_try_set_slices_u32(narrow_runs[0], 6, bytes, size, 5, all - 1, &count) && count == 2
+            && narrow_runs[0][0].end == 1 && narrow_runs[0][1].start == UINT32_MAX - 4
+            && narrow_runs[0][1].end == UINT32_MAX, "the last run of 32 bits");
+    check(!vb_try_set_slices_u32(narrow_runs[0], 6, bytes, size, 5, all, &count) && count == 2,
+        "a window whose end 32 bits don't count");
     munmap(zeros, size);
 }
 

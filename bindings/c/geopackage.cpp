@@ -96,12 +96,7 @@ template <class T> struct kept {
         values.resize(at + count);
         mask.keep_into(from.values<T>(), view<T>(values.data() + at, count));
         valid.resize((at + count + 7) / 8);
-        bits_mut out(valid, at, count);
-        if (from.valid()) {
-            out.filter_of(*from.valid(), mask);
-        } else {
-            out.fill(true);
-        }
+        bits_mut(valid, at, count).filter_validity_of(from.valid(), mask);
     }
 
     /* The rows at indices. */
@@ -188,9 +183,7 @@ template <class T> static mask compared(const column &of, std::uint8_t op, T num
 template <class T> static mask passed(const column &of, std::uint8_t op, T number)
 {
     mask made = compared(of, op, number);
-    if (of.valid()) {
-        made.write() &= *of.valid();
-    }
+    made.write().and_validity(of.valid());
     return made;
 }
 

@@ -87,6 +87,9 @@ ACCEPTED = [
     "rows.for_each_run([](std::size_t, std::size_t end) { return end < 9; });",
     "std::vector<std::uint32_t> all = rows.set_indices<std::uint32_t>(); (void)all;",
     "std::array<std::uint32_t, 2> all; (void)rows.set_indices_into(all);",
+    "bits_mut all(bytes, 0, 8); all.and_validity(rows); all.and_validity(std::nullopt);",
+    "bits_mut(bytes, 0, 8).and_validities_of(bits_mut(plain, 4, 0, 8), bits(fixed, 1, 8));",
+    "(void)count_valid(rows, {}, 8); (void)count_valid(validity(plain, 4, 0, 8), rows, 8);",
 ]
 ACCEPTED_SINCE_20 = [
     "(void)bits(std::span<const std::uint8_t>(fixed), 0, 8);",

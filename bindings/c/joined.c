@@ -107,6 +107,145 @@ static void packs(void)
     wrote("what stands after a refused pack");
 }
 
+/* Bits that move within one bitmap, mostly to overlap themselves. */
+static void moves(void)
+{
+    const size_t len = length_up_to(BITS / 2), from = random_below(BITS - len + 1);
+    const size_t by = random_below(random_below(2) == 0 ? 100 : BITS), end = BITS - len;
+    const size_t down = from - (by < from ? by : from), up = from + by < end ? from + by : end;
+    const size_t to = random_below(2) == 0 ? down : up;
+    memcpy(wanted, before, BYTES);
+    for (size_t i = 0; i < len; i++) {
+        put(wanted, to + i, bit(before, from + i));
+    }
+    begin();
+    vb_move_bits(got, BYTES, to, from, len);
+    wrote("what vb_move_bits writes");
+    begin();
+    check(vb_try_move_bits(got, BYTES, to, from, len), "vb_try_move_bits");
+    wrote("what vb_try_move_bits writes");
+    memcpy(wanted, before, BYTES);
+    begin();
+    check(!vb_try_move_bits(got, BYTES, BITS + 1 - len, from, len)
+            && !vb_try_move_bits(got, BYTES, to, BITS + 1 - len, len)
+            && !vb_try_move_bits(got, BYTES, SIZE_MAX, from, len + 1)
+            && !vb_try_move_bits(got, BYTES, to, SIZE_MAX, len + 1), "a move past the bits");
+    wrote("what stands after a refused move");
+}
+
+/* A validity, or none: a null pointer of no bytes, with any offset. */
+struct validity {
+    const uint8_t *bytes;
+    size_t size, offset;
+};
+
+static struct validity validity_for(const uint8_t *bytes, size_t len)
+{
+    const struct validity missing = {NULL, 0, random_below(2) == 0 ? 0 : SIZE_MAX};
+    const struct validity some = {bytes, BYTES, random_below(BITS - len + 1)};
+    return random_below(2) == 0 ? missing : some;
+}
+
+static bool is_valid(struct validity of, size_t i)
+{
+    return of.bytes == NULL || bit(of.bytes, of.offset + i);
+}
+
+#define OF(validity) (validity).bytes, (validity).size, (validity).offset
+
+static void validities(void)
+{
+    const size_t len = length_up_to(BITS / 2), o = offset_for(len);
+    const struct validity one = validity_for(left, len), other = validity_for(right, len);
+    size_t valid = 0, counted = 77;
+    memcpy(wanted, before, BYTES);
+    for (size_t i = 0; i < len; i++) {
+        const bool both = is_valid(one, i) && is_valid(other, i);
+        valid += both;
+        put(wanted, o + i, both);
+    }
+    begin();
+    vb_and_validities(got, BYTES, o, OF(one), OF(other), len);
+    wrote("what vb_and_validities writes");
+    begin();
+    check(vb_try_and_validities(got, BYTES, o, OF(one), OF(other), len), "vb_try_and_validities");
+    wrote("what vb_try_and_validities writes");
+    check(vb_count_valid(OF(one), OF(other), len) == valid, "vb_count_valid");
+    check(vb_try_count_valid(OF(one), OF(other), len, &counted) && counted == valid,
+        "vb_try_count_valid");
+    memcpy(wanted, before, BYTES);
+    for (size_t i = 0; i < len; i++) {
+        put(wanted, o + i, bit(before, o + i) && is_valid(one, i));
+    }
+    begin();
+    vb_and_validity(got, BYTES, o, OF(one), len);
+    wrote("what vb_and_validity writes");
+    begin();
+    check(vb_try_and_validity(got, BYTES, o, OF(one), len), "vb_try_and_validity");
+    wrote("what vb_try_and_validity writes");
+}
+
+static void filters_of_validities(void)
+{
+    const size_t len = length_up_to(BITS / 2), m = random_below(BITS - len + 1);
+    const struct validity one = validity_for(left, len);
+    size_t kept = 0, written = 77;
+    for (size_t i = 0; i < len; i++) {
+        kept += bit(right, m + i);
+    }
+    const size_t o = offset_for(kept);
+    memcpy(wanted, before, BYTES);
+    for (size_t i = 0, at = o; i < len; i++) {
+        if (bit(right, m + i)) {
+            put(wanted, at++, is_valid(one, i));
+        }
+    }
+    begin();
+    check(vb_filter_validity(got, BYTES, o, OF(one), right, BYTES, m, len) == kept,
+        "vb_filter_validity");
+    wrote("what vb_filter_validity writes");
+    begin();
+    check(vb_try_filter_validity(got, BYTES, o, OF(one), right, BYTES, m, len, &written)
+            && written == kept, "vb_try_filter_validity");
+    wrote("what vb_try_filter_validity writes");
+    written = 77;
+    memcpy(wanted, before, BYTES);
+    begin();
+    check(!vb_try_filter_validity(got, BYTES, BITS + 1 - kept, OF(one), right, BYTES, m, len,
+            &written)
+        && !vb_try_filter_validity(got, BYTES, 0, OF(one), right, BYTES, BITS + 1 - len, len,
+            &written) && written == 77, "a filter of a validity without room, or without a mask");
+    wrote("what stands after a refused filter");
+}
+
+/* A null pointer that is said to have bytes is no missing validity, nor is another pointer to none;
+ * a window has to be in its bytes, if it is not the missing one. */
+static void no_validities(void)
+{
+    size_t number = 77;
+    memcpy(wanted, before, BYTES);
+    begin();
+    check(!vb_try_and_validities(got, BYTES, 0, NULL, BYTES, 0, NULL, 0, 0, 8)
+            && !vb_try_and_validities(got, BYTES, 0, NULL, 0, 0, NULL, 1, 0, 8)
+            && !vb_try_and_validities(got, BYTES, 0, left, 0, 0, NULL, 0, 0, 8)
+            && !vb_try_and_validities(got, BYTES, BITS - 7, NULL, 0, 0, NULL, 0, 0, 8)
+            && !vb_try_and_validities(NULL, 1, 0, NULL, 0, 0, NULL, 0, 0, 8)
+            && !vb_try_and_validities(got, BYTES, 0, left, 1, 1, NULL, 0, 0, 8)
+            && !vb_try_and_validity(got, BYTES, 0, NULL, BYTES, 0, 8)
+            && !vb_try_and_validity(got, BYTES, 0, left, 0, 0, 8)
+            && !vb_try_and_validity(got, BYTES, BITS - 7, NULL, 0, 0, 8)
+            && !vb_try_and_validity(NULL, 1, 0, NULL, 0, 0, 8)
+            && !vb_try_and_validity(got, BYTES, SIZE_MAX, NULL, 0, 0, 8)
+            && !vb_try_count_valid(NULL, 1, 0, NULL, 0, 0, 8, &number)
+            && !vb_try_count_valid(left, 0, 0, NULL, 0, 0, 8, &number)
+            && !vb_try_count_valid(NULL, 0, 0, right, BYTES, BITS - 7, 8, &number)
+            && !vb_try_filter_validity(got, BYTES, 0, NULL, 1, 0, right, BYTES, 0, 8, &number)
+            && !vb_try_filter_validity(got, BYTES, 0, left, 0, 0, right, BYTES, 0, 8, &number)
+            && !vb_try_filter_validity(got, BYTES, 0, NULL, 0, 0, NULL, 1, 0, 8, &number)
+            && number == 77, "what is no missing validity");
+    wrote("what stands after a refused validity");
+}
+
 /* What vb_take_bits_I and its checked form write, beside a loop. */
 #define TAKES(I, index_t)                                                                         \
     static void takes_##I(void)                                                                   \
@@ -194,6 +333,10 @@ int main(void)
         randomize_bytes(right, BYTES);
         randomize_bytes(before, BYTES);
         filters();
+        moves();
+        validities();
+        filters_of_validities();
+        no_validities();
         packs();
         takes_u8();
         takes_u16();

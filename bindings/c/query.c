@@ -31,7 +31,10 @@ struct bits {
 struct column {
     size_t len;
     size_t offset;
+    /* A missing one is null, of no bytes. */
     struct bits valid;
+    /* The values, if they are bits. */
+    struct bits flags;
     const void *values;
 };
 
@@ -40,8 +43,9 @@ static struct column column_of(const struct ArrowArray *batch, size_t i)
     const struct ArrowArray *child = batch->children[i];
     const size_t len = (size_t)batch->length, offset = (size_t)(batch->offset + child->offset);
     const void *valid = child->null_count == 0 ? NULL : child->buffers[0];
-    const struct column column = {len, offset, {valid, bytes_for(offset + len), offset},
-        child->buffers[1]};
+    const size_t size = bytes_for(offset + len);
+    const struct column column = {len, offset, {valid, valid == NULL ? 0 : size, offset},
+        {child->buffers[1], size, offset}, child->buffers[1]};
     return column;
 }
 
@@ -89,17 +93,10 @@ static uint32_t place_at(uint32_t i)
     return (uint32_t)(i * 2654435761u) >> 16;
 }
 
-/* In how many of `len` places both are true. */
+/* In how many of `len` rows both are valid. */
 static size_t count_both(struct bits left, struct bits right, size_t len)
 {
-    const struct bits one = left.bytes == NULL ? right : left;
-    if (one.bytes == NULL) {
-        return len;
-    }
-    if (left.bytes == NULL || right.bytes == NULL) {
-        return vb_count_ones(one.bytes, one.size, one.offset, len);
-    }
-    return vb_and_count(left.bytes, left.size, left.offset, right.bytes, right.size, right.offset,
+    return vb_count_valid(left.bytes, left.size, left.offset, right.bytes, right.size, right.offset,
         len);
 }
 
@@ -111,9 +108,7 @@ static void compare(uint8_t *mask, const struct column *a, const struct column *
     vb_compare_i32(mask, size, 0, (const int32_t *)a->values + a->offset, a->len, VB_GREATER,
         LIMIT);
     for (size_t i = 0; i < 2; i++) {
-        if (valid[i].bytes != NULL) {
-            vb_and_bits(mask, size, 0, valid[i].bytes, valid[i].size, valid[i].offset, a->len);
-        }
+        vb_and_validity(mask, size, 0, valid[i].bytes, valid[i].size, valid[i].offset, a->len);
     }
 }
 
@@ -126,12 +121,8 @@ static void keep(struct answer *answer, const uint8_t *mask, size_t kept, const 
         b->len, mask, size, 0);
     vb_filter_values_u64((uint64_t *)(void *)(answer->c + at), kept,
         (const uint64_t *)c->values + c->offset, c->len, mask, size, 0);
-    if (c->valid.bytes == NULL) {
-        vb_fill_bits(answer->c_valid, answer->c_valid_size, at, kept, true);
-    } else {
-        vb_filter_bits(answer->c_valid, answer->c_valid_size, at, c->valid.bytes, c->valid.size,
-            c->valid.offset, mask, size, 0, c->len);
-    }
+    vb_filter_validity(answer->c_valid, answer->c_valid_size, at, c->valid.bytes, c->valid.size,
+        c->valid.offset, mask, size, 0, c->len);
     answer->kept += kept;
 }
 
@@ -157,9 +148,8 @@ static void add(struct answer *answer, const struct ArrowArray *batch)
         answer->nth = find(answer, mask, a.len, NTH - answer->kept);
     }
     keep(answer, mask, kept, &b, &c);
-    const struct bits flags = {flag.values, flag.valid.size, flag.offset};
     answer->nulls += a.len - count_both(a.valid, b.valid, a.len);
-    answer->flags += count_both(flags, flag.valid, flag.len);
+    answer->flags += count_both(flag.flags, flag.valid, flag.len);
     answer->rows += a.len;
 }
 
@@ -225,7 +215,6 @@ static void add_by_loop(struct answer *answer, const struct ArrowArray *batch)
 {
     const struct column a = column_of(batch, 0), b = column_of(batch, 1), c = column_of(batch, 2),
         flag = column_of(batch, 3);
-    const struct bits flags = {flag.values, flag.valid.size, flag.offset};
     const int32_t *a_values = (const int32_t *)a.values + a.offset;
     const int64_t *b_values = (const int64_t *)b.values + b.offset;
     const double *c_values = (const double *)c.values + c.offset;
@@ -235,7 +224,7 @@ static void add_by_loop(struct answer *answer, const struct ArrowArray *batch)
             keep_row(answer, row, b_values[row], c_values[row], bit(c.valid, row));
         }
         answer->nulls += !has_both;
-        answer->flags += bit(flags, row) && bit(flag.valid, row);
+        answer->flags += bit(flag.flags, row) && bit(flag.valid, row);
     }
     answer->rows += a.len;
 }

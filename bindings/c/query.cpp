@@ -15,16 +15,6 @@
 constexpr std::int32_t limit = 700;
 constexpr std::size_t nth = 999, places = 1000;
 
-/* In how many of `len` rows both are true; one that is missing is all true. */
-static std::size_t count_both(std::optional<bits> left, std::optional<bits> right, std::size_t len)
-{
-    if (left && right) {
-        return left->and_count(*right);
-    }
-    const std::optional<bits> one = left ? left : right;
-    return one ? one->count_ones() : len;
-}
-
 struct answer {
     std::size_t rows = 0;
     /* The columns of the rows that are kept, and which values of c are valid. */
@@ -76,13 +66,7 @@ struct by_calls {
         std::size_t kept)
     {
         to.c_valid.resize(bytes_for(at + kept));
-        bits_mut out(to.c_valid, at, kept);
-        if (!valid) {
-            return out.fill(true);
-        }
-        std::vector<std::uint8_t> some(bytes_for(kept));
-        valid->filter_into(mask, some);
-        out.copy_from(bits(some, 0, kept));
+        bits_mut(to.c_valid, at, kept).filter_validity_of(valid, mask);
     }
 
     static void add(answer &to, const batch &all)
@@ -92,11 +76,8 @@ struct by_calls {
         std::vector<std::uint8_t> bytes(bytes_for(len));
         bits_mut mask(bytes, 0, len);
         vortex_bits::compare(a.values<std::int32_t>(), VB_GREATER, limit, mask);
-        for (const auto &valid : {a.valid(), b.valid()}) {
-            if (valid) {
-                mask &= *valid;
-            }
-        }
+        mask.and_validity(a.valid());
+        mask.and_validity(b.valid());
         const std::size_t kept = bits(mask).count_ones();
         find(to, mask, 0, to.first);
         if (at <= nth) {
@@ -105,8 +86,8 @@ struct by_calls {
         append(to.b, b.values<std::int64_t>(), mask, kept);
         append(to.c, c.values<double>(), mask, kept);
         append_valid(to, at, c.valid(), mask, kept);
-        to.nulls += len - count_both(a.valid(), b.valid(), len);
-        to.flags += count_both(flag.flags(), flag.valid(), len);
+        to.nulls += len - vortex_bits::count_valid(a.valid(), b.valid(), len);
+        to.flags += vortex_bits::count_valid(flag.flags(), flag.valid(), len);
         to.rows += len;
     }
 

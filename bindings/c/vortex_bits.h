@@ -45,8 +45,9 @@
  *
  * For an Arrow array, `offset` is the array's plus those of the structs that it is a column of, and
  * `size` is (offset + len + 7) / 8. A missing validity, a null pointer, means that all are valid:
- * takes, vb_and_kleene and vb_or_kleene have an argument for it; elsewhere leave out the `and` with
- * it. A macro can write the three arguments of a window:
+ * takes, vb_and_kleene and vb_or_kleene have an argument for it. vb_and_validity,
+ * vb_and_validities, vb_count_valid and vb_filter_validity accept NULL, 0, 0 in place of a window
+ * for it; other functions don't. A macro can write the three arguments of a window:
  *
  *     struct { const uint8_t *bytes; size_t size, offset; } a = {(const uint8_t[]){0xE8}, 1, 3};
  *     #define WINDOW(it) (it).bytes, (it).size, (it).offset
@@ -56,8 +57,9 @@
  * it replaces a null pointer to no items by one that they accept; checked forms reject others; it
  * selects the level; vb_set_indices, vb_set_indices_u32, vb_set_slices and their checked forms work
  * by pages of memory, and join runs that cross page ends; it packs bools as bytes, and unpacks them
- * so; vb_filter_values, vb_scatter_values and vb_take_values choose by sizes. The C++ classes are
- * also written by hand, and tested.
+ * so; vb_filter_values, vb_scatter_values and vb_take_values choose by sizes, and the functions of
+ * validities that may be missing by which are; vb_set_slices_u32 narrows the indices of runs. The
+ * C++ classes are also written by hand, and tested.
  */
 #ifndef VORTEX_BITS_H
 #define VORTEX_BITS_H
@@ -105,6 +107,12 @@ typedef struct {
     size_t start;
     size_t end;
 } vb_run;
+
+/* The same with indices of 32 bits. */
+typedef struct {
+    uint32_t start;
+    uint32_t end;
+} vb_run_u32;
 
 /*
  * The result of a take: whether an index that counts is out of range. `position` is that of the
@@ -326,6 +334,19 @@ VB_CHECKED bool vb_try_set_slices(vb_run *out, size_t out_count, const uint8_t *
         size_t offset, size_t len, size_t *written);
 
 /*
+ * Does the same with indices of 32 bits, for a window of fewer than 2^32 bits: the checked form
+ * returns false for a longer one. Makes runs of vb_set_slices shorter, 64 at a time.
+ *
+ *     const uint8_t rows[] = {0xE8, 0x06};
+ *     vb_run_u32 runs[4];
+ *     assert(vb_set_slices_u32(runs, 4, rows, 2, 3, 10) == 3 && runs[1].end == 5);
+ */
+size_t vb_set_slices_u32(vb_run_u32 *out, size_t out_count, const uint8_t *bytes, size_t size,
+        size_t offset, size_t len);
+VB_CHECKED bool vb_try_set_slices_u32(vb_run_u32 *out, size_t out_count, const uint8_t *bytes,
+        size_t size, size_t offset, size_t len, size_t *written);
+
+/*
  * Sets each bit of the window to `value`. Fills whole bytes as a block. To set one bit, pass its
  * offset and the length 1.
  *
@@ -350,7 +371,7 @@ VB_CHECKED bool vb_try_negate_bits(uint8_t *bytes, size_t size, size_t offset, s
 /*
  * Copies the `len` bits of `src` from bit `src_offset` on to the bits of `dst` from bit
  * `dst_offset` on, word by word at any two offsets. The bytes of the two must not overlap, even if
- * their windows don't.
+ * their windows don't; vb_move_bits copies within the same bytes.
  *
  *     uint8_t rows[] = {0x00};
  *     const uint8_t more[] = {0x1B};
@@ -361,6 +382,18 @@ void vb_copy_bits(uint8_t *dst, size_t dst_size, size_t dst_offset, const uint8_
         size_t src_size, size_t src_offset, size_t len);
 VB_CHECKED bool vb_try_copy_bits(uint8_t *dst, size_t dst_size, size_t dst_offset,
         const uint8_t *src, size_t src_size, size_t src_offset, size_t len);
+
+/*
+ * Copies the `len` bits from bit `from` on to the bits from bit `offset` on of the same bytes, as
+ * memmove does: the windows may overlap. Processes 4,096 bits at a time.
+ *
+ *     uint8_t rows[] = {0x68};
+ *     vb_move_bits(rows, 1, 1, 3, 5);
+ *     assert(rows[0] == 0x5A);
+ */
+void vb_move_bits(uint8_t *bytes, size_t size, size_t offset, size_t from, size_t len);
+VB_CHECKED bool vb_try_move_bits(uint8_t *bytes, size_t size, size_t offset, size_t from,
+        size_t len);
 
 /*
  * Sets each of the `len` bits of `dst` from bit `dst_offset` on to true if it is true and that of
@@ -414,68 +447,6 @@ void vb_and_not_bits(uint8_t *dst, size_t dst_size, size_t dst_offset, const uin
         size_t src_size, size_t src_offset, size_t len);
 VB_CHECKED bool vb_try_and_not_bits(uint8_t *dst, size_t dst_size, size_t dst_offset,
         const uint8_t *src, size_t src_size, size_t src_offset, size_t len);
-
-/*
- * Sets each of the `len` bits of `out` from bit `out_offset` on to true if that of `left` from bit
- * `left_offset` on and that of `right` from bit `right_offset` on are true, else to false. `left`
- * and `right` may overlap.
- *
- *     uint8_t out[] = {0xFF};
- *     const uint8_t left[] = {0x0C}, right[] = {0x0A};
- *     vb_and_into(out, 1, 2, left, 1, 0, right, 1, 0, 4);
- *     assert(out[0] == 0xE3);
- */
-void vb_and_into(uint8_t *out, size_t out_size, size_t out_offset, const uint8_t *left,
-        size_t left_size, size_t left_offset, const uint8_t *right, size_t right_size,
-        size_t right_offset, size_t len);
-VB_CHECKED bool vb_try_and_into(uint8_t *out, size_t out_size, size_t out_offset,
-        const uint8_t *left, size_t left_size, size_t left_offset, const uint8_t *right,
-        size_t right_size, size_t right_offset, size_t len);
-
-/*
- * Does the same for `or`: true if one of the two bits is true, or both are.
- *
- *     uint8_t out[] = {0};
- *     const uint8_t left[] = {0x0C}, right[] = {0x0A};
- *     vb_or_into(out, 1, 0, left, 1, 0, right, 1, 0, 4);
- *     assert(out[0] == 0x0E);
- */
-void vb_or_into(uint8_t *out, size_t out_size, size_t out_offset, const uint8_t *left,
-        size_t left_size, size_t left_offset, const uint8_t *right, size_t right_size,
-        size_t right_offset, size_t len);
-VB_CHECKED bool vb_try_or_into(uint8_t *out, size_t out_size, size_t out_offset,
-        const uint8_t *left, size_t left_size, size_t left_offset, const uint8_t *right,
-        size_t right_size, size_t right_offset, size_t len);
-
-/*
- * Does the same for `xor`: true if one of the two bits is true, and not both.
- *
- *     uint8_t out[] = {0};
- *     const uint8_t left[] = {0x0C}, right[] = {0x0A};
- *     vb_xor_into(out, 1, 0, left, 1, 0, right, 1, 0, 4);
- *     assert(out[0] == 0x06);
- */
-void vb_xor_into(uint8_t *out, size_t out_size, size_t out_offset, const uint8_t *left,
-        size_t left_size, size_t left_offset, const uint8_t *right, size_t right_size,
-        size_t right_offset, size_t len);
-VB_CHECKED bool vb_try_xor_into(uint8_t *out, size_t out_size, size_t out_offset,
-        const uint8_t *left, size_t left_size, size_t left_offset, const uint8_t *right,
-        size_t right_size, size_t right_offset, size_t len);
-
-/*
- * Does the same for `and_not`: true if the bit of `left` is true and that of `right` is false.
- *
- *     uint8_t out[] = {0};
- *     const uint8_t left[] = {0x0C}, right[] = {0x0A};
- *     vb_and_not_into(out, 1, 0, left, 1, 0, right, 1, 0, 4);
- *     assert(out[0] == 0x04);
- */
-void vb_and_not_into(uint8_t *out, size_t out_size, size_t out_offset, const uint8_t *left,
-        size_t left_size, size_t left_offset, const uint8_t *right, size_t right_size,
-        size_t right_offset, size_t len);
-VB_CHECKED bool vb_try_and_not_into(uint8_t *out, size_t out_size, size_t out_offset,
-        const uint8_t *left, size_t left_size, size_t left_offset, const uint8_t *right,
-        size_t right_size, size_t right_offset, size_t len);
 
 /*
  * Returns the processor level of the code that calls run: "x86-64-v2", say.

@@ -16,77 +16,11 @@
 #ifndef VORTEX_BITS_HPP
 #define VORTEX_BITS_HPP
 
-#include "vortex_bits_detail.hpp"
+#include "vortex_bits_view.hpp"
 
 #if __cplusplus >= 201703L
 
 namespace vortex_bits {
-
-/* Returns whether a window is in `size` bytes and its end fits a std::size_t: it can be made. */
-constexpr bool fits(std::size_t size, std::size_t offset, std::size_t len)
-{
-    return len <= SIZE_MAX - offset && (offset + len) / 8 + ((offset + len) % 8 != 0) <= size;
-}
-
-/*
- * Whether objects of a type refer to bytes that outlive them, as a std::span does. A window over a
- * temporary object compiles for these types alone: std::basic_string_view, each borrowed range of
- * C++20, and each trivially copyable type whose `data() const` points to writable bytes, which
- * can't be its own. Specialise it for another view of yours:
- *
- *     template <> inline constexpr bool vortex_bits::is_borrowed<my::slice> = true;
- */
-template <class Bytes> inline constexpr bool is_borrowed = detail::refers<Bytes>();
-template <class Byte, class Traits>
-inline constexpr bool is_borrowed<std::basic_string_view<Byte, Traits>> = true;
-
-/*
- * Items that another container owns, like std::span of C++20:
- *
- *     vortex_bits::bits rows(vortex_bits::view(pointer, 2), 3, 10);    // over two bytes or words
- */
-template <class Item> class view {
-public:
-    view() = default;
-    view(Item *items, std::size_t count) : items_(items), count_(count) {}
-
-    Item *data() const { return items_; }
-    std::size_t size() const { return count_; }
-    bool empty() const { return count_ == 0; }
-    Item *begin() const { return items_; }
-    Item *end() const { return items_ + count_; }
-
-    Item &operator[](std::size_t position) const
-    {
-        detail::expect(position < count_, "a position is not one of the view");
-        return items_[position];
-    }
-
-private:
-    Item *items_ = nullptr;
-    std::size_t count_ = 0;
-};
-template <class Item> inline constexpr bool is_borrowed<view<Item>> = true;
-
-namespace detail {
-
-/* Types that lend bytes; of these, types that borrow the bytes, and types that own them. */
-template <class Container, class Byte>
-using lender = std::enable_if_t<lends<Container, Byte>, int>;
-template <class Container, class Byte>
-using borrower = std::enable_if_t<lends<Container, Byte> && is_borrowed<Container>, int>;
-template <class Container, class Byte>
-using owner = std::enable_if_t<lends<Container, Byte> && !is_borrowed<Container>, int>;
-
-/* Returns the bytes of words, the lowest byte of each first, as on each x86-64. */
-template <class Words> auto bytes_of(Words &words)
-{
-    using word = std::remove_pointer_t<decltype(words.data())>;
-    using byte = std::conditional_t<std::is_const_v<word>, const std::uint8_t, std::uint8_t>;
-    return reinterpret_cast<byte *>(words.data());
-}
-
-} // namespace detail
 
 /* A read-only window: the `len` bits from bit `offset` on of some bytes. */
 class bits {
@@ -243,11 +177,18 @@ public:
         return places;
     }
 
-    /* Returns the runs of set bits. */
-    std::vector<vb_run> set_slices() const
+    /*
+     * Returns the runs of set bits, as `Run`: vb_run, or vb_run_u32 of a window of fewer than 2^32
+     * bits.
+     */
+    template <class Run = vb_run> std::vector<Run> set_slices() const
     {
-        std::vector<vb_run> runs;
-        for_each_run([&](std::size_t start, std::size_t end) { runs.push_back({start, end}); });
+        using index = decltype(Run::start);
+        detail::expect(len_ <= std::numeric_limits<index>::max(), "more bits than a run can index");
+        std::vector<Run> runs;
+        for_each_run([&](std::size_t start, std::size_t end) {
+            runs.push_back({static_cast<index>(start), static_cast<index>(end)});
+        });
         return runs;
     }
 
@@ -266,7 +207,15 @@ public:
     }
     template <class Out> std::size_t set_slices_into(Out &&out) const
     {
-        return vb_set_slices(out.data(), out.size(), bytes_, size_, offset_, len_);
+        using run = detail::lent_t<std::remove_reference_t<Out>>;
+        static_assert(std::is_same_v<run, vb_run> || std::is_same_v<run, vb_run_u32>,
+            "set_slices writes runs of vb_run or vb_run_u32");
+        if constexpr (std::is_same_v<run, vb_run_u32>) {
+            detail::expect(len_ <= UINT32_MAX, "more bits than 32 bits can index");
+            return vb_set_slices_u32(out.data(), out.size(), bytes_, size_, offset_, len_);
+        } else if constexpr (std::is_same_v<run, vb_run>) {
+            return vb_set_slices(out.data(), out.size(), bytes_, size_, offset_, len_);
+        }
     }
 
     /*
@@ -312,6 +261,8 @@ public:
 private:
     friend class bits_mut;
     friend class ranks;
+    friend std::size_t count_valid(const std::optional<bits> &, const std::optional<bits> &,
+        std::size_t);
     friend struct detail::aggregate;
     template <class Values, class Indices, class Out>
     friend std::optional<std::size_t> take_values(const Values &, const Indices &,
@@ -406,6 +357,14 @@ public:
     void fill(bool value) { vb_fill_bits(bytes_, size_, offset_, len_, value); }
     void negate() { vb_negate_bits(bytes_, size_, offset_, len_); }
 
+    /* Copies the `len` bits from index `from` on to those from index `to` on, as memmove does. */
+    void copy_within(std::size_t from, std::size_t len, std::size_t to)
+    {
+        detail::expect(from <= len_ && len <= len_ - from && to <= len_ && len <= len_ - to,
+            "bits to copy are not in the window");
+        vb_move_bits(bytes_, size_, offset_ + to, offset_ + from, len);
+    }
+
     /* `source` or `right` has this length, and its bytes overlap none of these; so in all below. */
     void copy_from(bits source) { by_another(vb_copy_bits, source); }
     void operator&=(bits right) { by_another(vb_and_bits, right); }
@@ -413,11 +372,17 @@ public:
     void operator^=(bits right) { by_another(vb_xor_bits, right); }
     void and_not(bits right) { by_another(vb_and_not_bits, right); }
 
+    /* Sets the bits of rows that aren't valid to false; a missing validity changes nothing. */
+    void and_validity(const std::optional<bits> &validity);
+
     /* Writes the result of two windows, which may overlap each other. */
     void and_of(bits left, bits right) { by_two(vb_and_into, left, right); }
     void or_of(bits left, bits right) { by_two(vb_or_into, left, right); }
     void xor_of(bits left, bits right) { by_two(vb_xor_into, left, right); }
     void and_not_of(bits left, bits right) { by_two(vb_and_not_into, left, right); }
+
+    /* Writes which rows are valid in both of two columns; a column without a validity has no null. */
+    void and_validities_of(const std::optional<bits> &left, const std::optional<bits> &right);
 
     /*
      * Undoes filter_into: writes the bits of `values` in order where `mask`, of this length, is
@@ -432,6 +397,9 @@ public:
      *     rows += out.slice(rows, left).filter_of(batch, mask);
      */
     std::size_t filter_of(bits values, bits mask);
+
+    /* Does the same with a validity; if it is missing, writes true for each row selected. */
+    std::size_t filter_validity_of(const std::optional<bits> &validity, bits mask);
 
     /* Takes bits of `values`, as bits::take_into writes them; all positions count. */
     template <class Indices>

@@ -1,8 +1,9 @@
 /*
- * Bits built from other bits: pack truth values, take (gather) bits at indices, filter by a mask
- * and deposit again by it, and `and` and `or` of truth values that may be null. And bits unpacked
- * to bools and bytes. vortex_bits.h includes this file; its first comment states what the caller
- * must ensure for every call.
+ * Bits built from other bits: combine two windows into a third one, also validities that may be
+ * missing; pack truth values, take (gather) bits at indices, filter by a mask and deposit again by
+ * it, and `and` and `or` of truth values that may be null. And bits unpacked to bools and bytes.
+ * vortex_bits.h includes this file; its first comment states what the caller must ensure for every
+ * call.
  *
  * The calls write to any window of `out` and leave its other bits unchanged, so the results of
  * batches can be written one after the other. Those that end in _padded write whole bytes, and those
@@ -16,6 +17,118 @@
 #ifdef __cplusplus
 extern "C" {
 #endif
+
+/*
+ * Sets each of the `len` bits of `out` from bit `out_offset` on to true if that of `left` from bit
+ * `left_offset` on and that of `right` from bit `right_offset` on are true, else to false. `left`
+ * and `right` may overlap.
+ *
+ *     uint8_t out[] = {0xFF};
+ *     const uint8_t left[] = {0x0C}, right[] = {0x0A};
+ *     vb_and_into(out, 1, 2, left, 1, 0, right, 1, 0, 4);
+ *     assert(out[0] == 0xE3);
+ */
+void vb_and_into(uint8_t *out, size_t out_size, size_t out_offset, const uint8_t *left,
+        size_t left_size, size_t left_offset, const uint8_t *right, size_t right_size,
+        size_t right_offset, size_t len);
+VB_CHECKED bool vb_try_and_into(uint8_t *out, size_t out_size, size_t out_offset,
+        const uint8_t *left, size_t left_size, size_t left_offset, const uint8_t *right,
+        size_t right_size, size_t right_offset, size_t len);
+
+/*
+ * Does the same for `or`: true if one of the two bits is true, or both are.
+ *
+ *     uint8_t out[] = {0};
+ *     const uint8_t left[] = {0x0C}, right[] = {0x0A};
+ *     vb_or_into(out, 1, 0, left, 1, 0, right, 1, 0, 4);
+ *     assert(out[0] == 0x0E);
+ */
+void vb_or_into(uint8_t *out, size_t out_size, size_t out_offset, const uint8_t *left,
+        size_t left_size, size_t left_offset, const uint8_t *right, size_t right_size,
+        size_t right_offset, size_t len);
+VB_CHECKED bool vb_try_or_into(uint8_t *out, size_t out_size, size_t out_offset,
+        const uint8_t *left, size_t left_size, size_t left_offset, const uint8_t *right,
+        size_t right_size, size_t right_offset, size_t len);
+
+/*
+ * Does the same for `xor`: true if one of the two bits is true, and not both.
+ *
+ *     uint8_t out[] = {0};
+ *     const uint8_t left[] = {0x0C}, right[] = {0x0A};
+ *     vb_xor_into(out, 1, 0, left, 1, 0, right, 1, 0, 4);
+ *     assert(out[0] == 0x06);
+ */
+void vb_xor_into(uint8_t *out, size_t out_size, size_t out_offset, const uint8_t *left,
+        size_t left_size, size_t left_offset, const uint8_t *right, size_t right_size,
+        size_t right_offset, size_t len);
+VB_CHECKED bool vb_try_xor_into(uint8_t *out, size_t out_size, size_t out_offset,
+        const uint8_t *left, size_t left_size, size_t left_offset, const uint8_t *right,
+        size_t right_size, size_t right_offset, size_t len);
+
+/*
+ * Does the same for `and_not`: true if the bit of `left` is true and that of `right` is false.
+ *
+ *     uint8_t out[] = {0};
+ *     const uint8_t left[] = {0x0C}, right[] = {0x0A};
+ *     vb_and_not_into(out, 1, 0, left, 1, 0, right, 1, 0, 4);
+ *     assert(out[0] == 0x04);
+ */
+void vb_and_not_into(uint8_t *out, size_t out_size, size_t out_offset, const uint8_t *left,
+        size_t left_size, size_t left_offset, const uint8_t *right, size_t right_size,
+        size_t right_offset, size_t len);
+VB_CHECKED bool vb_try_and_not_into(uint8_t *out, size_t out_size, size_t out_offset,
+        const uint8_t *left, size_t left_size, size_t left_offset, const uint8_t *right,
+        size_t right_size, size_t right_offset, size_t len);
+
+/*
+ * Sets each of the `len` bits of `out` from bit `out_offset` on to true if the row is valid in both
+ * of two columns: `and` of the bits of `left` from bit `left_offset` on and of `right` from bit
+ * `right_offset` on. A null pointer of size 0 is a missing validity: each row is valid in that
+ * column, and its offset is ignored. So this also turns one validity that may be missing into a
+ * mask for any other call, if the other one is NULL, 0, 0.
+ *
+ *     uint8_t out[] = {0};
+ *     const uint8_t valid[] = {0xEC};
+ *     vb_and_validities(out, 1, 0, valid, 1, 2, NULL, 0, 0, 4);
+ *     assert(out[0] == 0x0B);
+ *     vb_and_validities(out, 1, 0, NULL, 0, 0, NULL, 0, 0, 4);
+ *     assert(out[0] == 0x0F);
+ *     assert(!vb_try_and_validities(out, 1, 0, NULL, 1, 0, valid, 1, 2, 4));
+ */
+void vb_and_validities(uint8_t *out, size_t out_size, size_t out_offset, const uint8_t *left,
+        size_t left_size, size_t left_offset, const uint8_t *right, size_t right_size,
+        size_t right_offset, size_t len);
+VB_CHECKED bool vb_try_and_validities(uint8_t *out, size_t out_size, size_t out_offset,
+        const uint8_t *left, size_t left_size, size_t left_offset, const uint8_t *right,
+        size_t right_size, size_t right_offset, size_t len);
+
+/*
+ * Sets each of the `len` bits of `dst` from bit `dst_offset` on to false if its row isn't valid:
+ * vb_and_bits with a validity that may be missing, which changes nothing.
+ *
+ *     uint8_t mask[] = {0x06};
+ *     const uint8_t valid[] = {0xEC};
+ *     vb_and_validity(mask, 1, 0, valid, 1, 2, 4);
+ *     vb_and_validity(mask, 1, 0, NULL, 0, 0, 4);
+ *     assert(mask[0] == 0x02);
+ */
+void vb_and_validity(uint8_t *dst, size_t dst_size, size_t dst_offset, const uint8_t *validity,
+        size_t validity_size, size_t validity_offset, size_t len);
+VB_CHECKED bool vb_try_and_validity(uint8_t *dst, size_t dst_size, size_t dst_offset,
+        const uint8_t *validity, size_t validity_size, size_t validity_offset, size_t len);
+
+/*
+ * Returns the number of rows that are valid in both of two columns (`valid`), each of whose
+ * validities may be missing: of a single column, if the other one is NULL, 0, 0.
+ *
+ *     const uint8_t valid[] = {0xEC};
+ *     assert(vb_count_valid(valid, 1, 2, NULL, 0, 0, 4) == 3);
+ *     assert(vb_count_valid(NULL, 0, 0, NULL, 0, 0, 4) == 4);
+ */
+size_t vb_count_valid(const uint8_t *left, size_t left_size, size_t left_offset,
+        const uint8_t *right, size_t right_size, size_t right_offset, size_t len);
+VB_CHECKED bool vb_try_count_valid(const uint8_t *left, size_t left_size, size_t left_offset,
+        const uint8_t *right, size_t right_size, size_t right_offset, size_t len, size_t *valid);
 
 /*
  * Packs truth values into the bits of `out` from bit `out_offset` on, one each, which must be in
@@ -154,6 +267,21 @@ size_t vb_filter_bits(uint8_t *out, size_t out_size, size_t out_offset, const ui
 VB_CHECKED bool vb_try_filter_bits(uint8_t *out, size_t out_size, size_t out_offset,
         const uint8_t *bytes, size_t size, size_t offset, const uint8_t *mask, size_t mask_size,
         size_t mask_offset, size_t len, size_t *written);
+
+/*
+ * Does the same with a validity that may be missing: then writes true for each row that the mask
+ * selects.
+ *
+ *     uint8_t out[] = {0xC0};
+ *     const uint8_t mask[] = {0x4B};
+ *     assert(vb_filter_validity(out, 1, 2, NULL, 0, 0, mask, 1, 0, 7) == 4 && out[0] == 0xFC);
+ */
+size_t vb_filter_validity(uint8_t *out, size_t out_size, size_t out_offset, const uint8_t *validity,
+        size_t validity_size, size_t validity_offset, const uint8_t *mask, size_t mask_size,
+        size_t mask_offset, size_t len);
+VB_CHECKED bool vb_try_filter_validity(uint8_t *out, size_t out_size, size_t out_offset,
+        const uint8_t *validity, size_t validity_size, size_t validity_offset, const uint8_t *mask,
+        size_t mask_size, size_t mask_offset, size_t len, size_t *written);
 
 /*
  * Undoes vb_filter_bits (deposits): writes `len` bits to `out` from bit `out_offset` on. Where the

@@ -1,7 +1,7 @@
 /*
- * Bits built from other bits, a part of vortex_bits.hpp, which includes this file: pack and unpack
- * truth values, take (gather) bits at indices, filter by a mask and deposit again by it, and `and`
- * and `or` of truth values that may be null.
+ * Bits built from other bits, a part of vortex_bits.hpp, which includes this file: validities that
+ * may be missing, pack and unpack truth values, take (gather) bits at indices, filter by a mask and
+ * deposit again by it, and `and` and `or` of truth values that may be null.
  *
  *     std::array<bool, 3> flags = {true, false, true};
  *     std::vector<std::uint8_t> packed(1);
@@ -34,6 +34,30 @@ VB_TAKEN_BY(8, u64, std::uint64_t)
 #undef VB_TAKEN_BY
 
 } // namespace detail
+
+/*
+ * Returns the validity of a column: a window, or nullopt if `bytes` is null, which means that all
+ * rows are valid, whatever the size.
+ */
+inline std::optional<bits> validity(const std::uint8_t *bytes, std::size_t size, std::size_t offset,
+    std::size_t len)
+{
+    return bytes != nullptr ? std::optional<bits>(bits(bytes, size, offset, len)) : std::nullopt;
+}
+
+/*
+ * Returns how many of `len` rows are valid in both of two columns: of one column, if the other one
+ * is nullopt.
+ */
+inline std::size_t count_valid(const std::optional<bits> &left, const std::optional<bits> &right,
+    std::size_t len)
+{
+    detail::expect((!left || left->len_ == len) && (!right || right->len_ == len),
+        "not a bit of validity for each row");
+    const bits one = left.value_or(bits()), other = right.value_or(bits());
+    return vb_count_valid(one.bytes_, one.size_, one.offset_, other.bytes_, other.size_,
+        other.offset_, len);
+}
 
 template <class Indices>
 std::optional<std::size_t> bits::take(const Indices &indices, const bits *valid, std::uint8_t *out,
@@ -84,6 +108,32 @@ inline std::size_t bits_mut::filter_of(bits values, bits mask)
     detail::expect(mask.len_ == values.len_, "windows are of two lengths");
     detail::expect(mask.count_ones() <= len_, "no room for the bits to keep");
     return vb_filter_bits(bytes_, size_, offset_, values.bytes_, values.size_, values.offset_,
+        mask.bytes_, mask.size_, mask.offset_, mask.len_);
+}
+
+inline void bits_mut::and_validity(const std::optional<bits> &validity)
+{
+    detail::expect(!validity || validity->len_ == len_, "windows are of two lengths");
+    const bits rows = validity.value_or(bits());
+    vb_and_validity(bytes_, size_, offset_, rows.bytes_, rows.size_, rows.offset_, len_);
+}
+
+inline void bits_mut::and_validities_of(const std::optional<bits> &left,
+    const std::optional<bits> &right)
+{
+    detail::expect((!left || left->len_ == len_) && (!right || right->len_ == len_),
+        "windows are of two lengths");
+    const bits one = left.value_or(bits()), other = right.value_or(bits());
+    vb_and_validities(bytes_, size_, offset_, one.bytes_, one.size_, one.offset_, other.bytes_,
+        other.size_, other.offset_, len_);
+}
+
+inline std::size_t bits_mut::filter_validity_of(const std::optional<bits> &validity, bits mask)
+{
+    detail::expect(!validity || validity->len_ == mask.len_, "windows are of two lengths");
+    detail::expect(mask.count_ones() <= len_, "no room for the bits to keep");
+    const bits rows = validity.value_or(bits());
+    return vb_filter_validity(bytes_, size_, offset_, rows.bytes_, rows.size_, rows.offset_,
         mask.bytes_, mask.size_, mask.offset_, mask.len_);
 }
 

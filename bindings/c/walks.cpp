@@ -1,6 +1,6 @@
 /*
- * Walks of vortex_bits.hpp that end before their window does, windows over temporary views, and
- * windows over words.
+ * Walks of vortex_bits.hpp that end before their window does, windows over temporary views, windows
+ * over words, and bits that move within a window.
  */
 #include "vortex_bits.hpp"
 
@@ -44,6 +44,17 @@ static void stops(const buffer &all, std::size_t n)
     const bits window(all, 3, 8 * all.size() - 5);
     const std::vector<std::size_t> places = window.set_indices();
     const std::vector<vb_run> runs = window.set_slices();
+    const std::vector<vb_run_u32> narrow = window.set_slices<vb_run_u32>();
+    std::vector<vb_run_u32> some(runs.size() / 2 + 1);
+    check(narrow.size() == runs.size()
+            && window.set_slices_into(some) == std::min(some.size(), runs.size()),
+        "how many runs of 32 bits");
+    for (std::size_t k = 0; k < runs.size(); k++) {
+        const vb_run_u32 written = k < some.size() ? some[k] : narrow[k];
+        check(narrow[k].start == runs[k].start && narrow[k].end == runs[k].end
+                && written.start == narrow[k].start && written.end == narrow[k].end,
+            "a run of 32 bits");
+    }
     std::vector<std::size_t> walked;
     window.for_each_set([&](std::size_t place) {
         walked.push_back(place);
@@ -113,6 +124,10 @@ static void narrow_indices()
     refused([&] { bits(&byte, len / 8 + 1, 0, len).set_indices_into(one); },
         "a window of more bits than 32 bits can index");
     check(one[0] == 7, "a refused walk wrote nothing");
+    std::array<vb_run_u32, 1> run = {{{7, 8}}};
+    refused([&] { bits(&byte, len / 8 + 1, 0, len - 1).set_slices_into(run); },
+        "a window whose end 32 bits can't index");
+    check(run[0].start == 7 && run[0].end == 8, "a refused walk of runs wrote nothing");
 }
 
 /* The class view: its items, and what it refuses. */
@@ -126,12 +141,37 @@ static void items()
     check(none.empty() && none.size() == 0 && none.begin() == none.end(), "a view of nothing");
 }
 
+/* Bits that move within their window, beside a loop over a copy. */
+static void moves(const buffer &any)
+{
+    for (const std::size_t len : {0, 1, 64, 65, 500, 1300}) {
+        for (const std::size_t from : {0, 1, 9, 40}) {
+            for (const std::size_t to : {0, 3, 8, 41}) {
+                buffer got = any, wanted = any;
+                bits_mut(got, 5, 1350).copy_within(from, len, to);
+                for (std::size_t i = 0; i < len; i++) {
+                    bits_mut(wanted, 5, 1350).set(to + i, bits(any, 5, 1350)[from + i]);
+                }
+                check(got == wanted, "copy_within");
+            }
+        }
+    }
+    buffer some = any;
+    bits_mut window(some, 5, 1350);
+    refused([&] { window.copy_within(1, 1350, 0); }, "a move of bits past the window");
+    refused([&] { window.copy_within(0, 1350, 1); }, "a move past the window");
+    refused([&] { window.copy_within(1351, 0, 0); }, "a move from past the window");
+    refused([&] { window.copy_within(0, 0, SIZE_MAX); }, "a move to no place");
+    check(some == any, "a refused move left all as it was");
+}
+
 int main()
 {
-    buffer any(170);
-    for (std::size_t i = 0; i < any.size(); i++) {
-        any[i] = static_cast<std::uint8_t>(i * i * 37 >> 3);
+    buffer any(170), more(600);
+    for (std::size_t i = 0; i < more.size(); i++) {
+        more[i] = static_cast<std::uint8_t>(i * i * 37 >> 3);
     }
+    std::copy_n(more.begin(), any.size(), any.begin());
     for (const std::size_t n : {0, 1, 2, 63, 64, 65, 128, 129, 9999}) {
         for (const buffer &all : {any, buffer(200, 0xFF), buffer(200, 0x55), buffer(200)}) {
             stops(all, n);
@@ -140,6 +180,7 @@ int main()
     views();
     words(any);
     items();
+    moves(any);
     narrow_indices();
     return failures == 0 ? 0 : 1;
 }

@@ -1,9 +1,41 @@
 /*
  * The functions of vortex_bits.h that no level has. Each calls one of several functions, by the
- * size of a value or of an index, or passes bools as bytes.
+ * size of a value or of an index, or by which validities are missing, or passes bools as bytes, or
+ * narrows what another one writes.
  */
 #ifndef VORTEX_BITS_MADE_H
 #define VORTEX_BITS_MADE_H
+
+/* Narrows the runs of a window, some at a time: they go on behind the last one. */
+size_t vb_set_slices_u32(vb_run_u32 *out, size_t out_count, const uint8_t *bytes, size_t size,
+    size_t offset, size_t len)
+{
+    vb_run runs[64];
+    const size_t all = sizeof runs / sizeof *runs;
+    size_t written = 0, at = 0, most, found;
+    do {
+        most = out_count - written < all ? out_count - written : all;
+        found = vb_set_slices(runs, most, bytes, size, offset + at, len - at);
+        for (size_t k = 0; k < found; k++) {
+            out[written + k].start = (uint32_t)(at + runs[k].start);
+            out[written + k].end = (uint32_t)(at + runs[k].end);
+        }
+        written += found;
+        at += found != 0 ? runs[found - 1].end : 0;
+    } while (found == all && written < out_count);
+    return written;
+}
+
+bool vb_try_set_slices_u32(vb_run_u32 *out, size_t out_count, const uint8_t *bytes, size_t size,
+    size_t offset, size_t len, size_t *written)
+{
+    if (!MAY_HAVE(out, out_count) || !MAY_HAVE(bytes, size) || !fits(bytes, size, offset, len)
+            || len > UINT32_MAX) {
+        return false;
+    }
+    *written = vb_set_slices_u32(out, out_count, bytes, size, offset, len);
+    return true;
+}
 
 /* Packs bools as bytes: a bool that is neither 0 nor 1 then changes no bit but its own. */
 void vb_pack_bools(uint8_t *out, size_t out_size, size_t out_offset, const bool *bools,
@@ -29,6 +61,127 @@ bool vb_try_unpack_bools(bool *out, size_t out_count, const uint8_t *bytes, size
     size_t offset, size_t len)
 {
     return vb_try_unpack_bytes((uint8_t *)out, out_count, bytes, size, offset, len);
+}
+
+/* Returns whether a validity is missing: a null pointer of size 0. One of another size is a mistake,
+ * and the function that it is passed to refuses it. */
+static bool is_missing(const uint8_t *validity, size_t validity_size)
+{
+    return validity == NULL && validity_size == 0;
+}
+
+void vb_and_validities(uint8_t *out, size_t out_size, size_t out_offset, const uint8_t *left,
+    size_t left_size, size_t left_offset, const uint8_t *right, size_t right_size,
+    size_t right_offset, size_t len)
+{
+    if (!is_missing(left, left_size) && !is_missing(right, right_size)) {
+        vb_and_into(out, out_size, out_offset, left, left_size, left_offset, right, right_size,
+            right_offset, len);
+    } else if (!is_missing(left, left_size)) {
+        vb_copy_bits(out, out_size, out_offset, left, left_size, left_offset, len);
+    } else if (!is_missing(right, right_size)) {
+        vb_copy_bits(out, out_size, out_offset, right, right_size, right_offset, len);
+    } else {
+        vb_fill_bits(out, out_size, out_offset, len, true);
+    }
+}
+
+bool vb_try_and_validities(uint8_t *out, size_t out_size, size_t out_offset, const uint8_t *left,
+    size_t left_size, size_t left_offset, const uint8_t *right, size_t right_size,
+    size_t right_offset, size_t len)
+{
+    if (!is_missing(left, left_size) && !is_missing(right, right_size)) {
+        return vb_try_and_into(out, out_size, out_offset, left, left_size, left_offset, right,
+            right_size, right_offset, len);
+    }
+    if (!is_missing(left, left_size)) {
+        return vb_try_copy_bits(out, out_size, out_offset, left, left_size, left_offset, len);
+    }
+    if (!is_missing(right, right_size)) {
+        return vb_try_copy_bits(out, out_size, out_offset, right, right_size, right_offset, len);
+    }
+    return vb_try_fill_bits(out, out_size, out_offset, len, true);
+}
+
+void vb_and_validity(uint8_t *dst, size_t dst_size, size_t dst_offset, const uint8_t *validity,
+    size_t validity_size, size_t validity_offset, size_t len)
+{
+    if (!is_missing(validity, validity_size)) {
+        vb_and_bits(dst, dst_size, dst_offset, validity, validity_size, validity_offset, len);
+    }
+}
+
+/* Tests the window of `dst` by a search of no bits, which reads none, if nothing is to be done. */
+bool vb_try_and_validity(uint8_t *dst, size_t dst_size, size_t dst_offset, const uint8_t *validity,
+    size_t validity_size, size_t validity_offset, size_t len)
+{
+    if (!is_missing(validity, validity_size)) {
+        return vb_try_and_bits(dst, dst_size, dst_offset, validity, validity_size, validity_offset,
+            len);
+    }
+    return MAY_HAVE(dst, dst_size) && fits(dst, dst_size, dst_offset, len);
+}
+
+size_t vb_count_valid(const uint8_t *left, size_t left_size, size_t left_offset,
+    const uint8_t *right, size_t right_size, size_t right_offset, size_t len)
+{
+    if (!is_missing(left, left_size) && !is_missing(right, right_size)) {
+        return vb_and_count(left, left_size, left_offset, right, right_size, right_offset, len);
+    }
+    if (!is_missing(left, left_size)) {
+        return vb_count_ones(left, left_size, left_offset, len);
+    }
+    if (!is_missing(right, right_size)) {
+        return vb_count_ones(right, right_size, right_offset, len);
+    }
+    return len;
+}
+
+bool vb_try_count_valid(const uint8_t *left, size_t left_size, size_t left_offset,
+    const uint8_t *right, size_t right_size, size_t right_offset, size_t len, size_t *valid)
+{
+    if (!is_missing(left, left_size) && !is_missing(right, right_size)) {
+        return vb_try_and_count(left, left_size, left_offset, right, right_size, right_offset, len,
+            valid);
+    }
+    if (!is_missing(left, left_size)) {
+        return vb_try_count_ones(left, left_size, left_offset, len, valid);
+    }
+    if (!is_missing(right, right_size)) {
+        return vb_try_count_ones(right, right_size, right_offset, len, valid);
+    }
+    *valid = len;
+    return true;
+}
+
+size_t vb_filter_validity(uint8_t *out, size_t out_size, size_t out_offset, const uint8_t *validity,
+    size_t validity_size, size_t validity_offset, const uint8_t *mask, size_t mask_size,
+    size_t mask_offset, size_t len)
+{
+    if (!is_missing(validity, validity_size)) {
+        return vb_filter_bits(out, out_size, out_offset, validity, validity_size, validity_offset,
+            mask, mask_size, mask_offset, len);
+    }
+    const size_t selected = vb_count_ones(mask, mask_size, mask_offset, len);
+    vb_fill_bits(out, out_size, out_offset, selected, true);
+    return selected;
+}
+
+bool vb_try_filter_validity(uint8_t *out, size_t out_size, size_t out_offset,
+    const uint8_t *validity, size_t validity_size, size_t validity_offset, const uint8_t *mask,
+    size_t mask_size, size_t mask_offset, size_t len, size_t *written)
+{
+    if (!is_missing(validity, validity_size)) {
+        return vb_try_filter_bits(out, out_size, out_offset, validity, validity_size,
+            validity_offset, mask, mask_size, mask_offset, len, written);
+    }
+    size_t selected;
+    if (!vb_try_count_ones(mask, mask_size, mask_offset, len, &selected)
+            || !vb_try_fill_bits(out, out_size, out_offset, selected, true)) {
+        return false;
+    }
+    *written = selected;
+    return true;
 }
 
 /* Returns whether there are functions for items of `size` bytes, and the items are aligned for

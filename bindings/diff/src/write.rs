@@ -84,6 +84,14 @@ pub fn compare(case: &Case) -> Result<u64, String> {
         calls += same("set", set, written(left, l + n, 1, |_| value))?
             + same("slice", slice, written(left, l + n, len - n, |_| value))?;
     }
+    let (from, to) = (n.min(len), r % (len + 1));
+    let many = len - from.max(to);
+    let moved = after(case, |out| out.copy_within(from..from + many, to));
+    calls += same(
+        "copy_within",
+        moved,
+        written(left, l + to, many, |i| a(from + i)),
+    )?;
     for (name, write, of) in BY_ANOTHER {
         let bytes = after(case, |out| write(out, case.right()));
         calls += same(name, bytes, written(left, l, len, |i| of(a(i), b(i))))?;

@@ -4,6 +4,7 @@ mod ask;
 mod grow;
 mod made;
 mod traits;
+mod write;
 
 use core::ops::RangeBounds;
 

@@ -346,6 +346,31 @@ impl<'a> BitsMut<'a> {
         kernels::copy(&mut self.written(), source);
     }
 
+    /// Copies the bits of a range of indices to those from index `dest` on, as
+    /// [`copy_within`](slice::copy_within) of a slice does: the two may overlap.
+    ///
+    /// ```
+    /// use vortex_bits::BitsMut;
+    ///
+    /// let mut bytes = [0b0110_1000];
+    /// BitsMut::new(&mut bytes, 0, 8).copy_within(3.., 1);
+    /// assert_eq!(bytes, [0b0101_1010]);
+    /// ```
+    ///
+    /// # Panics
+    ///
+    /// Panics if the range starts after its end, or if it or the bits from `dest` on end after the
+    /// window.
+    #[doc(alias("memmove", "move", "shift"))]
+    #[inline]
+    #[track_caller]
+    pub fn copy_within(&mut self, source: impl RangeBounds<usize>, dest: usize) {
+        let (all, (from, len)) = (self.len, expect(within(&source, self.len)));
+        let fits = dest <= all && len <= all - dest;
+        assert!(fits, "no place for {len} of {all} bits from {dest} on");
+        kernels::copy_within(&mut self.written(), from, dest, len);
+    }
+
     #[inline]
     #[track_caller]
     pub(crate) fn combine(&mut self, right: Bits<'_>, operator: Operator) {

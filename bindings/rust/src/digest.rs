@@ -4,6 +4,6 @@
 /// What tools/digest prints; tools/write-lists writes it here.
 macro_rules! digest {
     () => {
-        "479f7c424f44692c982bf970512d9bcf407753d9320ef6aeb7cb6dc05a84ed80"
+        "5ac94f6e428543df5cc029ee524f97180c93dbb5e228cb8bfb379b5fca94c1a2"
     };
 }

@@ -198,6 +198,19 @@ pub fn copy(out: &mut Written<'_>, source: Bits<'_>) {
     portable::copy(out, source);
 }
 
+/// Copies `len` bits from index `from` to index `to`. The window has both.
+#[inline]
+pub fn copy_within(out: &mut Written<'_>, from: usize, to: usize, len: usize) {
+    debug_assert!(from.max(to) <= out.len() && len <= out.len() - from.max(to));
+    #[cfg(vortex_bits_native)]
+    if let Some(kernels) = kernels().filter(|_| len > 64) {
+        let (offset, bytes) = (out.offset(), out.bytes_mut());
+        let (from, to) = (offset + from, offset + to);
+        return native!(@call kernels.move_bits, [] slice_mut bytes, value to, value from, value len);
+    }
+    portable::copy_within(out, from, to, len);
+}
+
 /// The windows have one length.
 #[inline]
 pub fn combine(out: &mut Written<'_>, right: Bits<'_>, operator: Operator) {

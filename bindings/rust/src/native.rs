@@ -216,6 +216,7 @@ kernels! {
     negate_bits(bytes: *mut u8, size: usize, offset: usize, len: usize);
     copy_bits(dst: *mut u8, dst_size: usize, dst_offset: usize, src: *const u8, src_size: usize,
         src_offset: usize, len: usize);
+    move_bits(bytes: *mut u8, size: usize, offset: usize, from: usize, len: usize);
     and_bits(dst: *mut u8, dst_size: usize, dst_offset: usize, src: *const u8, src_size: usize,
         src_offset: usize, len: usize);
     or_bits(dst: *mut u8, dst_size: usize, dst_offset: usize, src: *const u8, src_size: usize,
@@ -224,15 +225,6 @@ kernels! {
         src_offset: usize, len: usize);
     and_not_bits(dst: *mut u8, dst_size: usize, dst_offset: usize, src: *const u8, src_size: usize,
         src_offset: usize, len: usize);
-    and_into(out: *mut u8, out_size: usize, out_offset: usize, left: *const u8, left_size: usize,
-        left_offset: usize, right: *const u8, right_size: usize, right_offset: usize, len: usize);
-    or_into(out: *mut u8, out_size: usize, out_offset: usize, left: *const u8, left_size: usize,
-        left_offset: usize, right: *const u8, right_size: usize, right_offset: usize, len: usize);
-    xor_into(out: *mut u8, out_size: usize, out_offset: usize, left: *const u8, left_size: usize,
-        left_offset: usize, right: *const u8, right_size: usize, right_offset: usize, len: usize);
-    and_not_into(out: *mut u8, out_size: usize, out_offset: usize, left: *const u8,
-        left_size: usize, left_offset: usize, right: *const u8, right_size: usize,
-        right_offset: usize, len: usize);
     masked_sum_u8(values: *const u8, values_count: usize, mask: *const u8, mask_size: usize,
         mask_offset: usize) -> Wide;
     masked_sum_u16(values: *const u16, values_count: usize, mask: *const u8, mask_size: usize,
@@ -353,6 +345,15 @@ kernels! {
         values_count: usize, op: u8, others: *const f32, others_count: usize);
     compare_with_f64(out: *mut u8, out_size: usize, out_offset: usize, values: *const f64,
         values_count: usize, op: u8, others: *const f64, others_count: usize);
+    and_into(out: *mut u8, out_size: usize, out_offset: usize, left: *const u8, left_size: usize,
+        left_offset: usize, right: *const u8, right_size: usize, right_offset: usize, len: usize);
+    or_into(out: *mut u8, out_size: usize, out_offset: usize, left: *const u8, left_size: usize,
+        left_offset: usize, right: *const u8, right_size: usize, right_offset: usize, len: usize);
+    xor_into(out: *mut u8, out_size: usize, out_offset: usize, left: *const u8, left_size: usize,
+        left_offset: usize, right: *const u8, right_size: usize, right_offset: usize, len: usize);
+    and_not_into(out: *mut u8, out_size: usize, out_offset: usize, left: *const u8,
+        left_size: usize, left_offset: usize, right: *const u8, right_size: usize,
+        right_offset: usize, len: usize);
     pack_truthy(out: *mut u8, out_size: usize, out_offset: usize, truthy: *const u8,
         truthy_count: usize);
     unpack_bytes(out: *mut u8, out_count: usize, bytes: *const u8, size: usize, offset: usize,

@@ -120,6 +120,28 @@ fn single_bits_have_their_ends() {
 }
 
 #[test]
+fn bits_move_only_within_their_window() {
+    let mut bytes = [0x5A; 2];
+    let refused = |source: core::ops::Range<usize>, dest: usize| {
+        let mut copy = [0x5A; 2];
+        let text = panics(|| BitsMut::new(&mut copy, 3, 9).copy_within(source, dest));
+        assert_eq!(copy, [0x5A; 2]);
+        text
+    };
+    let no_room =
+        |bits: usize, dest: usize| Some(format!("no place for {bits} of 9 bits from {dest} on"));
+    assert_eq!(refused(0..9, 1), no_room(9, 1));
+    assert_eq!(refused(4..6, 8), no_room(2, 8));
+    assert_eq!(refused(2..2, 10), no_room(0, 10));
+    assert_eq!(refused(0..1, usize::MAX), no_room(1, usize::MAX));
+    assert!(refused(0..10, 0).is_some() && refused(10..10, 0).is_some());
+    BitsMut::new(&mut bytes, 3, 9).copy_within(9.., 9);
+    assert_eq!(bytes, [0x5A; 2]);
+    BitsMut::new(&mut bytes, 3, 9).copy_within(..=7, 1);
+    assert_eq!(bytes, [0xBA, 0x54]);
+}
+
+#[test]
 fn windows_of_two_lengths_are_told_apart_and_not_combined() {
     let mut bytes = [0x5A; 2];
     let [seven, eight] = [7, 8].map(|len| Bits::new(&[0xFF], 0, len));

@@ -117,7 +117,7 @@ impl Read {
 type Call = fn(&mut BitsMut<'_>, &Read);
 
 /// Each call that writes a window.
-const CALLS: [(&str, Call); 28] = [
+const CALLS: [(&str, Call); 29] = [
     ("fill", |out, _| out.fill(true)),
     ("unfill", |out, _| out.fill(false)),
     ("negate", |out, _| out.negate()),
@@ -150,6 +150,11 @@ const CALLS: [(&str, Call); 28] = [
         (0..out.len())
             .step_by(3)
             .for_each(|place| out.set(place, true));
+    }),
+    ("copy_within", |out, _| {
+        let (len, third) = (out.len(), out.len() / 3);
+        out.copy_within(third.., 0);
+        out.copy_within(..len - third, third);
     }),
     ("filter_into", |out, it| {
         let mask = it.mask(out.len());

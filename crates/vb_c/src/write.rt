@@ -6,7 +6,7 @@ ghost use Rattle.vb_bits.specs.Writes.{Writes};
 ghost use Rattle.vb_c_core.specs.Fits.{DoneIf};
 ghost use Rattle.vb_c.specs.Windows.{BothInBytes};
 
-use vb_c_core::copy_to_window;
+use vb_c_core::{copy_to_window, move_to_window};
 
 /// Sets each of the `len` bits from bit `offset` on to `v`. Every other bit is unchanged.
 #[unsafe(no_mangle)]
@@ -87,5 +87,30 @@ pub extern "C" fn vb_try_copy_bits(
         return false;
     }
     vb_copy_bits(dst, d, src, s, len);
+    true
+}
+
+/// Copies the `len` bits from bit `from` on to the bits from bit `offset` on of the same bytes, as
+/// if all were read first. Every other bit is unchanged.
+#[unsafe(no_mangle)]
+pub extern "C" fn vb_move_bits(bytes: &mut [u8], offset: usize, from: usize, len: usize)
+    requires { BothInBytes bytes.old offset bytes.old from len }
+    ensures { Writes bytes.old bytes.new offset (bits bytes.old from len) }
+{
+    move_to_window(bytes, offset, from, len);
+}
+
+/// Returns whether both windows are in the bytes. If so, does [`vb_move_bits`]; else leaves the
+/// bytes unchanged.
+#[unsafe(no_mangle)]
+pub extern "C" fn vb_try_move_bits(bytes: &mut [u8], offset: usize, from: usize, len: usize) -> bool
+    ensures { DoneIf (BothInBytes bytes.old offset bytes.old from len)
+        (Writes bytes.old bytes.new offset (bits bytes.old from len))
+        (bytes.new ≡ bytes.old) result }
+{
+    if !vb_bits::window_fits(bytes, offset, len) || !vb_bits::window_fits(bytes, from, len) {
+        return false;
+    }
+    vb_move_bits(bytes, offset, from, len);
     true
 }

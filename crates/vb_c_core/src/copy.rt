@@ -1,4 +1,5 @@
-//! Bits copied to the bytes of a window.
+//! Bits copied to the bytes of a window, also within one slice.
+ghost use Rattle.std.specs.Prelude.{◌≡◌, ◌*◌, ◌≤◌, length};
 ghost use Rattle.vb_bits.specs.Bits.{bits};
 ghost use Rattle.vb_bits.specs.InBytes.{InBytes};
 ghost use Rattle.vb_bits.specs.Writes.{Writes};
@@ -16,4 +17,74 @@ pub fn copy_to_window(dst: &mut [u8], d: usize, src: &[u8], s: usize, len: usize
 {
     let end = (d + len).div_ceil(8);
     vb_bits::copy_bits(&mut dst[d / 8..end], d % 8, src, s, len);
+}
+
+/// The number of bits that [`move_to_window`] copies at once.
+const BLOCK_BITS: usize = 4096;
+
+/// Copies the `len` bits from bit `s` on to the bits from bit `d` on of the same bytes, as if all
+/// were read before one is written: the windows may overlap. Both must be in the bytes, and their
+/// ends must fit in a `usize`. Every other bit is unchanged.
+///
+/// Copies 4,096 bits at a time by way of 512 bytes on the stack, from front to end if `d` is at
+/// most `s`, else from end to front. Stores only the bytes that have a bit of the window from bit
+/// `d` on.
+pub fn move_to_window(bytes: &mut [u8], d: usize, s: usize, len: usize)
+    requires into { InBytes bytes.old d len }
+    requires from { InBytes bytes.old s len }
+    ensures { Writes bytes.old bytes.new d (bits bytes.old s len) }
+{
+    if len <= 64 {
+        move_by(&mut [0; 8], bytes, d, s, len);
+    } else if d <= s {
+        move_down(bytes, d, s, len);
+    } else {
+        move_up(bytes, d, s, len);
+    }
+}
+
+/// [`move_to_window`] towards the front: the first block first.
+fn move_down(bytes: &mut [u8], d: usize, s: usize, len: usize)
+    requires down { d ≤ s }
+    requires into { InBytes bytes.old d len }
+    requires from { InBytes bytes.old s len }
+    ensures { Writes bytes.old bytes.new d (bits bytes.old s len) }
+{
+    let mut block = [0; BLOCK_BITS / 8];
+    let whole = len / BLOCK_BITS;
+    for k in 0..whole {
+        let done = BLOCK_BITS * k;
+        move_by(&mut block, bytes, d + done, s + done, BLOCK_BITS);
+    }
+    let done = BLOCK_BITS * whole;
+    move_by(&mut block, bytes, d + done, s + done, len - done);
+}
+
+/// [`move_to_window`] towards the end: the last block first.
+fn move_up(bytes: &mut [u8], d: usize, s: usize, len: usize)
+    requires up { s ≤ d }
+    requires into { InBytes bytes.old d len }
+    requires from { InBytes bytes.old s len }
+    ensures { Writes bytes.old bytes.new d (bits bytes.old s len) }
+{
+    let mut block = [0; BLOCK_BITS / 8];
+    let whole = len / BLOCK_BITS;
+    let last = BLOCK_BITS * whole;
+    move_by(&mut block, bytes, d + last, s + last, len - last);
+    for k in 0..whole {
+        let left = BLOCK_BITS * (whole - 1 - k);
+        move_by(&mut block, bytes, d + left, s + left, BLOCK_BITS);
+    }
+}
+
+/// [`move_to_window`] of as many bits as `block` has space for: by way of its bytes.
+fn move_by(block: &mut [u8], bytes: &mut [u8], d: usize, s: usize, len: usize)
+    requires few { len ≤ 8 * length block.old }
+    requires into { InBytes bytes.old d len }
+    requires from { InBytes bytes.old s len }
+    ensures block { length block.new ≡ length block.old }
+    ensures moved { Writes bytes.old bytes.new d (bits bytes.old s len) }
+{
+    vb_bits::copy_bits(block, 0, bytes, s, len);
+    copy_to_window(bytes, d, block, 0, len);
 }

@@ -1,4 +1,4 @@
-//! The types that the C functions return, the contracts of their checked forms, and a copy of bits
+//! The types that the C functions return, the contracts of their checked forms, and copies of bits
 //! to memory next to which other threads may write. The crates of C functions share these.
 #![tactic(auto)]
 
@@ -6,6 +6,6 @@ mod copy;
 mod place;
 mod taken;
 
-pub use copy::copy_to_window;
+pub use copy::{copy_to_window, move_to_window};
 pub use place::Place;
 pub use taken::Taken;

@@ -35,6 +35,7 @@ const ROWS: &[Row] = &[
     ("fill", 65, |n| write(n, |mut out| out.fill(true))),
     ("negate", 65, |n| write(n, |mut out| out.negate())),
     ("copy_from", 65, |n| write(n, |mut out| out.copy_from(left(n)))),
+    ("copy_within", 66, |n| write(n, |mut out| out.copy_within(1.., 0))),
     ("and", 65, |n| write(n, |mut out| out.and(left(n)))),
     ("and_of", 65, |n| write(n, |mut out| out.and_of(left(n), right(n)))),
     ("&", 65, |n| _ = left(n) & right(n)),

@@ -1,6 +1,7 @@
 //! The read-only calls of a bitmap. They are the calls of its window.
 
 use super::Bitmap;
+use crate::error::TakeError;
 use crate::iter::{Iter, SetIndices, SetSlices, UnsetIndices, UnsetSlices, Words};
 use crate::{BitIndex, Bits, Mask};
 
@@ -390,8 +391,7 @@ impl<B: AsRef<[u8]>> Bitmap<B> {
         self.bits().filter(mask)
     }
 
-    /// Returns the bits at the indices, in their order. [`Bits::try_take`](crate::Bits::try_take)
-    /// returns an error instead of a panic.
+    /// Returns the bits at the indices, in their order.
     ///
     /// ```
     /// use vortex_bits::Bitmap;
@@ -409,9 +409,24 @@ impl<B: AsRef<[u8]>> Bitmap<B> {
         self.bits().take(indices)
     }
 
+    /// Returns the bits at the indices, in their order.
+    ///
+    /// ```
+    /// use vortex_bits::Bitmap;
+    ///
+    /// let refused = Bitmap::from([true, false]).try_take(&[1u32, 2]).unwrap_err();
+    /// assert_eq!(refused.to_string(), "index 2 at position 1 is no place of 2 bits");
+    /// ```
+    ///
+    /// # Errors
+    ///
+    /// Returns [`TakeError`] with the first index that is out of bounds.
+    pub fn try_take<I: BitIndex>(&self, indices: &[I]) -> Result<Bitmap, TakeError> {
+        self.bits().try_take(indices)
+    }
+
     /// Returns the bits at the valid indices, and false for each other index, whatever its number
-    /// is. [`Bits::try_take_valid`](crate::Bits::try_take_valid) returns an error instead of a
-    /// panic.
+    /// is.
     ///
     /// ```
     /// use vortex_bits::Bitmap;
@@ -428,6 +443,29 @@ impl<B: AsRef<[u8]>> Bitmap<B> {
     #[track_caller]
     pub fn take_valid<I: BitIndex>(&self, indices: &[I], validity: impl Mask) -> Bitmap {
         self.bits().take_valid(indices, validity)
+    }
+
+    /// Returns the bits at the valid indices, and false for each other index, whatever its number
+    /// is.
+    ///
+    /// ```
+    /// use vortex_bits::Bitmap;
+    ///
+    /// let (valid, of) = (Bitmap::from([true, false]), Bitmap::from([true, false, true]));
+    /// assert!(valid.try_take_valid(&[0i8, -7, 1], &of).is_ok());
+    /// assert!(valid.try_take_valid(&[0i8, -7, 2], &of).is_err());
+    /// ```
+    ///
+    /// # Errors
+    ///
+    /// Returns [`TakeError`] if `validity` doesn't have one bit per index, and with the first valid
+    /// index that is out of bounds.
+    pub fn try_take_valid<I: BitIndex>(
+        &self,
+        indices: &[I],
+        validity: impl Mask,
+    ) -> Result<Bitmap, TakeError> {
+        self.bits().try_take_valid(indices, validity)
     }
 
     /// Undoes a filter: returns `mask.len()` bits, with these bits in order at the set bits of

@@ -218,6 +218,21 @@ pub fn copy(out: &mut Written<'_>, source: Bits<'_>) {
     each(out, source, |_, word| word);
 }
 
+/// Copies `len` bits from index `from` to index `to`, by words: the first word first if they move
+/// towards the front, else the last one first. The window has both.
+pub fn copy_within(out: &mut Written<'_>, from: usize, to: usize, len: usize) {
+    let copy = |i: usize| {
+        let n = (len - 64 * i).min(64);
+        let word = only_word(out.as_bits().part(from + 64 * i, n));
+        out.write(to + 64 * i, n, word);
+    };
+    if to <= from {
+        (0..len.div_ceil(64)).for_each(copy);
+    } else {
+        (0..len.div_ceil(64)).rev().for_each(copy);
+    }
+}
+
 /// The windows have one length. Each operator has its own loop.
 pub fn combine(out: &mut Written<'_>, right: Bits<'_>, operator: Operator) {
     match operator {

@@ -1,0 +1,8 @@
+use Rattle.std.proofs.Common.{◌*◌}
+use Rattle.vb_bits.specs.Bits.{bits}
+use Rattle.vb_bits.specs.Writes.{Writes}
+use Rattle.vb_c_core.proofs.copy.move_down.Given as goal
+
+-- the bits of the blocks so far are moved
+abbrev pub invariant-loop-k : goal.invariant-loop-k
+invariant-loop-k l = Writes l.fn.bytes l.bytes l.d (bits l.fn.bytes l.s (4096 * l.k))
