@@ -4,8 +4,8 @@ use crate::plain::{next_match, previous_match};
 use crate::sample::mix;
 use std::process::Abort;
 use vb_kernel::{
-    all_set, any_set, last_set_index, next_set, next_unset, previous_set, previous_unset,
-    window_fits,
+    all_set, any_set, fill_bits, last_set_index, next_set, next_unset, previous_set,
+    previous_unset, set_bit_to, window_fits,
 };
 
 /// A window: its bytes, the bit at which it begins, and how many bits it has.
@@ -109,6 +109,38 @@ fn places_behind_many_words(rt: HostRuntime) {
                     place_is_plain(&rt, (&bytes, offset, len), from);
                 }
                 window_is_plain(&rt, (&bytes, offset, len));
+            }
+        }
+    }
+}
+
+/// Windows of up to this many bits are in fewer than eight bytes, in one word, in two that overlap,
+/// or have words between these.
+const MOST_BITS: usize = 200;
+
+/// The bits of the window are equal but for the one at a place, in the fewest bytes that have it,
+/// whose other bits are as that one.
+fn one_bit_is_plain(rt: &impl Abort, offset: usize, len: usize, place: usize) {
+    holds(rt, offset < 8);
+    holds(rt, len <= MOST_BITS);
+    for equal in [false, true] {
+        let mut bytes = [if equal { 0 } else { u8::MAX }; MOST_BITS / 8 + 1];
+        fill_bits(&mut bytes, offset, offset + len, equal);
+        if place < len {
+            set_bit_to(&mut bytes, offset + place, !equal);
+        }
+        let window = (&bytes[..(offset + len).div_ceil(8)], offset, len);
+        window_is_plain(rt, window);
+        place_is_plain(rt, window, place);
+    }
+}
+
+#[test]
+fn one_bit_of_every_length(rt: HostRuntime) {
+    for offset in 0..8 {
+        for len in 0..=MOST_BITS {
+            for place in [0, len / 2, len.saturating_sub(1), len] {
+                one_bit_is_plain(&rt, offset, len, place);
             }
         }
     }

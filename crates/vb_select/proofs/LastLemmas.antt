@@ -18,8 +18,10 @@ use Rattle.vb_bits.specs.Runs.{last_place}
 use Rattle.vb_count.specs.Hits.{hits}
 use Rattle.vb_bits.proofs.BitsLemmas.{length-bits}
 use Rattle.vb_bits.proofs.RangeLemmas.{range_with_len-add}
+use Rattle.vb_bits.proofs.WindowLemmas.{digits-clear}
 use Rattle.vb_count.proofs.HitsLemmas.{length-hits}
-use Rattle.vb_select.proofs.NearestLemmas.{hit, at-hits, at-hits_past, Shows}
+use Rattle.vb_select.specs.Matches.{ShowsBefore}
+use Rattle.vb_select.proofs.NearestLemmas.{hit, at-hits, at-hits_past, Shows, shown_before}
 
 -- the last item is the one at the end
 last_or_push : (o : Option ℕ) (xs : List ℕ) (x : ℕ) → last_or o (xs ++ x ∷ []) ≡ Some x
@@ -111,6 +113,66 @@ IsPrevious-word v b o n a k w shows some small few within off =
             at-hits v b o n i hi ∙ ap (λ x. hit v (bit_of b x)) (sym e)
             ∙ sym (shows (i - a) (omega arith)) ∙ top.3 (i - a) (omega arith)
         | inr past ↦ off i past hi
+      ],
+    )
+
+-- the highest digit of the word before the end of a window that it doesn't reach beyond
+pub IsPrevious-before : (v : Bool) (b : List ℕ) (o n t w : ℕ) → ShowsBefore v b (o + n) t w
+    → 0 < w → w < 2 ^ 64 → 64 ≤ n
+    → (count_leading_zeros 64 w < 64)
+    × IsPrevious (hits v (bits b o n)) n (Some (n - 1 - count_leading_zeros 64 w))
+IsPrevious-before v b o n t w shows some small many =
+    let top = highest_one w 64 some small in
+    let j : ℕ = top.0 in
+    let inside : t ≤ j = elim (cases_lt j t) [
+      | inl below ↦ let off = shows.clear j below in let on = top.2 in absurd cc
+      | inr from ↦ from
+    ] in
+    let p : ℕ = n - 1 - count_leading_zeros 64 w in
+    let place : 64 + p - n ≡ j = omega (arith, top.1) in (
+      omega (arith, top.1),
+      (
+        omega (arith, top.1),
+        omega (arith, top.1, length-hits v (bits b o n), length-bits b o n),
+        at-hits v b o n p (omega (arith, top.1))
+            ∙ sym (shown_before v b o n t w p shows (omega (arith, top.1)) (omega (arith, top.1)))
+            ∙ ap (has_bit w) place ∙ top.2,
+        λ i lo hi. at-hits v b o n i hi
+            ∙ sym (shown_before v b o n t w i shows hi (omega (arith, top.1)))
+            ∙ top.3 (64 + i - n) (omega (arith, top.1)),
+      ),
+    )
+
+-- none of the bits of that word is v
+pub off-before : (v : Bool) (b : List ℕ) (o n t w : ℕ) → ShowsBefore v b (o + n) t w → w ≡ 0
+    → (i : ℕ) → t + n ≤ 64 + i → i < n → at (hits v (bits b o n)) i ≡ false
+off-before v b o n t w shows none i lo hi = at-hits v b o n i hi
+    ∙ sym (shown_before v b o n t w i shows hi lo)
+    ∙ ap (λ x. has_bit x (64 + i - n)) none ∙ digits-clear (64 + i - n)
+
+-- the last one in a front of the window is the last one in the window, if none is after it
+pub IsPrevious_later : (v : Bool) (b : List ℕ) (o n m : ℕ) (r : Option ℕ) → m ≤ n
+    → IsPrevious (hits v (bits b o m)) m r
+    → ((i : ℕ) → m ≤ i → i < n → at (hits v (bits b o n)) i ≡ false)
+    → IsPrevious (hits v (bits b o n)) n r
+IsPrevious_later v b o n m r le p off = go r p
+  where
+    same : (i : ℕ) → i < m → at (hits v (bits b o n)) i ≡ at (hits v (bits b o m)) i
+    same i l = at-hits v b o n i (omega arith) ∙ sym (at-hits v b o m i l)
+
+    go : (r : Option ℕ) → IsPrevious (hits v (bits b o m)) m r
+        → IsPrevious (hits v (bits b o n)) n r
+    go None p = λ i h. elim (cases_lt i m) [
+      | inl here ↦ same i here ∙ p i here
+      | inr behind ↦ off i behind h
+    ]
+    go (Some j) p = (
+      omega (arith, p.0),
+      omega (arith, p.0, length-hits v (bits b o n), length-bits b o n),
+      same j p.0 ∙ p.2,
+      λ i lo hi. elim (cases_lt i m) [
+        | inl here ↦ same i here ∙ p.3 i lo here
+        | inr behind ↦ off i behind hi
       ],
     )
 

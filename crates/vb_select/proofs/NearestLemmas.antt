@@ -1,9 +1,10 @@
 -- The nearest bit that is v, from an index on and before one.
 use Rattle.std.proofs.Common.{◌≡◌, inl, inr, ℕ, suc, ◌+◌, ◌-◌, ◌*◌, ◌^◌, ◌<◌, ◌≤◌, Bool}
 use Rattle.std.proofs.Common.{true, false, not, eqb, List, [], ◌∷◌, length, Option, Some, None}
-use Rattle.std.proofs.Common.{◌/◌, refl, sym, ap, ◌∙◌, arith, zero-add, pow_mono}
+use Rattle.std.proofs.Common.{◌/◌, ◌%◌, refl, sym, ap, ◌∙◌, subst, arith, zero-add, pow_mono}
 use Rattle.std.proofs.lemmas.Bool.{cases_lt}
 use Rattle.std.proofs.lemmas.List.{get_or_past}
+use Rattle.std.proofs.lemmas.Nat.{shr_below}
 use Rattle.std.proofs.lemmas.Nat.Bits.{bit_at_above, bit_at-trailing_zeros}
 use Rattle.std.specs.Int.{trailing_zeros, w64}
 use Rattle.std.specs.Prelude.{is_some, IsTrue, ◌↔◌}
@@ -11,13 +12,14 @@ use Rattle.vb_bits.specs.Bits.{bit_of, bits, at, count, complement}
 use Rattle.vb_bits.specs.Digits.{has_bit, digits}
 use Rattle.vb_bits.specs.Nearest.{IsNext}
 use Rattle.vb_count.specs.Hits.{hits}
+use Rattle.vb_select.specs.Matches.{ShowsBefore}
 use Rattle.vb_walk.specs.Walks.{others, AreAll, IsOther}
 use Rattle.vb_walk.specs.declared.other.OtherWord.{OtherWord}
 use Rattle.vb_bits.proofs.BitsLemmas.{length-bits, at-bits, at-complement, count-cons}
 use Rattle.vb_bits.proofs.BitsLemmas.{count-complement, count-take-lt}
 use Rattle.vb_bits.proofs.DigitsLemmas.{at-digits, has_bit-bit_not}
 use Rattle.vb_bits.proofs.ReadLemmas.{has_bit-bits}
-use Rattle.vb_bits.proofs.ShiftLemmas.{has_bit_shr}
+use Rattle.vb_bits.proofs.ShiftLemmas.{has_bit_shr, shl_low, shl_high, bit_at_cut}
 use Rattle.vb_bits.proofs.WindowLemmas.{digits-clear}
 use Rattle.vb_count.proofs.HitsLemmas.{length-hits}
 
@@ -69,6 +71,13 @@ Shows-matches v b o a k w read i l =
     ap (has_bit w) (sym (zero-add i)) ∙ sym (at-digits w 0 k i false l)
     ∙ ap (λ l. at l i) read ∙ at-hits v b (o + a) k i l ∙ ap (λ x. hit v (bit_of b x)) e
 
+-- the same, from the front of a window on
+pub Shows-window : (v : Bool) (b : List ℕ) (o k w : ℕ)
+    → digits w 0 k ≡ hits v (bits b o k) → Shows v b o 0 k w
+Shows-window v b o k w read =
+    let e : o ≡ o + 0 = omega arith in
+    Shows-matches v b o 0 k w (read ∙ ap (λ p. hits v (bits b p k)) e)
+
 -- a word of eight bytes, without its digits below s
 pub Shows-shifted : (v : Bool) (b : List ℕ) (o a f s w : ℕ)
     → digits w 0 64 ≡ bits b (8 * f) 64 → w < 2 ^ 64 → o + a ≡ 8 * f + s
@@ -77,6 +86,52 @@ Shows-shifted v b o a f s w read fits place i l =
     let e : 8 * f + (s + i) ≡ o + (a + i) = omega arith in
     has_bit_shr (others (not v) w) s i ∙ has_bit-others v w (s + i) fits (omega arith)
     ∙ ap (hit v) (has_bit-bits b w (8 * f) 64 (s + i) read (omega arith) ∙ ap (bit_of b) e)
+
+-- a number without its digits below s
+pub shifted_fits : (w s : ℕ) → w < 2 ^ 64 → s < 8 → w / 2 ^ s < 2 ^ (64 - s)
+shifted_fits w s fits small =
+    let e : 64 ≡ 64 - s + s = omega arith in
+    shr_below w (64 - s) s (subst (λ k. w < 2 ^ k) e fits)
+
+-- the digits of a word shifted up, below the shift and from it on
+shifted_low : (w s i : ℕ) → i < s → i < 64 → has_bit (w * 2 ^ s % 2 ^ 64) i ≡ false
+shifted_low w s i lo l = ap (λ x. eqb x 1) (bit_at_cut (w * 2 ^ s) 64 i l ∙ shl_low w s i lo)
+
+shifted_high : (w s i : ℕ) → s ≤ i → i < 64 → has_bit (w * 2 ^ s % 2 ^ 64) i ≡ has_bit w (i - s)
+shifted_high w s i hi l = ap (λ x. eqb x 1) (bit_at_cut (w * 2 ^ s) 64 i l ∙ shl_high w s i hi)
+
+-- the word of the eight bytes up to that of the bit before bit e, without the bits from e on
+pub ShowsBefore-shifted : (v : Bool) (b : List ℕ) (e f t w : ℕ)
+    → digits w 0 64 ≡ bits b (8 * f) 64 → w < 2 ^ 64 → e + t ≡ 8 * f + 64 → t < 8
+    → ShowsBefore v b e t (others (not v) w * 2 ^ t % 2 ^ 64)
+ShowsBefore-shifted v b e f t w read fits place small = record {
+  shown = λ i lo hi.
+      let p : 8 * f + (i - t) ≡ 0 + (e + i - 64) = omega arith in
+      shifted_high (others (not v) w) t i lo hi ∙ has_bit-others v w (i - t) fits (omega arith)
+      ∙ ap (hit v) (has_bit-bits b w (8 * f) 64 (i - t) read (omega arith) ∙ ap (bit_of b) p)
+      ∙ sym (at-hits v b 0 e (e + i - 64) (omega arith));
+  clear = λ i lo. shifted_low (others (not v) w) t i lo (omega arith);
+}
+
+-- a word that shows the bits of a window, with the last one at the highest digit
+pub ShowsBefore-raised : (v : Bool) (b : List ℕ) (o n k w : ℕ) → Shows v b o 0 k w
+    → 0 < n → n ≤ k → k ≤ 64 → ShowsBefore v b (o + n) (64 - n) (w * 2 ^ (64 - n) % 2 ^ 64)
+ShowsBefore-raised v b o n k w shows some inside few = record {
+  shown = λ i lo hi.
+      let p : o + (0 + (i - (64 - n))) ≡ 0 + (o + n + i - 64) = omega arith in
+      shifted_high w (64 - n) i lo hi ∙ shows (i - (64 - n)) (omega arith)
+      ∙ ap (λ j. hit v (bit_of b j)) p ∙ sym (at-hits v b 0 (o + n) (o + n + i - 64) (omega arith));
+  clear = λ i lo. shifted_low w (64 - n) i lo (omega arith);
+}
+
+-- that word, in a window that ends before bit e
+pub shown_before : (v : Bool) (b : List ℕ) (o n t w i : ℕ) → ShowsBefore v b (o + n) t w
+    → i < n → t + n ≤ 64 + i → has_bit w (64 + i - n) ≡ hit v (bit_of b (o + i))
+shown_before v b o n t w i shows l from =
+    let p : 0 + (o + n + (64 + i - n) - 64) ≡ o + i = omega arith in
+    shows.shown (64 + i - n) (omega arith) (omega arith)
+    ∙ at-hits v b 0 (o + n) (o + n + (64 + i - n) - 64) (omega arith)
+    ∙ ap (λ j. hit v (bit_of b j)) p
 
 -- a word with a bit that isn't the other value
 pub Shows-other : (v : Bool) (b : List ℕ) (o a at end : ℕ) (w : OtherWord)
@@ -185,6 +240,72 @@ count_none [] off = refl
 count_none (true ∷ l) off = absurd (let e = off 0 in cc)
 count_none (false ∷ l) off = omega (arith, count-cons false l, count_none l (λ i. off (suc i)))
 
+-- one bit of a window is v
+pub any_at : (v : Bool) (b : List ℕ) (o n i : ℕ)
+    → i < n → hit v (bit_of b (o + i)) ≡ true → 0 < count (hits v (bits b o n))
+any_at v b o n i l on = omega (
+  arith,
+  count-take-lt (hits v (bits b o n)) i
+      (omega (arith, length-hits v (bits b o n), length-bits b o n)) (at-hits v b o n i l ∙ on),
+)
+
+-- no bit of a window is v
+pub any_none : (v : Bool) (b : List ℕ) (o n : ℕ)
+    → ((i : ℕ) → i < n → hit v (bit_of b (o + i)) ≡ false) → count (hits v (bits b o n)) ≡ 0
+any_none v b o n off = count_none (hits v (bits b o n)) (λ i. elim (cases_lt i n) [
+  | inl l ↦ at-hits v b o n i l ∙ off i l
+  | inr past ↦ at-hits_past v b o n i past
+])
+
+-- whether any bit is v, by a word that shows all bits of a window
+pub any_shown : (v : Bool) (b : List ℕ) (o n w : ℕ) → Shows v b o 0 n w → w < 2 ^ n → n ≤ 64
+    → (0 < w) ↔ (0 < count (hits v (bits b o n)))
+any_shown v b o n w shows small few =
+    let read : (i : ℕ) → i < n → has_bit w i ≡ hit v (bit_of b (o + i)) =
+    λ i l. shows i l ∙ ap (λ j. hit v (bit_of b (o + j))) (zero-add i) in (
+      λ some. let low = lowest_one w n some small few in
+          any_at v b o n (trailing_zeros w64 w) low.0
+          (sym (read (trailing_zeros w64 w) low.0) ∙ low.1),
+      λ some. elim (cases_lt 0 w) [
+        | inl l ↦ l
+        | inr z ↦ let none : w ≡ 0 = omega arith in
+            absurd (omega (
+              arith,
+              some,
+              any_none v b o n
+                  (λ i l. sym (read i l) ∙ ap (λ x. has_bit x i) none ∙ digits-clear i),
+            ))
+      ],
+    )
+
+-- the same, by the word before the end of the window
+pub any_before : (v : Bool) (b : List ℕ) (o n t w : ℕ)
+    → ShowsBefore v b (o + n) t w → w < 2 ^ 64 → n + t ≡ 64
+    → (0 < w) ↔ (0 < count (hits v (bits b o n)))
+any_before v b o n t w shows small all =
+    let read : (i : ℕ) → i < n → has_bit w (t + i) ≡ hit v (bit_of b (o + i)) =
+    λ i l. let p : 64 + i - n ≡ t + i = omega arith in
+    ap (has_bit w) (sym p) ∙ shown_before v b o n t w i shows l (omega arith) in (
+      λ some. let low = lowest_one w 64 some small (omega arith) in
+          let j : ℕ = trailing_zeros w64 w in
+          elim (cases_lt j t) [
+            | inl below ↦ let off = shows.clear j below in let on = low.1 in absurd cc
+            | inr from ↦ let p : t + (j - t) ≡ j = omega arith in
+                any_at v b o n (j - t) (omega (arith, low.0))
+                (sym (read (j - t) (omega (arith, low.0))) ∙ ap (has_bit w) p ∙ low.1)
+          ],
+      λ some. elim (cases_lt 0 w) [
+        | inl l ↦ l
+        | inr z ↦ let none : w ≡ 0 = omega arith in
+            absurd (omega (
+              arith,
+              some,
+              any_none v b o n
+                  (λ i l. sym (read i l) ∙ ap (λ x. has_bit x (t + i)) none ∙ digits-clear (t + i)),
+            ))
+      ],
+    )
+
 -- the next true value from the front on exists if any value is true
 pub next_some : (l : List Bool) (r : Option ℕ) → IsNext l 0 r → IsTrue (is_some r) ↔ (0 < count l)
 next_some l None n = (
@@ -205,4 +326,28 @@ next_none l n (Some p) true e m is = absurd cc
 next_none l n (Some p) false e m is = (
   λ t. absurd cc,
   λ h. absurd (omega (arith, count-complement l, count-take-lt (complement l) p m.1 m.2)),
+)
+
+-- a number that is 0 exactly if another one is
+pub zero_if : (x y : ℕ) → ((0 < x) ↔ (0 < y)) → (x ≡ 0) ↔ (y ≡ 0)
+zero_if x y same = (
+  λ e. elim (cases_lt 0 y) [
+    | inl some ↦ absurd (omega (arith, e, same.1 some))
+    | inr none ↦ omega arith
+  ],
+  λ e. elim (cases_lt 0 x) [
+    | inl some ↦ absurd (omega (arith, e, same.0 some))
+    | inr none ↦ omega arith
+  ],
+)
+
+-- the other side of a test for 0
+pub some_if : (r : Bool) (n : ℕ) → (IsTrue r ↔ (n ≡ 0)) → IsTrue (not r) ↔ (0 < n)
+some_if true n is = (λ t. absurd cc, λ some. absurd (omega (arith, some, is.0 refl)))
+some_if false n is = (
+  λ _. elim (cases_lt 0 n) [
+    | inl some ↦ some
+    | inr none ↦ let t = is.1 (omega arith) in absurd cc
+  ],
+  λ _. refl,
 )

@@ -1,3 +1,4 @@
+pub mod Matches
 pub mod Parts
 pub mod Searches
 pub use Rattle.vb_bits.specs.Bits

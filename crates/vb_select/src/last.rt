@@ -1,5 +1,5 @@
 //! The last bit with a given value, and the last one before an index.
-ghost use Rattle.std.specs.Prelude.{ℕ, ◌≡◌, ◌+◌, ◌*◌, ◌%◌, ◌^◌, ◌<◌, ◌≤◌, not, length, min};
+ghost use Rattle.std.specs.Prelude.{ℕ, ◌≡◌, ◌+◌, ◌*◌, ◌%◌, ◌<◌, ◌≤◌, not, min};
 ghost use Rattle.vb_bits.specs.Bits.{bit_of, bits, complement};
 ghost use Rattle.vb_bits.specs.InBytes.{InBytes};
 ghost use Rattle.vb_bits.specs.Nearest.{IsPrevious};
@@ -7,11 +7,9 @@ ghost use Rattle.vb_bits.specs.Runs.{last_place};
 ghost use Rattle.vb_count.specs.Hits.{hits};
 ghost use Rattle.vb_count.specs.Looks.{looks, LooksAtMost, StopsAtPrevious};
 
+use crate::matches::{digits_of_any, matches_before, read_matches};
 use crate::nearest::{Nearest, nearest_in_look};
-use crate::next::read_matches;
-use vb_bits::word_at;
 use vb_count::{Glance, last_look};
-use vb_walk::others;
 
 /// The number of words that one test passes together.
 const PASSED_WORDS: usize = 8;
@@ -148,16 +146,55 @@ fn last_match(bytes: &[u8], offset: usize, len: usize, value: bool) -> Option<us
     requires window { InBytes bytes.now offset len }
     ensures { IsPrevious (hits value (bits bytes.now offset len)) len result }
 {
+    if len == 0 {
+        return None;
+    }
+    if len <= 64 {
+        return last_in_few(bytes, offset, len, value);
+    }
+    let end = offset + len;
+    let word = matches_before(bytes, end, value);
+    if word != 0 {
+        return Some(len - 1 - word.leading_zeros() as usize);
+    }
+    let read = 64 - (8 - end % 8) % 8;
+    last_in_words(bytes, offset, len - read, value)
+}
+
+/// [`last_match`] of at most 64 bits.
+#[inline(always)]
+fn last_in_few(bytes: &[u8], offset: usize, len: usize, value: bool) -> Option<usize>
+    requires few { len ≤ 64 }
+    requires window { InBytes bytes.now offset len }
+    ensures { IsPrevious (hits value (bits bytes.now offset len)) len result }
+{
+    let word = read_matches(bytes, offset, len, value);
+    if word == 0 {
+        return None;
+    }
+    Some(63 - word.leading_zeros() as usize)
+}
+
+/// [`last_match`] of a window that ends with a byte: by whole words, and then in the rest.
+#[inline(always)]
+fn last_in_words(bytes: &[u8], offset: usize, len: usize, value: bool) -> Option<usize>
+    requires whole { (offset + len) % 8 ≡ 0 }
+    requires window { InBytes bytes.now offset len }
+    ensures { IsPrevious (hits value (bits bytes.now offset len)) len result }
+{
     let mut left = len;
     while left > 0 {
-        let count = left.min(64 - (8 - (offset + left) % 8) % 8);
+        left = pass_words(bytes, offset, left, PASSED_WORDS, value);
+        left = pass_words(bytes, offset, left, 1, value);
+        if left == 0 {
+            return None;
+        }
+        let count = left.min(64);
         left -= count;
         let word = read_matches(bytes, offset + left, count, value);
         if word != 0 {
             return Some(left + (63 - word.leading_zeros() as usize));
         }
-        left = pass_words(bytes, offset, left, PASSED_WORDS, value);
-        left = pass_words(bytes, offset, left, 1, value);
     }
     None
 }
@@ -182,18 +219,4 @@ fn pass_words(bytes: &[u8], offset: usize, len: usize, n: usize, value: bool) ->
         left -= 64 * n;
     }
     left
-}
-
-/// Returns a word that is 0 only if no bit of the `n` words from byte `at` on is `value`: it has a
-/// 1 for each digit that is `value` in some word.
-#[inline(always)]
-fn digits_of_any(bytes: &[u8], at: usize, n: usize, value: bool) -> u64
-    requires { at + 8 * n ≤ length bytes.now }
-    ensures { result ≡ 0 → (i : ℕ) → i < 64 * n → bit_of bytes.now (8 * at + i) ≡ not value }
-{
-    let mut digits = 0;
-    for k in 0..n {
-        digits |= others(word_at(bytes, at + 8 * k), !value);
-    }
-    digits
 }

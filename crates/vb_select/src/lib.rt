@@ -13,6 +13,7 @@
 
 mod chunk;
 mod last;
+mod matches;
 mod nearest;
 mod next;
 mod parts;

@@ -1,14 +1,14 @@
 //! The next bit with a given value, from an index on.
 ghost use Rattle.std.specs.Prelude.{◌≡◌, ◌+◌, ◌-◌, ◌*◌, ◌%◌, ◌^◌, ◌<◌, ◌≤◌, ◌↔◌, length, IsTrue};
 ghost use Rattle.vb_bits.specs.Bits.{bits, count, complement};
-ghost use Rattle.vb_bits.specs.Digits.{digits};
 ghost use Rattle.vb_bits.specs.InBytes.{InBytes};
 ghost use Rattle.vb_bits.specs.Nearest.{IsNext};
 ghost use Rattle.vb_count.specs.Hits.{hits};
 ghost use Rattle.vb_count.specs.Looks.{looks, LooksAtMost, StopsAtNext};
 
+use crate::matches::{digits_of_any, matches_at_end, matches_before, read_matches};
 use crate::nearest::{Nearest, nearest_in_look};
-use vb_bits::{low_digits, read_bits, word_at};
+use vb_bits::word_at;
 use vb_count::{Glance, first_look};
 use vb_walk::{first_other, others};
 
@@ -38,23 +38,25 @@ pub fn next_unset(bytes: &[u8], offset: usize, len: usize, from: usize) -> Optio
 }
 
 /// Returns whether any bit of the window is set, which is false for a window of no bits. The caller
-/// must prove that the window is in bounds and that `offset + len` fits in a `usize`. It reads as
-/// [`next_set`] does, up to the first set bit.
+/// must prove that the window is in bounds and that `offset + len` fits in a `usize`.
+///
+/// It reads the first eight bytes, then the last eight, and then the words between, eight at a
+/// time, up to those that have a set bit.
 pub fn any_set(bytes: &[u8], offset: usize, len: usize) -> bool
     requires window { InBytes bytes.now offset len }
     ensures { IsTrue result ↔ (0 < count (bits bytes.now offset len)) }
 {
-    next_set(bytes, offset, len, 0).is_some()
+    !is_without(bytes, offset, len, true)
 }
 
 /// Returns whether all bits of the window are set, which is true for a window of no bits. The
 /// caller must prove that the window is in bounds and that `offset + len` fits in a `usize`. It
-/// reads as [`next_set`] does, up to the first unset bit.
+/// reads as [`any_set`] does, up to the words that have an unset bit.
 pub fn all_set(bytes: &[u8], offset: usize, len: usize) -> bool
     requires window { InBytes bytes.now offset len }
     ensures { IsTrue result ↔ (count (bits bytes.now offset len) ≡ len) }
 {
-    next_unset(bytes, offset, len, 0).is_none()
+    is_without(bytes, offset, len, false)
 }
 
 /// [`next_set`] of a counted source: returns the index of the first set bit from index `from` on,
@@ -226,19 +228,76 @@ fn next_in_rest(bytes: &[u8], offset: usize, len: usize, from: usize, value: boo
     Some(from + word.trailing_zeros() as usize)
 }
 
-/// Returns the window of `count` bits from bit `at` on, at most 64, as one number, with a 1 for
-/// each bit that is `value`. Its digits from `count` on are 0.
+/// Returns whether no bit of the window is `value`.
+///
+/// It is inlined, so that the searches for set and for unset bits each have their own code.
 #[inline(always)]
-pub(crate) fn read_matches(bytes: &[u8], at: usize, count: usize, value: bool) -> u64
-    requires in_word { count ≤ 64 }
-    requires inside { at + count ≤ 8 * length bytes.now }
-    ensures digits { digits result 0 count ≡ hits value (bits bytes.now at count) }
-    ensures clear { result < 2 ^ count }
+fn is_without(bytes: &[u8], offset: usize, len: usize, value: bool) -> bool
+    requires window { InBytes bytes.now offset len }
+    ensures { IsTrue result ↔ (count (hits value (bits bytes.now offset len)) ≡ 0) }
 {
-    let word = read_bits(bytes, at, count);
-    if value {
-        word
-    } else {
-        low_digits(!word, count)
+    if len == 0 {
+        return true;
     }
+    if bytes.len() - offset / 8 < 8 {
+        return matches_at_end(bytes, offset, len, value) == 0;
+    }
+    let word = others(word_at(bytes, offset / 8), !value) >> (offset % 8);
+    if word != 0 {
+        return word.trailing_zeros() as usize >= len;
+    }
+    if len <= 64 - offset % 8 {
+        return true;
+    }
+    is_without_behind(bytes, offset, len, value)
+}
+
+/// [`is_without`] if the window has more bits than its first eight bytes, and none of theirs is
+/// `value`: by the last eight bytes, and then by the words between.
+#[inline(always)]
+fn is_without_behind(bytes: &[u8], offset: usize, len: usize, value: bool) -> bool
+    requires window { InBytes bytes.now offset len }
+    requires more { 64 - offset % 8 < len }
+    requires none { count (hits value (bits bytes.now offset (64 - offset % 8))) ≡ 0 }
+    ensures { IsTrue result ↔ (count (hits value (bits bytes.now offset len)) ≡ 0) }
+{
+    if matches_before(bytes, offset + len, value) != 0 {
+        return false;
+    }
+    are_without(bytes, offset / 8 + 8, (len - (64 - offset % 8)) / 64, value)
+}
+
+/// [`is_without`] of the `n` words from byte `at` on: eight at once, then four, then one by one.
+#[inline(always)]
+fn are_without(bytes: &[u8], at: usize, n: usize, value: bool) -> bool
+    requires inside { at + 8 * n ≤ length bytes.now }
+    ensures { IsTrue result ↔ (count (hits value (bits bytes.now (8 * at) (64 * n))) ≡ 0) }
+{
+    let eights = pass_groups(bytes, at, n, 0, 8, value);
+    let fours = pass_groups(bytes, at, n, eights, 4, value);
+    let ones = pass_groups(bytes, at, n, fours, 1, value);
+    ones == n
+}
+
+/// Returns the number of words passed of the `n` from byte `at` on, after `done` without a bit that
+/// is `value`: `size` at a time, while none of their bits is `value`.
+#[inline(always)]
+fn pass_groups(bytes: &[u8], at: usize, n: usize, done: usize, size: usize, value: bool) -> usize
+    requires some { 0 < size }
+    requires inside { at + 8 * n ≤ length bytes.now }
+    requires within { done ≤ n }
+    requires none { count (hits value (bits bytes.now (8 * at) (64 * done))) ≡ 0 }
+    ensures within { result ≤ n }
+    ensures none { count (hits value (bits bytes.now (8 * at) (64 * result))) ≡ 0 }
+    ensures found { size ≤ n - result
+        → 0 < count (hits value (bits bytes.now (8 * at) (64 * n))) }
+{
+    let mut passed = done;
+    while n - passed >= size {
+        if digits_of_any(bytes, at + 8 * passed, size, value) != 0 {
+            return passed;
+        }
+        passed += size;
+    }
+    passed
 }

@@ -1,46 +1,22 @@
-use Rattle.std.proofs.Common.{inl, inr, ◌-◌, ◌∙◌, arith}
-use Rattle.std.proofs.lemmas.Bool.{cases_lt}
-use Rattle.vb_select.proofs.LastLemmas.{IsPrevious-word}
-use Rattle.vb_select.proofs.NearestLemmas.{at-hits, hit_other, off-zero, Shows-matches}
+use Rattle.std.proofs.Common.{ℕ, ◌+◌, ◌-◌, ◌%◌, arith}
+use Rattle.vb_select.proofs.LastLemmas.{IsPrevious-before, IsPrevious_later, off-before}
 use Rattle.vb_select.proofs.last.last_match.Goals as goal
+
+pub returns-then-len-eq0 : goal.returns-then-len-eq0
+returns-then-len-eq0 c = λ i l. absurd (omega (arith, c.if-len-eq0.true))
 
 pub returns-then-word-ne0 : goal.returns-then-word-ne0
 returns-then-word-ne0 c =
-    let b = c.args.bytes.now in let o = c.args.offset in let v = c.args.value in
-    let w = c.read_matches-word in let n = c.min-count.result in
-    let a = c.loop-left.left - n in
-    IsPrevious-word v b o c.args.len a n w.result
-    (Shows-matches v b o a n w.result w.ensures.digits)
-    (omega (arith, c.if-word-ne0.true)) w.ensures.clear (omega (arith, c.min-count.ensures))
-    (omega (arith, c.min-count.ensures, c.loop-left.invariant.within))
-    (λ i lo hi. c.loop-left.invariant.passed i (omega (arith, c.min-count.ensures)) hi)
-
-pub loop-left-preserved : goal.loop-left-preserved
-loop-left-preserved c =
-    let b = c.args.bytes.now in let o = c.args.offset in let v = c.args.value in
-    let w = c.read_matches-word in
-    let n = c.min-count.result in
-    let a = c.loop-left.left - n in
-    let blocks = c.pass_words-left in let words = c.pass_words-left-in-loop-left in
-    let inv = c.loop-left.invariant in
-    record {
-      within = omega (arith, blocks.ensures.within, words.ensures.within, inv.within);
-      passed = λ i lo hi. elim (cases_lt i blocks.result) [
-        | inl here ↦
-            at-hits v b o c.args.len i hi ∙ hit_other v _ (words.ensures.passed i lo here)
-        | inr past ↦ elim (cases_lt i a) [
-          | inl here ↦
-              at-hits v b o c.args.len i hi ∙ hit_other v _ (blocks.ensures.passed i past here)
-          | inr behind ↦ elim (cases_lt i c.loop-left.left) [
-            | inl here ↦
-                off-zero v b o c.args.len a n w.result
-                (Shows-matches v b o a n w.result w.ensures.digits) c.if-word-ne0.false
-                i behind (omega arith)
-            | inr last ↦ inv.passed i last hi
-          ]
-        ]
-      ];
-    }
+    let n : ℕ = c.args.len in let o : ℕ = c.args.offset in
+    let w = c.matches_before-word in
+    (IsPrevious-before c.args.value c.args.bytes.now o n ((8 - (o + n) % 8) % 8) w.result
+    w.ensures (omega (arith, c.if-word-ne0.true)) w.type_inv (omega (arith, c.if-len-le64.false))).1
 
 pub returns : goal.returns
-returns c = λ i l. c.loop-left.invariant.passed i (omega (arith, c.loop-left-test.false)) l
+returns c =
+    let n : ℕ = c.args.len in let o : ℕ = c.args.offset in
+    let v = c.args.value in let b = c.args.bytes.now in
+    let w = c.matches_before-word in let t : ℕ = (8 - (o + n) % 8) % 8 in
+    IsPrevious_later v b o n (n - (64 - t)) c.last_in_words.result (omega arith)
+    c.last_in_words.ensures
+    (λ i lo hi. off-before v b o n t w.result w.ensures c.if-word-ne0.false i (omega arith) hi)

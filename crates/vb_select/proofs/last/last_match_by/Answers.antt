@@ -1,4 +1,4 @@
-use Rattle.std.proofs.Common.{◌≡◌, ℕ, ◌+◌, ◌-◌, ◌≤◌, refl, ◌∙◌, arith}
+use Rattle.std.proofs.Common.{ℕ, ◌+◌, ◌-◌, ◌≤◌, refl, ◌∙◌, arith}
 use Rattle.vb_bits.specs.Bits.{bits}
 use Rattle.vb_count.specs.Hits.{hits}
 use Rattle.vb_count.proofs.LooksLemmas.{looks_same, looks_some, looks_first, looks_on, looks_had}

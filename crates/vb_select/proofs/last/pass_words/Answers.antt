@@ -20,7 +20,7 @@ loop-left-preserved c =
         | inl here ↦
             let place : o + i ≡ 8 * ((o + l) / 8 - 8 * n) + (i - (l - 64 * n)) =
             omega (arith, from) in
-            ap (bit_of c.args.bytes.now) place ∙ c.digits_of_any.ensures
+            ap (bit_of c.args.bytes.now) place ∙ c.digits_of_any.ensures.none
             c.if-digits_of_any-ne0.false (i - (l - 64 * n)) (omega (arith, more))
         | inr past ↦ inv.passed i past hi
       ];

@@ -1,4 +1,4 @@
-use Rattle.std.proofs.Common.{◌/◌, ◌%◌, ◌^◌, ◌≤◌, ℕ, List, ap, ◌∙◌, sym, arith, pow_mono}
+use Rattle.std.proofs.Common.{◌^◌, ◌≤◌, ℕ, List, ap, ◌∙◌, sym, arith, pow_mono}
 use Rattle.std.specs.Prelude.{count_ones}
 use Rattle.vb_bits.specs.Bits.{bits, count}
 use Rattle.vb_bits.specs.Digits.{digits}

@@ -1,4 +1,4 @@
-use Rattle.std.proofs.Common.{◌*◌, ℕ, List, refl, ap, sym, ◌∙◌, arith}
+use Rattle.std.proofs.Common.{◌*◌, ℕ, List, refl, ap, arith}
 use Rattle.vb_bits.specs.Bits.{bits, count}
 use Rattle.vb_count.specs.Hits.{hits}
 use Rattle.vb_bits.proofs.BytesLemmas.{bits_of_read}

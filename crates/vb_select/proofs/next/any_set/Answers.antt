@@ -1,8 +1,7 @@
-use Rattle.vb_bits.specs.Bits.{bits}
-use Rattle.vb_select.proofs.NearestLemmas.{next_some}
+use Rattle.vb_bits.specs.Bits.{bits, count}
+use Rattle.vb_select.proofs.NearestLemmas.{some_if}
 use Rattle.vb_select.proofs.next.any_set.Goals as goal
 
 pub returns : goal.returns
-returns c =
-    rw c.is_some.ensures (next_some (bits c.args.bytes.now c.args.offset c.args.len)
-    c.next_set.result c.next_set.ensures)
+returns c = some_if c.is_without.result
+    (count (bits c.args.bytes.now c.args.offset c.args.len)) c.is_without.ensures

@@ -1,15 +1,8 @@
-use Rattle.std.proofs.Common.{◌≡◌, ℕ, ◌+◌, ◌-◌, ◌/◌, ◌%◌, ◌^◌, ◌<◌, sym, arith, subst}
-use Rattle.std.proofs.lemmas.Nat.{shr_below}
+use Rattle.std.proofs.Common.{◌+◌, ◌-◌, ◌/◌, ◌%◌, ◌^◌, sym, arith, subst}
 use Rattle.vb_bits.proofs.ReadLemmas.{digits_of_word}
 use Rattle.vb_select.proofs.NearestLemmas.{Shows, Shows-shifted, IsNext_none, IsNext_later}
-use Rattle.vb_select.proofs.NearestLemmas.{IsNext-word, IsNext-word_past, off-zero}
+use Rattle.vb_select.proofs.NearestLemmas.{IsNext-word, IsNext-word_past, off-zero, shifted_fits}
 use Rattle.vb_select.proofs.next.next_match.Goals as goal
-
--- a number without its digits below s
-shifted_fits : (w s : ℕ) → w < 2 ^ 64 → s < 8 → w / 2 ^ s < 2 ^ (64 - s)
-shifted_fits w s fits small =
-    let e : 64 ≡ 64 - s + s = omega arith in
-    shr_below w (64 - s) s (subst (λ k. w < 2 ^ k) e fits)
 
 pub returns-then-len-from : goal.returns-then-len-from
 returns-then-len-from c =

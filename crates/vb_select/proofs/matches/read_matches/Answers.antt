@@ -3,7 +3,7 @@ use Rattle.std.specs.Int.{w64}
 use Rattle.vb_bits.specs.Bits.{complement}
 use Rattle.vb_bits.proofs.DigitsLemmas.{digits-bit_not}
 use Rattle.vb_count.proofs.HitsLemmas.{matching_false}
-use Rattle.vb_select.proofs.next.read_matches.Goals as goal
+use Rattle.vb_select.proofs.matches.read_matches.Goals as goal
 
 pub returns-else-value-clause-digits : goal.returns-else-value-clause-digits
 returns-else-value-clause-digits c =
