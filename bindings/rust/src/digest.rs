@@ -4,6 +4,6 @@
 /// What tools/digest prints; tools/write-lists writes it here.
 macro_rules! digest {
     () => {
-        "5ac94f6e428543df5cc029ee524f97180c93dbb5e228cb8bfb379b5fca94c1a2"
+        "7185676bf4af617e3fbe9937df916da7b76a162d952d7869fefcfddbff96d349"
     };
 }
