@@ -10,6 +10,7 @@ mod aggregate;
 mod ask;
 mod case;
 mod gather;
+mod group;
 mod own;
 mod plain;
 mod random;
@@ -37,6 +38,7 @@ fn compare(case: &Case, random: &mut Random) -> Result<u64, String> {
         + write::compare(case)?
         + gather::compare(case, random)?
         + aggregate::compare(case, random)?
+        + group::compare(case, random)?
         + own::compare(case, random)?;
     #[cfg(feature = "upstream")]
     let calls = calls + upstream::compare(case)?;

@@ -143,6 +143,50 @@ fn no_validity(f: &mut fmt::Formatter<'_>, indices: usize, bits: usize) -> fmt::
     write!(f, "{indices} indices and {bits} bits of validity")
 }
 
+/// The error of counts and sums by group. The counts and sums are unchanged.
+#[derive(Clone, Copy, Debug, PartialEq, Eq, Hash)]
+#[non_exhaustive]
+pub enum GroupError {
+    /// There isn't one value per row.
+    Values {
+        /// The number of values.
+        values: usize,
+        /// The number of rows: of codes.
+        rows: usize,
+    },
+    /// The mask doesn't have one bit per row.
+    Mask {
+        /// The number of bits in the mask.
+        bits: usize,
+        /// The number of rows: of codes.
+        rows: usize,
+    },
+    /// The code of this row is negative, or isn't below the number of groups. It is the first such
+    /// row among the selected ones.
+    Code {
+        /// The row.
+        row: usize,
+        /// Its code; `i128::MAX` if it is above that.
+        code: i128,
+        /// The number of groups: of counts, or of sums.
+        groups: usize,
+    },
+}
+
+impl fmt::Display for GroupError {
+    fn fmt(&self, f: &mut fmt::Formatter<'_>) -> fmt::Result {
+        match self {
+            GroupError::Values { values, rows } => write!(f, "{values} values for {rows} codes"),
+            GroupError::Mask { bits, rows } => write!(f, "a mask of {bits} bits for {rows}"),
+            GroupError::Code { row, code, groups } => {
+                write!(f, "code {code} of row {row} names none of {groups} groups")
+            }
+        }
+    }
+}
+
+impl Error for GroupError {}
+
 /// The error of the first index that isn't below the number of bits of a new bitmap.
 #[derive(Clone, Copy, Debug, PartialEq, Eq, Hash)]
 #[non_exhaustive]

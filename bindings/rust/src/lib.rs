@@ -37,7 +37,7 @@
 //! - single bits, other windows of at most 64, values at up to 16 indices, and types of values and
 //!   indices that [`Value`], [`Compare`], [`Summand`] and [`BitIndex`] exclude;
 //! - code that joins calls: `fill_with`, and the blocks that iterators fill;
-//! - sums, minimum and maximum without a mask;
+//! - sums, minimum and maximum without a mask, or of floats, and counts and sums by group;
 //! - iterators over false bits and from the end, the building and growth of bitmaps, [`Validity`],
 //!   and `arrow`;
 //! - everything on other targets, under Miri, and if the archives of those functions are missing at
@@ -84,6 +84,8 @@ mod counts;
 mod deposit;
 mod error;
 mod filter;
+mod float;
+mod group;
 pub mod iter;
 mod kernels;
 mod kleene;
@@ -113,7 +115,11 @@ pub use bits_mut::BitsMut;
 #[cfg(feature = "alloc")]
 pub use bytes::{AlignedBytes, Grow, SharedBytes, SharedVec};
 pub use compare::{Compare, Comparison};
-pub use error::{BadIndex, OutOfBounds, ShortTable, SplitError, TakeError, TakeValuesError};
+pub use error::{
+    BadIndex, GroupError, OutOfBounds, ShortTable, SplitError, TakeError, TakeValuesError,
+};
+pub use float::Float;
+pub use group::GroupSummand;
 pub use level::Level;
 pub use mask::Mask;
 #[cfg(feature = "alloc")]

@@ -1,4 +1,5 @@
-//! Values at indices and under masks: what is refused, of which widths, what stays, and sums.
+//! Values at indices, under masks and by group: what is refused, of which widths, what stays, and
+//! sums.
 use support::panics;
 use vortex_bits::*;
 
@@ -125,4 +126,174 @@ fn sums_past_the_end_of_their_type() {
     assert_eq!(values::masked_min(&[0i128; 0], None::<Bits<'_>>), None);
     let text = panics(|| _ = values::masked_sum(&most, mask.slice(0..69)));
     assert_eq!(text.as_deref(), Some("a mask of 69 bits for 70"));
+}
+
+/// Rows with codes, of which those that no mask selects name no group.
+fn rows(len: usize, step: usize) -> (Vec<i16>, Vec<i32>, Bitmap) {
+    let mask: Bitmap = (0..len).map(|row| row % step == step / 2).collect();
+    let code = |row: usize| {
+        if mask.bits().get(row) == Some(true) {
+            row * 31 % 7
+        } else {
+            9999
+        }
+    };
+    let codes = (0..len)
+        .map(|row| i16::try_from(code(row)).unwrap())
+        .collect();
+    let values = (0..len)
+        .map(|row| i32::MAX - i32::try_from(row).unwrap())
+        .collect();
+    (codes, values, mask)
+}
+
+#[test]
+fn rows_are_counted_and_summed_by_group() {
+    for len in 0..=200 {
+        for step in [1, 2, 40, 300] {
+            let (codes, values, mask) = rows(len, step);
+            let (mut counts, mut sums) = ([5u64; 7], [-1i64; 7]);
+            let (mut counted, mut summed) = (counts, sums);
+            for row in mask.set_indices() {
+                let group = usize::try_from(codes[row]).unwrap();
+                counted[group] += 1;
+                summed[group] += i64::from(values[row]);
+            }
+            values::group_counts(&mut counts, &codes, &mask);
+            values::group_sums(&mut sums, &codes, &values, &mask);
+            assert_eq!(
+                (counts, sums),
+                (counted, summed),
+                "{len} rows, each {step}th"
+            );
+            if step == 1 {
+                values::group_counts(&mut counts, &codes, None::<Bits<'_>>);
+                let twice = std::array::from_fn(|group| 2 * counted[group] - 5);
+                assert_eq!(counts, twice);
+            }
+        }
+    }
+}
+
+#[test]
+fn the_first_code_of_no_group_is_refused_and_nothing_is_changed() {
+    for len in [1, 63, 64, 65, 130, 200] {
+        for (bad, code) in [(0, 7), (len / 2, -1), (len - 1, i64::MAX)] {
+            let mut codes = vec![6i64; len];
+            codes[bad] = code;
+            codes[len - 1] = codes[len - 1].max(7);
+            let refused = GroupError::Code {
+                row: bad,
+                code: codes[bad].into(),
+                groups: 7,
+            };
+            let (mut counts, mut sums) = ([3; 7], [0.5; 7]);
+            let answer = values::try_group_counts(&mut counts, &codes, None::<Bits<'_>>);
+            assert_eq!(answer, Err(refused));
+            let column = vec![1.5f32; len];
+            let mask: Bitmap = (0..len).map(|row| row >= bad).collect();
+            let answer = values::try_group_sums(&mut sums, &codes, &column, &mask);
+            assert_eq!(answer, Err(refused));
+            assert_eq!((counts, sums), ([3; 7], [0.5; 7]));
+            // Without that row and the last one the others count.
+            let mask: Bitmap = (0..len).map(|row| row != bad && row != len - 1).collect();
+            assert!(values::try_group_sums(&mut sums, &codes, &column, &mask).is_ok());
+            let many = mask.count_ones();
+            let sum = 0.5 + 1.5 * f64::from(u32::try_from(many).unwrap());
+            assert_eq!(
+                sums.map(f64::to_bits),
+                [0.5, 0.5, 0.5, 0.5, 0.5, 0.5, sum].map(f64::to_bits)
+            );
+        }
+    }
+}
+
+#[test]
+fn rows_without_a_value_or_a_bit_are_refused_by_name() {
+    let mask = Bits::new(&[0b110], 0, 3);
+    let mut sums = [0u64; 4];
+    let refused = values::try_group_sums(&mut sums, &[1u8, 2], &[7u8], None::<Bits<'_>>);
+    assert_eq!(refused, Err(GroupError::Values { values: 1, rows: 2 }));
+    assert_eq!(refused.unwrap_err().to_string(), "1 values for 2 codes");
+    let refused = values::try_group_counts(&mut sums, &[1u8, 2], mask).unwrap_err();
+    assert_eq!(refused, GroupError::Mask { bits: 3, rows: 2 });
+    let text = panics(|| values::group_counts(&mut sums, &[1u8, 2], mask));
+    assert_eq!(text, Some(refused.to_string()));
+    assert_eq!(refused.to_string(), "a mask of 3 bits for 2");
+    let text = panics(|| values::group_counts(&mut sums, &[1, 2, -7i8], mask));
+    assert_eq!(
+        text.as_deref(),
+        Some("code -7 of row 2 names none of 4 groups")
+    );
+    assert_eq!(sums, [0; 4]);
+}
+
+#[test]
+fn counts_and_sums_by_group_wrap_around() {
+    let (mut counts, mut sums, mut unsigned) = ([u64::MAX], [i64::MAX], [u64::MAX]);
+    values::group_counts(&mut counts, &[0u128; 3], None::<Bits<'_>>);
+    values::group_sums(&mut sums, &[0u8; 2], &[1i64, -3], None::<Bits<'_>>);
+    values::group_sums(&mut unsigned, &[0usize; 2], &[u8::MAX, 1], None::<Bits<'_>>);
+    assert_eq!((counts, sums, unsigned), ([2], [i64::MAX - 2], [255]));
+}
+
+#[test]
+fn floats_under_a_mask_are_summed_in_order_and_ordered() {
+    let all: Vec<f64> = (0..200u32)
+        .map(|row| f64::from(row * 7919 % 1000) * 0.1 - 40.0)
+        .collect();
+    for len in 0..=all.len() {
+        let column = &all[..len];
+        for step in [1, 2, 40, 300] {
+            let mask: Bitmap = (0..len).map(|row| row % step == step / 2).collect();
+            let chosen = mask.set_indices().map(|row| column[row]);
+            let sum = chosen.clone().fold(0.0, |sum: f64, value| sum + value);
+            assert_eq!(
+                values::masked_float_sum(column, &mask).to_bits(),
+                sum.to_bits()
+            );
+            let ends = (chosen.clone().reduce(f64::min), chosen.reduce(f64::max));
+            assert_eq!(values::masked_float_min(column, &mask), ends.0);
+            assert_eq!(values::masked_float_max(column, &mask), ends.1);
+        }
+    }
+}
+
+#[test]
+fn floats_that_are_no_numbers_zeros_and_ends() {
+    let (none, nan) = (None::<Bits<'_>>, f32::NAN);
+    let bits = |value: Option<f32>| value.map(f32::to_bits);
+    for zeros in [[0.0, -0.0, nan, -nan], [-nan, -0.0, nan, 0.0]] {
+        assert_eq!(
+            bits(values::masked_float_min(&zeros, none)),
+            bits(Some(-0.0))
+        );
+        assert_eq!(
+            bits(values::masked_float_max(&zeros, none)),
+            bits(Some(0.0))
+        );
+        assert!(values::masked_float_sum(&zeros, none).is_nan());
+    }
+    assert_eq!(values::masked_float_sum(&[-0.0f32], none).to_bits(), 0);
+    assert_eq!(values::masked_float_min(&[nan, -nan], none), None);
+    assert_eq!(values::masked_float_max(&[nan, -nan], none), None);
+    assert_eq!(values::masked_float_max::<f64>(&[], none), None);
+    let ends = [
+        1.0,
+        f64::NEG_INFINITY,
+        f64::MAX,
+        f64::INFINITY,
+        f64::MIN,
+        5e-324,
+    ];
+    assert_eq!(
+        values::masked_float_min(&ends, none),
+        Some(f64::NEG_INFINITY)
+    );
+    assert_eq!(values::masked_float_max(&ends, none), Some(f64::INFINITY));
+    let some = Bits::new(&[0b11_0101], 0, 6);
+    assert_eq!(values::masked_float_min(&ends, some), Some(f64::MIN));
+    assert_eq!(values::masked_float_max(&ends, some), Some(f64::MAX));
+    let text = panics(|| _ = values::masked_float_min(&ends, some.slice(0..5)));
+    assert_eq!(text.as_deref(), Some("a mask of 5 bits for 6"));
 }

@@ -1,8 +1,9 @@
-//! Sums, minimum and maximum of values, 64 at a time.
+//! Sums, minimum and maximum of values and of floats, 64 at a time.
 
 use super::word::words;
 use crate::Bits;
 use crate::aggregate::{Summand, WideSummand};
+use crate::float::Float;
 
 pub fn masked_sum<T: WideSummand>(values: &[T], mask: Option<Bits<'_>>) -> T::Total {
     fold(values, mask, T::NOTHING, T::plus)
@@ -22,6 +23,22 @@ pub fn masked_min<T: Summand>(values: &[T], mask: Option<Bits<'_>>) -> Option<T>
 
 pub fn masked_max<T: Summand>(values: &[T], mask: Option<Bits<'_>>) -> Option<T> {
     from_first(values, mask, Ord::max)
+}
+
+pub fn masked_float_sum<T: Float>(values: &[T], mask: Option<Bits<'_>>) -> T {
+    fold(values, mask, T::ZERO, T::plus)
+}
+
+pub fn masked_float_min<T: Float>(values: &[T], mask: Option<Bits<'_>>) -> Option<T> {
+    let least = |key: T::Key, value: T| key.min(value.key(T::ABOVE));
+    let key = fold(values, mask, T::ABOVE, least);
+    (key != T::ABOVE).then(|| T::of_key(key))
+}
+
+pub fn masked_float_max<T: Float>(values: &[T], mask: Option<Bits<'_>>) -> Option<T> {
+    let greatest = |key: T::Key, value: T| key.max(value.key(T::BELOW));
+    let key = fold(values, mask, T::BELOW, greatest);
+    (key != T::BELOW).then(|| T::of_key(key))
 }
 
 /// Returns the first value, after `add` has added the others to it.
