@@ -118,6 +118,11 @@ class Number:
         return f"{'int_wrap' if self.is_signed else 'wrap_unsigned'} w{self.bits}"
 
     @property
+    def long(self) -> str:
+        """The type of 64 bits with the same sign."""
+        return f"{self.name[0]}64"
+
+    @property
     def total_c(self) -> str:
         """That type in C."""
         return f"vb_{self.total}"

@@ -1,7 +1,7 @@
 mod ExtremesLemmas
 mod FirstLemmas
-mod OnesLemmas
+pub mod OnesLemmas
 mod SumsLemmas
 mod TypesLemmas
-mod WordOnes
-mod WordsLemmas
+pub mod WordOnes
+pub mod WordsLemmas

@@ -1,0 +1,5 @@
+mod AddsLemmas
+mod AddsWordLemmas
+mod ChecksLemmas
+mod CountsLemmas
+mod ZipLemmas

@@ -1,0 +1,4 @@
+pub mod Groups
+pub use Rattle.vb_aggregate.specs.Sums
+pub use Rattle.vb_bits.specs.Kept
+pub use Rattle.vb_view.specs.View

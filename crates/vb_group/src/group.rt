@@ -1,0 +1,73 @@
+//! Counts and sums by group.
+ghost use Rattle.std.specs.Prelude.{◌≡◌, ℕ, ◌+◌, ◌%◌, ◌^◌, ◌<◌, ◌+ℤ◌, length, zip};
+ghost use Rattle.std.specs.Prelude.{IfOk, IfErr, slice_index_or};
+ghost use Rattle.std.specs.Option.{ForSome, option_map};
+ghost use Rattle.vb_group.specs.Groups.{AddsRows, codes_of, selected, HaveGroups, IsFirstPast};
+ghost use Rattle.vb_view.specs.View.{bits_of};
+
+use crate::addition::{Count, Sum};
+use crate::check::first_past;
+use crate::code::GroupCode;
+use crate::rows::add_selected;
+use crate::widen::Widen;
+use vb_view::BitBufferView;
+
+/// Adds to each count the number of selected rows whose code is its index: to `counts[c]` those
+/// with the code `c`. A count wraps around at 2^64.
+///
+/// Without a `mask` each row is selected; a `mask` must have one bit for each code. Returns
+/// `Err(row)` for the first selected row whose code is negative or not below the number of counts;
+/// the counts are then unchanged.
+pub fn group_counts<C: GroupCode>(
+    counts: &mut [u64],
+    codes: &[C],
+    mask: Option<BitBufferView<'_>>,
+) -> Result<(), usize>
+    requires mask { ForSome mask (λ m. length (bits_of m) ≡ length codes.now) }
+    ensures counted { IfOk result (λ _. (g : ℕ) → g < length counts.old
+        → slice_index_or counts.new g 0 % 2 ^ 64 ≡ (slice_index_or counts.old g 0
+        + length (codes_of C.number g (selected (option_map bits_of mask.entry) codes.now)))
+        % 2 ^ 64) }
+    ensures groups { IfOk result (λ _. HaveGroups C.number (length counts.old) codes.now
+        (option_map bits_of mask.entry) (length codes.now)) }
+    ensures past { IfErr result (IsFirstPast C.number (length counts.old) codes.now
+        (option_map bits_of mask.entry)) }
+    ensures unchanged { IfErr result (λ _. counts.new ≡ counts.old) }
+{
+    if let Some(row) = first_past(codes, mask, counts.len()) {
+        return Err(row);
+    }
+    add_selected::<C, C, Count>(counts, codes, codes, mask);
+    Ok(())
+}
+
+/// Adds each selected value to the sum of its group: to `sums[c]` the values of the rows with the
+/// code `c`, in order. The sums of values of at most 64 bits are of 64 bits, and wrap around at the
+/// end of their type: `u64` for unsigned values, `i64` for signed ones.
+///
+/// There must be one value for each code. Without a `mask` each row is selected; a `mask` must have
+/// one bit for each code. Returns `Err(row)` for the first selected row whose code is negative or
+/// not below the number of sums; the sums are then unchanged.
+pub fn group_sums<C: GroupCode, V: Widen>(
+    sums: &mut [V::Wide],
+    codes: &[C],
+    values: &[V],
+    mask: Option<BitBufferView<'_>>,
+) -> Result<(), usize>
+    requires same_len { length values.now ≡ length codes.now }
+    requires mask { ForSome mask (λ m. length (bits_of m) ≡ length codes.now) }
+    ensures summed { IfOk result (λ _. AddsRows C.number
+        (λ sum value. V.Wide.wrapped (V.Wide.number sum +ℤ V.number value)) sums.old sums.new
+        (selected (option_map bits_of mask.entry) (zip codes.now values.now))) }
+    ensures groups { IfOk result (λ _. HaveGroups C.number (length sums.old) codes.now
+        (option_map bits_of mask.entry) (length codes.now)) }
+    ensures past { IfErr result (IsFirstPast C.number (length sums.old) codes.now
+        (option_map bits_of mask.entry)) }
+    ensures unchanged { IfErr result (λ _. sums.new ≡ sums.old) }
+{
+    if let Some(row) = first_past(codes, mask, sums.len()) {
+        return Err(row);
+    }
+    add_selected::<C, V, Sum>(sums, codes, values, mask);
+    Ok(())
+}
