@@ -91,6 +91,20 @@ static size_t size;
         vb_masked_min_##name((const type *)values, n, WINDOW(mixed, LEFT)).value)                 \
     ROW(masked_max_##name,                                                                        \
         vb_masked_max_##name((const type *)values, n, WINDOW(mixed, LEFT)).value)
+#define GROUP_SUMS(name, type, sum, at)                                                           \
+    ROW(group_sums_##name##_##at, vb_group_sums_##name##_##at((sum *)written, n, indices_##at, n,   \
+        (const type *)values, n, false, WINDOW(mixed, LEFT)).position)
+#define GROUP(at)                                                                                 \
+    ROW(group_counts_##at, vb_group_counts_##at((uint64_t *)written, n, indices_##at, n, false,     \
+        WINDOW(mixed, LEFT)).position)                                                            \
+    GROUP_SUMS(u8, uint8_t, uint64_t, at)                                                         \
+    GROUP_SUMS(u16, uint16_t, uint64_t, at)                                                       \
+    GROUP_SUMS(u32, uint32_t, uint64_t, at)                                                       \
+    GROUP_SUMS(u64, uint64_t, uint64_t, at)                                                       \
+    GROUP_SUMS(i8, int8_t, int64_t, at)                                                           \
+    GROUP_SUMS(i16, int16_t, int64_t, at)                                                         \
+    GROUP_SUMS(i32, int32_t, int64_t, at)                                                         \
+    GROUP_SUMS(i64, int64_t, int64_t, at)
 #define SCATTER(name, type)                                                                       \
     ROW(scatter_values_##name, vb_scatter_values_##name((type *)written, n, (const type *)values, \
         n, WINDOW(mixed, LEFT)))
@@ -189,6 +203,9 @@ AGGREGATE(i8, int8_t)
 AGGREGATE(i16, int16_t)
 AGGREGATE(i32, int32_t)
 AGGREGATE(i64, int64_t)
+GROUP(u8)
+GROUP(u16)
+GROUP(u32)
 SCATTER(u8, uint8_t)
 SCATTER(u16, uint16_t)
 SCATTER(u32, uint32_t)
@@ -216,6 +233,10 @@ typedef struct {
 #define OF_AGGREGATE(name)                                                                        \
     OF(masked_sum_##name) OF(masked_checked_sum_##name) OF(masked_wrapping_sum_##name)            \
     OF(masked_min_##name) OF(masked_max_##name)
+#define OF_GROUP(at)                                                                              \
+    OF(group_counts_##at) OF(group_sums_u8_##at) OF(group_sums_u16_##at) OF(group_sums_u32_##at)  \
+    OF(group_sums_u64_##at) OF(group_sums_i8_##at) OF(group_sums_i16_##at)                        \
+    OF(group_sums_i32_##at) OF(group_sums_i64_##at)
 #define OF_TAKE(at)                                                                               \
     OF(take_bits_##at) OF(take_values_u8_##at) OF(take_values_u16_##at) OF(take_values_u32_##at)  \
     OF(take_values_u64_##at) OF(take_values_u128_##at)
@@ -239,7 +260,8 @@ static const row rows[] = {
     OF(filter_values_u128) OF(filter_values) OF(scatter_values_u8) OF(scatter_values_u16)
     OF(scatter_values_u32) OF(scatter_values_u64) OF(scatter_values_u128) OF(scatter_values)
     OF_AGGREGATE(u8) OF_AGGREGATE(u16) OF_AGGREGATE(u32) OF_AGGREGATE(u64) OF_AGGREGATE(i8)
-    OF_AGGREGATE(i16) OF_AGGREGATE(i32) OF_AGGREGATE(i64) OF_TAKE(u8) OF_TAKE(u16) OF_TAKE(u32)
+    OF_AGGREGATE(i16) OF_AGGREGATE(i32) OF_AGGREGATE(i64) OF_GROUP(u8) OF_GROUP(u16)
+    OF_GROUP(u32) OF_TAKE(u8) OF_TAKE(u16) OF_TAKE(u32)
     OF_TAKE(u64) OF(take_values) OF(block_counts) OF(rank) OF(ranked_select)
     OF(ranked_select_unset)
 };

@@ -1,6 +1,7 @@
 /*
- * Sum, minimum and maximum of the values that a mask selects. vortex_bits.h includes this file; its
- * first comment states what the caller must ensure for every call.
+ * Sum, minimum and maximum of the values that a mask selects, and counts and sums by group.
+ * vortex_bits.h includes this file; its first comment states what the caller must ensure for every
+ * call.
  *
  * Value k is selected if bit `mask_offset + k` of `mask` is set; the mask must have one bit for each
  * of the `values_count` values. Each call processes 64 values at a time, skips them if none is
@@ -241,6 +242,203 @@ vb_optional_i64 vb_masked_max_i64(const int64_t *values, size_t values_count, co
         size_t mask_size, size_t mask_offset);
 VB_CHECKED bool vb_try_masked_max_i64(const int64_t *values, size_t values_count,
         const uint8_t *mask, size_t mask_size, size_t mask_offset, vb_optional_i64 *greatest);
+/* To here. */
+
+/*
+ * Counts by group: row k has the code `codes[k]`, the index of its count, as rows of a dictionary
+ * array have. Adds to each count the number of selected rows with its code, modulo 2^64. If
+ * `all_selected` is true, each row is selected, and the mask is ignored, which may then be null.
+ * Else row k is selected if bit `mask_offset + k` of `mask` is set; the codes of other rows may be
+ * any number.
+ *
+ * Returns the first selected row whose code isn't below `counts_count`, as `position`; the counts
+ * are then unchanged. Signed codes may be passed as unsigned ones of that width, if there are at
+ * most 2^7, 2^15 or 2^31 counts: a negative code is then out of range.
+ *
+ *     uint64_t sizes[3] = {0, 10, 0};
+ *     const uint8_t codes[] = {2, 1, 2, 99, 0}, mask[] = {0x17};
+ *     vb_taken past = vb_group_counts_u8(sizes, 3, codes, 5, false, mask, 1, 0);
+ *     assert(!past.out_of_range && sizes[0] == 1 && sizes[1] == 11 && sizes[2] == 2);
+ *     past = vb_group_counts_u8(sizes, 3, codes, 5, true, NULL, 0, 0);
+ *     assert(past.out_of_range && past.position == 3 && sizes[2] == 2);
+ */
+/* Written by tools/write-lists from tools/families/groups.txt. */
+VB_CHECKED vb_taken vb_group_counts_u8(uint64_t *counts, size_t counts_count, const uint8_t *codes,
+        size_t codes_count, bool all_selected, const uint8_t *mask, size_t mask_size,
+        size_t mask_offset);
+VB_CHECKED bool vb_try_group_counts_u8(uint64_t *counts, size_t counts_count, const uint8_t *codes,
+        size_t codes_count, bool all_selected, const uint8_t *mask, size_t mask_size,
+        size_t mask_offset, vb_taken *past);
+VB_CHECKED vb_taken vb_group_counts_u16(uint64_t *counts, size_t counts_count,
+        const uint16_t *codes, size_t codes_count, bool all_selected, const uint8_t *mask,
+        size_t mask_size, size_t mask_offset);
+VB_CHECKED bool vb_try_group_counts_u16(uint64_t *counts, size_t counts_count,
+        const uint16_t *codes, size_t codes_count, bool all_selected, const uint8_t *mask,
+        size_t mask_size, size_t mask_offset, vb_taken *past);
+VB_CHECKED vb_taken vb_group_counts_u32(uint64_t *counts, size_t counts_count,
+        const uint32_t *codes, size_t codes_count, bool all_selected, const uint8_t *mask,
+        size_t mask_size, size_t mask_offset);
+VB_CHECKED bool vb_try_group_counts_u32(uint64_t *counts, size_t counts_count,
+        const uint32_t *codes, size_t codes_count, bool all_selected, const uint8_t *mask,
+        size_t mask_size, size_t mask_offset, vb_taken *past);
+/* To here. */
+
+/*
+ * Adds each selected value to the sum at the index that is the code of its row. Sums have 64 bits,
+ * and wrap around. There must be a value for each code; rows, codes, the mask and the result are as
+ * above.
+ *
+ *     int64_t totals[2] = {0, 1000};
+ *     const uint32_t groups[] = {1, 0, 1};
+ *     const int16_t amounts[] = {5, -3, 20};
+ *     vb_taken none = vb_group_sums_i16_u32(totals, 2, groups, 3, amounts, 3, true, NULL, 0, 0);
+ *     assert(!none.out_of_range && totals[0] == -3 && totals[1] == 1025);
+ */
+/* Written by tools/write-lists from tools/families/groups.txt. */
+VB_CHECKED vb_taken vb_group_sums_u8_u8(uint64_t *sums, size_t sums_count, const uint8_t *codes,
+        size_t codes_count, const uint8_t *values, size_t values_count, bool all_selected,
+        const uint8_t *mask, size_t mask_size, size_t mask_offset);
+VB_CHECKED bool vb_try_group_sums_u8_u8(uint64_t *sums, size_t sums_count, const uint8_t *codes,
+        size_t codes_count, const uint8_t *values, size_t values_count, bool all_selected,
+        const uint8_t *mask, size_t mask_size, size_t mask_offset, vb_taken *past);
+VB_CHECKED vb_taken vb_group_sums_u16_u8(uint64_t *sums, size_t sums_count, const uint8_t *codes,
+        size_t codes_count, const uint16_t *values, size_t values_count, bool all_selected,
+        const uint8_t *mask, size_t mask_size, size_t mask_offset);
+VB_CHECKED bool vb_try_group_sums_u16_u8(uint64_t *sums, size_t sums_count, const uint8_t *codes,
+        size_t codes_count, const uint16_t *values, size_t values_count, bool all_selected,
+        const uint8_t *mask, size_t mask_size, size_t mask_offset, vb_taken *past);
+VB_CHECKED vb_taken vb_group_sums_u32_u8(uint64_t *sums, size_t sums_count, const uint8_t *codes,
+        size_t codes_count, const uint32_t *values, size_t values_count, bool all_selected,
+        const uint8_t *mask, size_t mask_size, size_t mask_offset);
+VB_CHECKED bool vb_try_group_sums_u32_u8(uint64_t *sums, size_t sums_count, const uint8_t *codes,
+        size_t codes_count, const uint32_t *values, size_t values_count, bool all_selected,
+        const uint8_t *mask, size_t mask_size, size_t mask_offset, vb_taken *past);
+VB_CHECKED vb_taken vb_group_sums_u64_u8(uint64_t *sums, size_t sums_count, const uint8_t *codes,
+        size_t codes_count, const uint64_t *values, size_t values_count, bool all_selected,
+        const uint8_t *mask, size_t mask_size, size_t mask_offset);
+VB_CHECKED bool vb_try_group_sums_u64_u8(uint64_t *sums, size_t sums_count, const uint8_t *codes,
+        size_t codes_count, const uint64_t *values, size_t values_count, bool all_selected,
+        const uint8_t *mask, size_t mask_size, size_t mask_offset, vb_taken *past);
+VB_CHECKED vb_taken vb_group_sums_i8_u8(int64_t *sums, size_t sums_count, const uint8_t *codes,
+        size_t codes_count, const int8_t *values, size_t values_count, bool all_selected,
+        const uint8_t *mask, size_t mask_size, size_t mask_offset);
+VB_CHECKED bool vb_try_group_sums_i8_u8(int64_t *sums, size_t sums_count, const uint8_t *codes,
+        size_t codes_count, const int8_t *values, size_t values_count, bool all_selected,
+        const uint8_t *mask, size_t mask_size, size_t mask_offset, vb_taken *past);
+VB_CHECKED vb_taken vb_group_sums_i16_u8(int64_t *sums, size_t sums_count, const uint8_t *codes,
+        size_t codes_count, const int16_t *values, size_t values_count, bool all_selected,
+        const uint8_t *mask, size_t mask_size, size_t mask_offset);
+VB_CHECKED bool vb_try_group_sums_i16_u8(int64_t *sums, size_t sums_count, const uint8_t *codes,
+        size_t codes_count, const int16_t *values, size_t values_count, bool all_selected,
+        const uint8_t *mask, size_t mask_size, size_t mask_offset, vb_taken *past);
+VB_CHECKED vb_taken vb_group_sums_i32_u8(int64_t *sums, size_t sums_count, const uint8_t *codes,
+        size_t codes_count, const int32_t *values, size_t values_count, bool all_selected,
+        const uint8_t *mask, size_t mask_size, size_t mask_offset);
+VB_CHECKED bool vb_try_group_sums_i32_u8(int64_t *sums, size_t sums_count, const uint8_t *codes,
+        size_t codes_count, const int32_t *values, size_t values_count, bool all_selected,
+        const uint8_t *mask, size_t mask_size, size_t mask_offset, vb_taken *past);
+VB_CHECKED vb_taken vb_group_sums_i64_u8(int64_t *sums, size_t sums_count, const uint8_t *codes,
+        size_t codes_count, const int64_t *values, size_t values_count, bool all_selected,
+        const uint8_t *mask, size_t mask_size, size_t mask_offset);
+VB_CHECKED bool vb_try_group_sums_i64_u8(int64_t *sums, size_t sums_count, const uint8_t *codes,
+        size_t codes_count, const int64_t *values, size_t values_count, bool all_selected,
+        const uint8_t *mask, size_t mask_size, size_t mask_offset, vb_taken *past);
+VB_CHECKED vb_taken vb_group_sums_u8_u16(uint64_t *sums, size_t sums_count, const uint16_t *codes,
+        size_t codes_count, const uint8_t *values, size_t values_count, bool all_selected,
+        const uint8_t *mask, size_t mask_size, size_t mask_offset);
+VB_CHECKED bool vb_try_group_sums_u8_u16(uint64_t *sums, size_t sums_count, const uint16_t *codes,
+        size_t codes_count, const uint8_t *values, size_t values_count, bool all_selected,
+        const uint8_t *mask, size_t mask_size, size_t mask_offset, vb_taken *past);
+VB_CHECKED vb_taken vb_group_sums_u16_u16(uint64_t *sums, size_t sums_count, const uint16_t *codes,
+        size_t codes_count, const uint16_t *values, size_t values_count, bool all_selected,
+        const uint8_t *mask, size_t mask_size, size_t mask_offset);
+VB_CHECKED bool vb_try_group_sums_u16_u16(uint64_t *sums, size_t sums_count, const uint16_t *codes,
+        size_t codes_count, const uint16_t *values, size_t values_count, bool all_selected,
+        const uint8_t *mask, size_t mask_size, size_t mask_offset, vb_taken *past);
+VB_CHECKED vb_taken vb_group_sums_u32_u16(uint64_t *sums, size_t sums_count, const uint16_t *codes,
+        size_t codes_count, const uint32_t *values, size_t values_count, bool all_selected,
+        const uint8_t *mask, size_t mask_size, size_t mask_offset);
+VB_CHECKED bool vb_try_group_sums_u32_u16(uint64_t *sums, size_t sums_count, const uint16_t *codes,
+        size_t codes_count, const uint32_t *values, size_t values_count, bool all_selected,
+        const uint8_t *mask, size_t mask_size, size_t mask_offset, vb_taken *past);
+VB_CHECKED vb_taken vb_group_sums_u64_u16(uint64_t *sums, size_t sums_count, const uint16_t *codes,
+        size_t codes_count, const uint64_t *values, size_t values_count, bool all_selected,
+        const uint8_t *mask, size_t mask_size, size_t mask_offset);
+VB_CHECKED bool vb_try_group_sums_u64_u16(uint64_t *sums, size_t sums_count, const uint16_t *codes,
+        size_t codes_count, const uint64_t *values, size_t values_count, bool all_selected,
+        const uint8_t *mask, size_t mask_size, size_t mask_offset, vb_taken *past);
+VB_CHECKED vb_taken vb_group_sums_i8_u16(int64_t *sums, size_t sums_count, const uint16_t *codes,
+        size_t codes_count, const int8_t *values, size_t values_count, bool all_selected,
+        const uint8_t *mask, size_t mask_size, size_t mask_offset);
+VB_CHECKED bool vb_try_group_sums_i8_u16(int64_t *sums, size_t sums_count, const uint16_t *codes,
+        size_t codes_count, const int8_t *values, size_t values_count, bool all_selected,
+        const uint8_t *mask, size_t mask_size, size_t mask_offset, vb_taken *past);
+VB_CHECKED vb_taken vb_group_sums_i16_u16(int64_t *sums, size_t sums_count, const uint16_t *codes,
+        size_t codes_count, const int16_t *values, size_t values_count, bool all_selected,
+        const uint8_t *mask, size_t mask_size, size_t mask_offset);
+VB_CHECKED bool vb_try_group_sums_i16_u16(int64_t *sums, size_t sums_count, const uint16_t *codes,
+        size_t codes_count, const int16_t *values, size_t values_count, bool all_selected,
+        const uint8_t *mask, size_t mask_size, size_t mask_offset, vb_taken *past);
+VB_CHECKED vb_taken vb_group_sums_i32_u16(int64_t *sums, size_t sums_count, const uint16_t *codes,
+        size_t codes_count, const int32_t *values, size_t values_count, bool all_selected,
+        const uint8_t *mask, size_t mask_size, size_t mask_offset);
+VB_CHECKED bool vb_try_group_sums_i32_u16(int64_t *sums, size_t sums_count, const uint16_t *codes,
+        size_t codes_count, const int32_t *values, size_t values_count, bool all_selected,
+        const uint8_t *mask, size_t mask_size, size_t mask_offset, vb_taken *past);
+VB_CHECKED vb_taken vb_group_sums_i64_u16(int64_t *sums, size_t sums_count, const uint16_t *codes,
+        size_t codes_count, const int64_t *values, size_t values_count, bool all_selected,
+        const uint8_t *mask, size_t mask_size, size_t mask_offset);
+VB_CHECKED bool vb_try_group_sums_i64_u16(int64_t *sums, size_t sums_count, const uint16_t *codes,
+        size_t codes_count, const int64_t *values, size_t values_count, bool all_selected,
+        const uint8_t *mask, size_t mask_size, size_t mask_offset, vb_taken *past);
+VB_CHECKED vb_taken vb_group_sums_u8_u32(uint64_t *sums, size_t sums_count, const uint32_t *codes,
+        size_t codes_count, const uint8_t *values, size_t values_count, bool all_selected,
+        const uint8_t *mask, size_t mask_size, size_t mask_offset);
+VB_CHECKED bool vb_try_group_sums_u8_u32(uint64_t *sums, size_t sums_count, const uint32_t *codes,
+        size_t codes_count, const uint8_t *values, size_t values_count, bool all_selected,
+        const uint8_t *mask, size_t mask_size, size_t mask_offset, vb_taken *past);
+VB_CHECKED vb_taken vb_group_sums_u16_u32(uint64_t *sums, size_t sums_count, const uint32_t *codes,
+        size_t codes_count, const uint16_t *values, size_t values_count, bool all_selected,
+        const uint8_t *mask, size_t mask_size, size_t mask_offset);
+VB_CHECKED bool vb_try_group_sums_u16_u32(uint64_t *sums, size_t sums_count, const uint32_t *codes,
+        size_t codes_count, const uint16_t *values, size_t values_count, bool all_selected,
+        const uint8_t *mask, size_t mask_size, size_t mask_offset, vb_taken *past);
+VB_CHECKED vb_taken vb_group_sums_u32_u32(uint64_t *sums, size_t sums_count, const uint32_t *codes,
+        size_t codes_count, const uint32_t *values, size_t values_count, bool all_selected,
+        const uint8_t *mask, size_t mask_size, size_t mask_offset);
+VB_CHECKED bool vb_try_group_sums_u32_u32(uint64_t *sums, size_t sums_count, const uint32_t *codes,
+        size_t codes_count, const uint32_t *values, size_t values_count, bool all_selected,
+        const uint8_t *mask, size_t mask_size, size_t mask_offset, vb_taken *past);
+VB_CHECKED vb_taken vb_group_sums_u64_u32(uint64_t *sums, size_t sums_count, const uint32_t *codes,
+        size_t codes_count, const uint64_t *values, size_t values_count, bool all_selected,
+        const uint8_t *mask, size_t mask_size, size_t mask_offset);
+VB_CHECKED bool vb_try_group_sums_u64_u32(uint64_t *sums, size_t sums_count, const uint32_t *codes,
+        size_t codes_count, const uint64_t *values, size_t values_count, bool all_selected,
+        const uint8_t *mask, size_t mask_size, size_t mask_offset, vb_taken *past);
+VB_CHECKED vb_taken vb_group_sums_i8_u32(int64_t *sums, size_t sums_count, const uint32_t *codes,
+        size_t codes_count, const int8_t *values, size_t values_count, bool all_selected,
+        const uint8_t *mask, size_t mask_size, size_t mask_offset);
+VB_CHECKED bool vb_try_group_sums_i8_u32(int64_t *sums, size_t sums_count, const uint32_t *codes,
+        size_t codes_count, const int8_t *values, size_t values_count, bool all_selected,
+        const uint8_t *mask, size_t mask_size, size_t mask_offset, vb_taken *past);
+VB_CHECKED vb_taken vb_group_sums_i16_u32(int64_t *sums, size_t sums_count, const uint32_t *codes,
+        size_t codes_count, const int16_t *values, size_t values_count, bool all_selected,
+        const uint8_t *mask, size_t mask_size, size_t mask_offset);
+VB_CHECKED bool vb_try_group_sums_i16_u32(int64_t *sums, size_t sums_count, const uint32_t *codes,
+        size_t codes_count, const int16_t *values, size_t values_count, bool all_selected,
+        const uint8_t *mask, size_t mask_size, size_t mask_offset, vb_taken *past);
+VB_CHECKED vb_taken vb_group_sums_i32_u32(int64_t *sums, size_t sums_count, const uint32_t *codes,
+        size_t codes_count, const int32_t *values, size_t values_count, bool all_selected,
+        const uint8_t *mask, size_t mask_size, size_t mask_offset);
+VB_CHECKED bool vb_try_group_sums_i32_u32(int64_t *sums, size_t sums_count, const uint32_t *codes,
+        size_t codes_count, const int32_t *values, size_t values_count, bool all_selected,
+        const uint8_t *mask, size_t mask_size, size_t mask_offset, vb_taken *past);
+VB_CHECKED vb_taken vb_group_sums_i64_u32(int64_t *sums, size_t sums_count, const uint32_t *codes,
+        size_t codes_count, const int64_t *values, size_t values_count, bool all_selected,
+        const uint8_t *mask, size_t mask_size, size_t mask_offset);
+VB_CHECKED bool vb_try_group_sums_i64_u32(int64_t *sums, size_t sums_count, const uint32_t *codes,
+        size_t codes_count, const int64_t *values, size_t values_count, bool all_selected,
+        const uint8_t *mask, size_t mask_size, size_t mask_offset, vb_taken *past);
 /* To here. */
 
 #ifdef __cplusplus

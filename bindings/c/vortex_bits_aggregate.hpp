@@ -1,6 +1,6 @@
 /*
- * Sum, minimum and maximum of the values that a mask selects, a part of vortex_bits.hpp, which
- * includes this file.
+ * Sum, minimum and maximum of the values that a mask selects, and counts and sums by group, a part
+ * of vortex_bits.hpp, which includes this file.
  *
  *     std::vector<std::int32_t> prices = {20, -5, 30, 7};
  *     std::vector<std::uint8_t> mask = {0x0D};
@@ -41,6 +41,58 @@ VB_AGGREGATED_BY(8, true, i64, std::int64_t)
 /* To here. */
 #undef VB_AGGREGATED_BY
 
+/* The C function that counts rows by codes of `Code` bytes. */
+template <std::size_t Code> struct counted_by;
+#define VB_COUNTED_BY(code, name)                                                                 \
+    template <> struct counted_by<code> {                                                         \
+        static constexpr auto count = vb_group_counts_##name;                                     \
+    };
+/* Written by tools/write-lists from tools/families/groups.txt. */
+VB_COUNTED_BY(1, u8)
+VB_COUNTED_BY(2, u16)
+VB_COUNTED_BY(4, u32)
+/* To here. */
+#undef VB_COUNTED_BY
+
+/* The C function that sums values of `Size` bytes by such codes. */
+template <std::size_t Code, std::size_t Size, bool Signed> struct summed_by;
+#define VB_SUMMED_BY(code, size, is_signed, name)                                                 \
+    template <> struct summed_by<code, size, is_signed> {                                         \
+        static constexpr auto sum = vb_group_sums_##name;                                         \
+    };
+/* Written by tools/write-lists from tools/families/groups.txt. */
+VB_SUMMED_BY(1, 1, false, u8_u8)
+VB_SUMMED_BY(1, 2, false, u16_u8)
+VB_SUMMED_BY(1, 4, false, u32_u8)
+VB_SUMMED_BY(1, 8, false, u64_u8)
+VB_SUMMED_BY(1, 1, true, i8_u8)
+VB_SUMMED_BY(1, 2, true, i16_u8)
+VB_SUMMED_BY(1, 4, true, i32_u8)
+VB_SUMMED_BY(1, 8, true, i64_u8)
+VB_SUMMED_BY(2, 1, false, u8_u16)
+VB_SUMMED_BY(2, 2, false, u16_u16)
+VB_SUMMED_BY(2, 4, false, u32_u16)
+VB_SUMMED_BY(2, 8, false, u64_u16)
+VB_SUMMED_BY(2, 1, true, i8_u16)
+VB_SUMMED_BY(2, 2, true, i16_u16)
+VB_SUMMED_BY(2, 4, true, i32_u16)
+VB_SUMMED_BY(2, 8, true, i64_u16)
+VB_SUMMED_BY(4, 1, false, u8_u32)
+VB_SUMMED_BY(4, 2, false, u16_u32)
+VB_SUMMED_BY(4, 4, false, u32_u32)
+VB_SUMMED_BY(4, 8, false, u64_u32)
+VB_SUMMED_BY(4, 1, true, i8_u32)
+VB_SUMMED_BY(4, 2, true, i16_u32)
+VB_SUMMED_BY(4, 4, true, i32_u32)
+VB_SUMMED_BY(4, 8, true, i64_u32)
+/* To here. */
+#undef VB_SUMMED_BY
+
+template <class Code> constexpr bool is_code()
+{
+    return is_index<Code>() && sizeof(Code) <= 4;
+}
+
 template <class Values> using item_t = std::remove_cv_t<lent_t<const Values>>;
 
 /* Calls `call` with those for the type of the values, and with the arguments of each. */
@@ -57,6 +109,24 @@ struct aggregate {
             return call(by(), reinterpret_cast<const typename by::type *>(values.data()),
                 values.size(), mask.bytes_, mask.size_, mask.offset_);
         }
+    }
+
+    /*
+     * Calls `call` with the codes, and then with a mask; without one each row is selected. A
+     * negative code is read as one that is too large, so it gets no more totals than its type has
+     * numbers.
+     */
+    template <class Totals, class Codes, class Call>
+    static std::optional<std::size_t> by_group(Totals &totals, const Codes &codes,
+        const std::optional<bits> &mask, Call call)
+    {
+        using code = item_t<Codes>;
+        using as = typename laid<sizeof(code)>::type;
+        expect(!mask || mask->len_ == codes.size(), "not a bit of the mask for each code");
+        const bits selected = mask.value_or(bits());
+        return position(call(totals.data(), reached<code>(totals.size()),
+            reinterpret_cast<const as *>(codes.data()), codes.size(), !mask, selected.bytes_,
+            selected.size_, selected.offset_));
     }
 };
 
@@ -107,6 +177,55 @@ template <class Values> [[nodiscard]] auto masked_max(const Values &values, bits
     return detail::aggregate::of(values, mask, [](auto by, auto... all) {
         return detail::optional<detail::item_t<Values>>(by.max(all...));
     });
+}
+
+/*
+ * Adds to each count, a std::uint64_t, the number of selected rows whose code is its index: `codes`
+ * are whole numbers of 8 to 32 bits. Without a mask each row is selected. Returns the first selected
+ * row whose code is out of range, if there is one; the counts are then unchanged.
+ */
+template <class Counts, class Codes>
+[[nodiscard]] std::optional<std::size_t> group_counts(Counts &&counts, const Codes &codes,
+    const std::optional<bits> &mask = std::nullopt)
+{
+    using code = detail::item_t<Codes>;
+    static_assert(detail::is_code<code>(), "codes are whole numbers of 8, 16 or 32 bits");
+    static_assert(std::is_same_v<detail::lent_t<std::remove_reference_t<Counts>>, std::uint64_t>,
+        "counts are of std::uint64_t");
+    if constexpr (detail::is_code<code>()) {
+        return detail::aggregate::by_group(counts, codes, mask,
+            [](auto... all) { return detail::counted_by<sizeof(code)>::count(all...); });
+    }
+    return std::nullopt;
+}
+
+/*
+ * Adds each selected value to the sum at the index that is the code of its row: a std::int64_t for
+ * signed values, else a std::uint64_t, which wraps around. Values are whole numbers of 8 to 64 bits,
+ * one for each code; the rest is as in group_counts.
+ */
+template <class Sums, class Codes, class Values>
+[[nodiscard]] std::optional<std::size_t> group_sums(Sums &&sums, const Codes &codes,
+    const Values &values, const std::optional<bits> &mask = std::nullopt)
+{
+    using code = detail::item_t<Codes>;
+    using value = detail::item_t<Values>;
+    static_assert(detail::is_code<code>(), "codes are whole numbers of 8, 16 or 32 bits");
+    static_assert(detail::is_index<value>(), "values are whole numbers of 8, 16, 32 or 64 bits");
+    using total = std::conditional_t<std::is_signed_v<value>, std::int64_t, std::uint64_t>;
+    static_assert(std::is_same_v<detail::lent_t<std::remove_reference_t<Sums>>, total>,
+        "sums are of std::int64_t for signed values, else of std::uint64_t");
+    detail::expect(values.size() == codes.size(), "not a value for each code");
+    if constexpr (detail::is_code<code>() && detail::is_index<value>()) {
+        using by = detail::summed_by<sizeof(code), sizeof(value), std::is_signed_v<value>>;
+        using as = typename detail::aggregated_by<sizeof(value), std::is_signed_v<value>>::type;
+        const auto *terms = reinterpret_cast<const as *>(values.data());
+        return detail::aggregate::by_group(sums, codes, mask,
+            [&](auto *out, std::size_t out_count, auto *of, std::size_t count, auto... rest) {
+                return by::sum(out, out_count, of, count, terms, values.size(), rest...);
+            });
+    }
+    return std::nullopt;
 }
 
 } // namespace vortex_bits

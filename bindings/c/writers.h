@@ -33,14 +33,23 @@ struct writer {
     bool (*call)(const struct job *it);
 };
 
-/* Bits at random, every second bit true, and small numbers of 1, 2, 4 and 8 bytes. */
+/*
+ * Bits at random, every second bit true, small numbers of 1, 2, 4 and 8 bytes, and numbers of 1, 2
+ * and 4 bytes that are at most their index.
+ */
 static uint64_t random_words[SOURCE / 8], spaced_words[SOURCE / 8], index_words[4][INDICES];
+static uint32_t code_words[3][INDICES];
 static const uint8_t *const source = (const uint8_t *)random_words;
 static const uint8_t *const spaced = (const uint8_t *)spaced_words;
 
 static inline const void *indices(size_t each)
 {
     return index_words[each == 1 ? 0 : each == 2 ? 1 : each == 4 ? 2 : 3];
+}
+
+static inline const void *codes(size_t each)
+{
+    return code_words[each == 1 ? 0 : each == 2 ? 1 : 2];
 }
 
 static inline size_t kept_of(size_t count)
@@ -70,6 +79,12 @@ static inline void make_sources(void)
         for (size_t i = 0; i < INDICES; i++) {
             ((uint8_t *)index_words[kind])[i << kind] = (uint8_t)random_below(NAMED);
         }
+    }
+    for (size_t i = 0; i < INDICES; i++) {
+        const uint16_t half = (uint16_t)i;
+        ((uint8_t *)code_words[0])[i] = (uint8_t)i;
+        memcpy((uint8_t *)code_words[1] + sizeof half * i, &half, sizeof half);
+        code_words[2][i] = (uint32_t)i;
     }
 }
 

@@ -123,6 +123,18 @@ class Number:
         return f"{self.name[0]}64"
 
     @property
+    def long_c(self) -> str:
+        """That type in C."""
+        return f"{self.c.removesuffix(f'{self.bits}_t')}64_t"
+
+    @property
+    def long_plus(self) -> str:
+        """The sum of a number of that type and a value, in contracts."""
+        if self.is_signed:
+            return "int_wrap w64 (sum +ℤ value)"
+        return "wrap_unsigned w64 (pos sum +ℤ pos value)"
+
+    @property
     def total_c(self) -> str:
         """That type in C."""
         return f"vb_{self.total}"
@@ -157,6 +169,8 @@ WHOLE = {"unsigned": UNSIGNED, "signed": SIGNED}
 VALUES = [U8, U16, U32, U64, U128]
 INDICES = [U8, U16, U32, U64]
 COMPARED = [*INDICES, I8, I16, I32, I64, *FLOATS]
+# The types of codes of groups in C and C++.
+CODES = [U8, U16, U32]
 # The types that C has sums of, and the same by the name of the file that has them.
 AGGREGATED = [it for it in COMPARED if not it.is_float]
 SUMMED = {name: [it for it in AGGREGATED if it in numbers] for name, numbers in WHOLE.items()}

@@ -4,6 +4,6 @@
 /// What tools/digest prints; tools/write-lists writes it here.
 macro_rules! digest {
     () => {
-        "7185676bf4af617e3fbe9937df916da7b76a162d952d7869fefcfddbff96d349"
+        "17f98db83e7cca8663bc3b3f3a37f390dd2465bb6393c7adf047560fc4cf8ddf"
     };
 }

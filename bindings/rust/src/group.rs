@@ -1,7 +1,7 @@
 //! Counts and sums by group.
 
 use crate::error::{GroupError, expect};
-use crate::{BitIndex, Mask, Value, portable};
+use crate::{BitIndex, Mask, Value, kernels};
 
 /// A type of values that can be summed by group: whole numbers of up to 64 bits, and floats.
 #[diagnostic::on_unimplemented(
@@ -14,41 +14,91 @@ pub trait GroupSummand: Value + sealed::GroupSummand<<Self as GroupSummand>::Sum
 }
 
 pub(crate) mod sealed {
+    #[cfg(vortex_bits_native)]
+    use crate::native::{GroupSums, Kernels};
+
     /// What a type of values with sums of the type `Sum` provides.
     pub trait GroupSummand<Sum>: Sized {
         /// Returns the sum with one value more.
         fn plus(sum: Sum, value: Self) -> Sum;
+
+        /// The type that the C functions sum, with the same layout as this one.
+        #[cfg(vortex_bits_native)]
+        type Laid;
+
+        /// Returns the C functions that sum by group; None if there are none.
+        #[cfg(vortex_bits_native)]
+        fn group_sums(kernels: &Kernels) -> Option<GroupSums<Sum, Self::Laid>>;
     }
 
-    macro_rules! summed {
-        ($($value:ty as $sum:ty, |$total:ident, $one:ident| $plus:expr;)*) => {$(
+    macro_rules! whole {
+        ($($value:ty as $laid:ty, $sum:ty: $by_one:ident $by_two:ident $by_four:ident;)*) => {$(
             impl super::GroupSummand for $value {
                 type Sum = $sum;
             }
 
             impl GroupSummand<$sum> for $value {
                 #[inline]
-                fn plus($total: $sum, $one: $value) -> $sum {
-                    $plus
+                fn plus(sum: $sum, value: $value) -> $sum {
+                    sum.wrapping_add(value as $sum)
+                }
+
+                #[cfg(vortex_bits_native)]
+                type Laid = $laid;
+
+                #[cfg(vortex_bits_native)]
+                #[inline]
+                fn group_sums(kernels: &Kernels) -> Option<GroupSums<$sum, $laid>> {
+                    Some(GroupSums {
+                        by_one: kernels.$by_one,
+                        by_two: kernels.$by_two,
+                        by_four: kernels.$by_four,
+                    })
                 }
             }
         )*};
     }
 
-    summed! {
-        u8 as u64, |sum, value| sum.wrapping_add(u64::from(value));
-        u16 as u64, |sum, value| sum.wrapping_add(u64::from(value));
-        u32 as u64, |sum, value| sum.wrapping_add(u64::from(value));
-        u64 as u64, |sum, value| sum.wrapping_add(value);
-        usize as u64, |sum, value| sum.wrapping_add(value as u64);
-        i8 as i64, |sum, value| sum.wrapping_add(i64::from(value));
-        i16 as i64, |sum, value| sum.wrapping_add(i64::from(value));
-        i32 as i64, |sum, value| sum.wrapping_add(i64::from(value));
-        i64 as i64, |sum, value| sum.wrapping_add(value);
-        isize as i64, |sum, value| sum.wrapping_add(value as i64);
-        f32 as f64, |sum, value| sum + f64::from(value);
-        f64 as f64, |sum, value| sum + value;
+    macro_rules! floats {
+        ($($value:ty)*) => {$(
+            impl super::GroupSummand for $value {
+                type Sum = f64;
+            }
+
+            impl GroupSummand<f64> for $value {
+                #[inline]
+                fn plus(sum: f64, value: $value) -> f64 {
+                    sum + f64::from(value)
+                }
+
+                #[cfg(vortex_bits_native)]
+                type Laid = $value;
+
+                #[cfg(vortex_bits_native)]
+                #[inline]
+                fn group_sums(_: &Kernels) -> Option<GroupSums<f64, $value>> {
+                    None
+                }
+            }
+        )*};
     }
+
+    whole! {
+        // Written by tools/write-lists from tools/families/groups.txt.
+        u8 as u8, u64: group_sums_u8_u8 group_sums_u8_u16 group_sums_u8_u32;
+        u16 as u16, u64: group_sums_u16_u8 group_sums_u16_u16 group_sums_u16_u32;
+        u32 as u32, u64: group_sums_u32_u8 group_sums_u32_u16 group_sums_u32_u32;
+        u64 as u64, u64: group_sums_u64_u8 group_sums_u64_u16 group_sums_u64_u32;
+        usize as u64, u64: group_sums_u64_u8 group_sums_u64_u16 group_sums_u64_u32;
+        i8 as i8, i64: group_sums_i8_u8 group_sums_i8_u16 group_sums_i8_u32;
+        i16 as i16, i64: group_sums_i16_u8 group_sums_i16_u16 group_sums_i16_u32;
+        i32 as i32, i64: group_sums_i32_u8 group_sums_i32_u16 group_sums_i32_u32;
+        i64 as i64, i64: group_sums_i64_u8 group_sums_i64_u16 group_sums_i64_u32;
+        isize as i64, i64: group_sums_i64_u8 group_sums_i64_u16 group_sums_i64_u32;
+        // To here.
+    }
+
+    floats! { f32 f64 }
 }
 
 /// Adds to each count the number of rows that `mask` selects and whose code is the index of the
@@ -96,7 +146,7 @@ pub fn try_group_counts<I: BitIndex>(
     mask: impl Mask,
 ) -> Result<(), GroupError> {
     one_each(codes, codes.len(), &mask)?;
-    match portable::group_counts(counts, codes, mask.mask()) {
+    match kernels::group_counts(counts, codes, mask.mask()) {
         Some(row) => Err(no_group(codes, row, counts.len())),
         None => Ok(()),
     }
@@ -157,7 +207,7 @@ pub fn try_group_sums<V: GroupSummand, I: BitIndex>(
     mask: impl Mask,
 ) -> Result<(), GroupError> {
     one_each(codes, values.len(), &mask)?;
-    match portable::group_sums(sums, codes, values, mask.mask()) {
+    match kernels::group_sums(sums, codes, values, mask.mask()) {
         Some(row) => Err(no_group(codes, row, sums.len())),
         None => Ok(()),
     }

@@ -7,6 +7,7 @@ mod aggregate;
 mod compare;
 mod filter;
 mod gather;
+mod group;
 mod kleene;
 mod values;
 mod walk;
@@ -15,6 +16,7 @@ pub use aggregate::{masked_checked_sum, masked_max, masked_min, masked_sum, mask
 pub use compare::{compare, compare_with};
 pub use filter::{filter, keep, scatter};
 pub use gather::{pack_bools, pack_truthy, take, unpack_bools, unpack_bytes};
+pub use group::{group_counts, group_sums};
 pub use kleene::{Column, Logic, combine_truths};
 pub use values::take_values;
 pub use walk::{Index, set_indices, set_slices};

@@ -31,13 +31,14 @@
 //! On x86-64 Linux, calls over more than 64 bits run C functions. They are proved in Rattle to meet
 //! their definitions at every offset and length, at the level x86-64-v2 or x86-64-v3, depending on
 //! the processor. Comparisons, packing, bits at indices and ranks run them at any length, values at
-//! indices for more than 16 indices. The rest is Rust of this crate, which isn't proved, but tested
-//! against loops over single bits:
+//! indices and by group for more than 16 of them. The rest is Rust of this crate, which isn't
+//! proved, but tested against loops over single bits:
 //!
 //! - single bits, other windows of at most 64, values at up to 16 indices, and types of values and
 //!   indices that [`Value`], [`Compare`], [`Summand`] and [`BitIndex`] exclude;
 //! - code that joins calls: `fill_with`, and the blocks that iterators fill;
-//! - sums, minimum and maximum without a mask, or of floats, and counts and sums by group;
+//! - sums, minimum and maximum without a mask, or of floats; sums of floats by group, and groups by
+//!   codes of 64 bits;
 //! - iterators over false bits and from the end, the building and growth of bitmaps, [`Validity`],
 //!   and `arrow`;
 //! - everything on other targets, under Miri, and if the archives of those functions are missing at

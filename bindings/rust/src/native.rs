@@ -10,45 +10,19 @@
 //! - Windows of takes and packs have one bit per item. The output of a filter has one bit or item
 //!   per selected one. There is space for a value at each index. There is a bit of validity per
 //!   index, unless all are valid. A deposit has one bit per set bit of its mask. The mask of a sum,
-//!   a minimum or a maximum has one bit per value.
+//!   a minimum or a maximum has one bit per value. There is one value, and one bit of the mask, per
+//!   code.
 //! - A comparison is a number below 6, and there are as many others as values.
 //! - A table has one entry per block of 512 bits of the window, with any contents.
 //! - The processor has the level.
 //!
 //! A function changes only the windows and the items that its documentation says it writes.
 
+mod types;
+
 use crate::kernels::Run;
 
-/// The index of a bit. `index` has a meaning only if `found` is true.
-#[repr(C)]
-#[derive(Clone, Copy)]
-pub struct Place {
-    found: bool,
-    index: usize,
-}
-
-impl From<Place> for Option<usize> {
-    #[inline]
-    fn from(place: Place) -> Option<usize> {
-        place.found.then_some(place.index)
-    }
-}
-
-/// The result of a take. `position` is the first one whose index is out of range; it has a meaning
-/// only if `out_of_range` is true.
-#[repr(C)]
-#[derive(Clone, Copy)]
-pub struct Taken {
-    out_of_range: bool,
-    position: usize,
-}
-
-impl From<Taken> for Option<usize> {
-    #[inline]
-    fn from(taken: Taken) -> Option<usize> {
-        taken.out_of_range.then_some(taken.position)
-    }
-}
+pub use types::{GroupSums, Optional, Place, SignedWide, Taken, Wide};
 
 /// Applies an operator to a window and another one of the same length.
 pub type Combine = unsafe extern "C" fn(*mut u8, usize, usize, *const u8, usize, usize, usize);
@@ -81,48 +55,6 @@ pub type CompareOthers<T> =
 
 /// A call on values and their mask: what it returns of those whose bit is true.
 pub type Masked<T, R> = unsafe extern "C" fn(*const T, usize, *const u8, usize, usize) -> R;
-
-/// A value of 16 bytes, or an unsigned sum: `low + high * 2^64`.
-#[repr(C)]
-pub struct Wide {
-    low: u64,
-    high: u64,
-}
-
-impl From<Wide> for u128 {
-    #[inline]
-    fn from(wide: Wide) -> u128 {
-        u128::from(wide.high) << 64 | u128::from(wide.low)
-    }
-}
-
-/// A signed sum: `low + high * 2^64`.
-#[repr(C)]
-pub struct SignedWide {
-    low: u64,
-    high: i64,
-}
-
-impl From<SignedWide> for i128 {
-    #[inline]
-    fn from(wide: SignedWide) -> i128 {
-        i128::from(wide.high) << 64 | i128::from(wide.low)
-    }
-}
-
-/// A value, or none: `value` says something only where `has_value` is true.
-#[repr(C)]
-pub struct Optional<T> {
-    has_value: bool,
-    value: T,
-}
-
-impl<T> From<Optional<T>> for Option<T> {
-    #[inline]
-    fn from(optional: Optional<T>) -> Option<T> {
-        optional.has_value.then_some(optional.value)
-    }
-}
 
 // Written by tools/write-lists from tools/families/masked_sums.txt.
 pub type OptionalU8 = Optional<u8>;
@@ -305,6 +237,84 @@ kernels! {
         mask_offset: usize) -> OptionalI32;
     masked_max_i64(values: *const i64, values_count: usize, mask: *const u8, mask_size: usize,
         mask_offset: usize) -> OptionalI64;
+    group_counts_u8(counts: *mut u64, counts_count: usize, codes: *const u8, codes_count: usize,
+        all_selected: bool, mask: *const u8, mask_size: usize, mask_offset: usize) -> Taken;
+    group_counts_u16(counts: *mut u64, counts_count: usize, codes: *const u16, codes_count: usize,
+        all_selected: bool, mask: *const u8, mask_size: usize, mask_offset: usize) -> Taken;
+    group_counts_u32(counts: *mut u64, counts_count: usize, codes: *const u32, codes_count: usize,
+        all_selected: bool, mask: *const u8, mask_size: usize, mask_offset: usize) -> Taken;
+    group_sums_u8_u8(sums: *mut u64, sums_count: usize, codes: *const u8, codes_count: usize,
+        values: *const u8, values_count: usize, all_selected: bool, mask: *const u8,
+        mask_size: usize, mask_offset: usize) -> Taken;
+    group_sums_u16_u8(sums: *mut u64, sums_count: usize, codes: *const u8, codes_count: usize,
+        values: *const u16, values_count: usize, all_selected: bool, mask: *const u8,
+        mask_size: usize, mask_offset: usize) -> Taken;
+    group_sums_u32_u8(sums: *mut u64, sums_count: usize, codes: *const u8, codes_count: usize,
+        values: *const u32, values_count: usize, all_selected: bool, mask: *const u8,
+        mask_size: usize, mask_offset: usize) -> Taken;
+    group_sums_u64_u8(sums: *mut u64, sums_count: usize, codes: *const u8, codes_count: usize,
+        values: *const u64, values_count: usize, all_selected: bool, mask: *const u8,
+        mask_size: usize, mask_offset: usize) -> Taken;
+    group_sums_i8_u8(sums: *mut i64, sums_count: usize, codes: *const u8, codes_count: usize,
+        values: *const i8, values_count: usize, all_selected: bool, mask: *const u8,
+        mask_size: usize, mask_offset: usize) -> Taken;
+    group_sums_i16_u8(sums: *mut i64, sums_count: usize, codes: *const u8, codes_count: usize,
+        values: *const i16, values_count: usize, all_selected: bool, mask: *const u8,
+        mask_size: usize, mask_offset: usize) -> Taken;
+    group_sums_i32_u8(sums: *mut i64, sums_count: usize, codes: *const u8, codes_count: usize,
+        values: *const i32, values_count: usize, all_selected: bool, mask: *const u8,
+        mask_size: usize, mask_offset: usize) -> Taken;
+    group_sums_i64_u8(sums: *mut i64, sums_count: usize, codes: *const u8, codes_count: usize,
+        values: *const i64, values_count: usize, all_selected: bool, mask: *const u8,
+        mask_size: usize, mask_offset: usize) -> Taken;
+    group_sums_u8_u16(sums: *mut u64, sums_count: usize, codes: *const u16, codes_count: usize,
+        values: *const u8, values_count: usize, all_selected: bool, mask: *const u8,
+        mask_size: usize, mask_offset: usize) -> Taken;
+    group_sums_u16_u16(sums: *mut u64, sums_count: usize, codes: *const u16, codes_count: usize,
+        values: *const u16, values_count: usize, all_selected: bool, mask: *const u8,
+        mask_size: usize, mask_offset: usize) -> Taken;
+    group_sums_u32_u16(sums: *mut u64, sums_count: usize, codes: *const u16, codes_count: usize,
+        values: *const u32, values_count: usize, all_selected: bool, mask: *const u8,
+        mask_size: usize, mask_offset: usize) -> Taken;
+    group_sums_u64_u16(sums: *mut u64, sums_count: usize, codes: *const u16, codes_count: usize,
+        values: *const u64, values_count: usize, all_selected: bool, mask: *const u8,
+        mask_size: usize, mask_offset: usize) -> Taken;
+    group_sums_i8_u16(sums: *mut i64, sums_count: usize, codes: *const u16, codes_count: usize,
+        values: *const i8, values_count: usize, all_selected: bool, mask: *const u8,
+        mask_size: usize, mask_offset: usize) -> Taken;
+    group_sums_i16_u16(sums: *mut i64, sums_count: usize, codes: *const u16, codes_count: usize,
+        values: *const i16, values_count: usize, all_selected: bool, mask: *const u8,
+        mask_size: usize, mask_offset: usize) -> Taken;
+    group_sums_i32_u16(sums: *mut i64, sums_count: usize, codes: *const u16, codes_count: usize,
+        values: *const i32, values_count: usize, all_selected: bool, mask: *const u8,
+        mask_size: usize, mask_offset: usize) -> Taken;
+    group_sums_i64_u16(sums: *mut i64, sums_count: usize, codes: *const u16, codes_count: usize,
+        values: *const i64, values_count: usize, all_selected: bool, mask: *const u8,
+        mask_size: usize, mask_offset: usize) -> Taken;
+    group_sums_u8_u32(sums: *mut u64, sums_count: usize, codes: *const u32, codes_count: usize,
+        values: *const u8, values_count: usize, all_selected: bool, mask: *const u8,
+        mask_size: usize, mask_offset: usize) -> Taken;
+    group_sums_u16_u32(sums: *mut u64, sums_count: usize, codes: *const u32, codes_count: usize,
+        values: *const u16, values_count: usize, all_selected: bool, mask: *const u8,
+        mask_size: usize, mask_offset: usize) -> Taken;
+    group_sums_u32_u32(sums: *mut u64, sums_count: usize, codes: *const u32, codes_count: usize,
+        values: *const u32, values_count: usize, all_selected: bool, mask: *const u8,
+        mask_size: usize, mask_offset: usize) -> Taken;
+    group_sums_u64_u32(sums: *mut u64, sums_count: usize, codes: *const u32, codes_count: usize,
+        values: *const u64, values_count: usize, all_selected: bool, mask: *const u8,
+        mask_size: usize, mask_offset: usize) -> Taken;
+    group_sums_i8_u32(sums: *mut i64, sums_count: usize, codes: *const u32, codes_count: usize,
+        values: *const i8, values_count: usize, all_selected: bool, mask: *const u8,
+        mask_size: usize, mask_offset: usize) -> Taken;
+    group_sums_i16_u32(sums: *mut i64, sums_count: usize, codes: *const u32, codes_count: usize,
+        values: *const i16, values_count: usize, all_selected: bool, mask: *const u8,
+        mask_size: usize, mask_offset: usize) -> Taken;
+    group_sums_i32_u32(sums: *mut i64, sums_count: usize, codes: *const u32, codes_count: usize,
+        values: *const i32, values_count: usize, all_selected: bool, mask: *const u8,
+        mask_size: usize, mask_offset: usize) -> Taken;
+    group_sums_i64_u32(sums: *mut i64, sums_count: usize, codes: *const u32, codes_count: usize,
+        values: *const i64, values_count: usize, all_selected: bool, mask: *const u8,
+        mask_size: usize, mask_offset: usize) -> Taken;
     compare_u8(out: *mut u8, out_size: usize, out_offset: usize, values: *const u8,
         values_count: usize, op: u8, number: u8);
     compare_u16(out: *mut u8, out_size: usize, out_offset: usize, values: *const u16,

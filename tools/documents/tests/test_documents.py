@@ -255,7 +255,7 @@ class Checked(unittest.TestCase):
         deps, linked = dependencies(text), statics(text)
         kinds = {it: kind_of(it, deps, linked) for it in deps}
         in_c = {"vb_c_core", "vb_c", "vb_c_gather", "vb_c_values", "vb_c_expand", "vb_c_compare"}
-        in_c |= {"vb_c_aggregate"}
+        in_c |= {"vb_c_aggregate", "vb_c_group"}
         self.assertEqual({it for it in kinds if kinds[it] == "c"}, in_c)
         of_commands = {"vb_command", "vb_pool", "vb_script", "vbits"}
         self.assertEqual({it for it in kinds if kinds[it] == "command"}, of_commands)
