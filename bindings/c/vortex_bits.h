@@ -385,7 +385,8 @@ VB_CHECKED bool vb_try_copy_bits(uint8_t *dst, size_t dst_size, size_t dst_offse
 
 /*
  * Copies the `len` bits from bit `from` on to the bits from bit `offset` on of the same bytes, as
- * memmove does: the windows may overlap. Processes 4,096 bits at a time.
+ * memmove does: the windows may overlap. Processes 4,096 bits at a time. Loads only bytes with a bit
+ * of one of the windows.
  *
  *     uint8_t rows[] = {0x68};
  *     vb_move_bits(rows, 1, 1, 3, 5);

@@ -4,6 +4,6 @@
 /// What tools/digest prints; tools/write-lists writes it here.
 macro_rules! digest {
     () => {
-        "17f98db83e7cca8663bc3b3f3a37f390dd2465bb6393c7adf047560fc4cf8ddf"
+        "f5d4454b02157d8ecddce42f0ae014fa2ab4942ca77da67e200587bd2a88aff0"
     };
 }
