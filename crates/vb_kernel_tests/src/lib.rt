@@ -1,7 +1,7 @@
 //! Tests of the kernels, beside plain loops over single bits and values, at many offsets and
 //! lengths: counts, selects, searches, copies and combinations; walks and views; comparisons of
-//! whole numbers and of floats; sums and extremes under a mask. And of what all crates share:
-//! errors, alignments, elements, indices and iterators of known length.
+//! whole numbers and of floats; sums and extremes under a mask, counts and sums by group. And of
+//! what all crates share: errors, alignments, elements, indices and iterators of known length.
 #![tactic(auto)]
 
 #[cfg(test)]
@@ -32,6 +32,8 @@ mod float_values;
 mod floats;
 #[cfg(test)]
 mod ghost_counts;
+#[cfg(test)]
+mod groups;
 #[cfg(test)]
 mod indices;
 #[cfg(test)]
