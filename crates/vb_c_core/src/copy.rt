@@ -27,8 +27,8 @@ const BLOCK_BITS: usize = 4096;
 /// ends must fit in a `usize`. Every other bit is unchanged.
 ///
 /// Copies 4,096 bits at a time by way of 512 bytes on the stack, from front to end if `d` is at
-/// most `s`, else from end to front. Loads only the bytes that have a bit of one of the windows, and
-/// stores only those of the window from bit `d` on.
+/// most `s`, else from end to front. Loads only the bytes that have a bit of one of the windows,
+/// and stores only those of the window from bit `d` on.
 pub fn move_to_window(bytes: &mut [u8], d: usize, s: usize, len: usize)
     requires into { InBytes bytes.old d len }
     requires from { InBytes bytes.old s len }
