@@ -170,10 +170,10 @@ impl Splitter {
     }
 
     fn end_field(&mut self, rows: &mut Rows) -> Result<bool, CsvError> {
+        self.field = self.field.saturating_add(1);
         if self.field >= MOST_FIELDS {
             return Err(self.malformed(Malformed::TooLong));
         }
-        self.field = self.field.saturating_add(1);
         self.state = State::Field;
         rows.end_field()?;
         Ok(false)
