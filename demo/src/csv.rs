@@ -151,8 +151,8 @@ impl<R: BufRead> Reader<R> {
             if end == End::Row {
                 return Ok(true);
             }
-            if field >= MOST_FIELDS {
-                return Err(malformed(self.line, field, Malformed::TooLong));
+            if field + 1 >= MOST_FIELDS {
+                return Err(malformed(self.line, field + 1, Malformed::TooLong));
             }
         }
     }

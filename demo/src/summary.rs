@@ -266,7 +266,13 @@ impl Sum {
     }
 
     fn joined(self, other: Sum) -> Sum {
-        self.plus(other.high).plus(other.low)
+        let joined = self.plus(other.high);
+        // What an infinite sum has lost isn't a number.
+        if other.high.is_finite() {
+            joined.plus(other.low)
+        } else {
+            joined
+        }
     }
 
     /// Returns the sum, rounded; infinity if it is beyond the range of floats.
@@ -327,6 +333,10 @@ mod tests {
             (total.sum().unwrap().as_str(), total.least()),
             ("-1.5", b"-1e100".to_vec())
         );
+        for batches in [[&[1e308, 1e308][..], &[0.5]], [&[0.5], &[1e308, 1e308]]] {
+            let [total, other] = batches.map(|batch| Total::floats(batch).unwrap());
+            assert_eq!(total.joined(other).sum().unwrap(), "inf");
+        }
         let texts = Total::texts([&b"b"[..], b"a"].into_iter()).unwrap();
         let texts = texts.joined(Total::texts([&b"\xFF"[..]].into_iter()).unwrap());
         assert_eq!(

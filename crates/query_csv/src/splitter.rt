@@ -150,7 +150,7 @@ impl Splitter {
 
     fn push(&mut self, byte: u8, rows: &mut Rows) -> Result<bool, CsvError> {
         if self.size >= LONGEST_ROW {
-            return Err(self.malformed(Malformed::TooLong));
+            return Err(self.too_long());
         }
         self.size = self.size.saturating_add(1);
         rows.push(byte)?;
@@ -170,10 +170,10 @@ impl Splitter {
     }
 
     fn end_field(&mut self, rows: &mut Rows) -> Result<bool, CsvError> {
+        self.field = self.field.saturating_add(1);
         if self.field >= MOST_FIELDS {
             return Err(self.malformed(Malformed::TooLong));
         }
-        self.field = self.field.saturating_add(1);
         self.state = State::Field;
         rows.end_field()?;
         Ok(false)
@@ -195,6 +195,16 @@ impl Splitter {
 
     fn is_end(&self, byte: u8) -> bool {
         byte == self.dialect.delimiter || byte == b'\n' || byte == b'\r'
+    }
+
+    /// Returns the error of a row that is too long, at the line where its field begins.
+    fn too_long(&self) -> CsvError {
+        let is_quoted = self.state == State::Quoted;
+        CsvError::Malformed {
+            line: if is_quoted { self.opened } else { self.line },
+            field: self.field,
+            what: Malformed::TooLong,
+        }
     }
 
     fn malformed(&self, what: Malformed) -> CsvError {

@@ -10,6 +10,8 @@ const MOST: usize = 32;
 
 /// Bins grow with the numbers if the greatest is so many times the least.
 const DECADES: f64 = 1000.0;
+/// The least finite float. The first edge of a histogram may be below it.
+const LEAST: f64 = -1.7976931348623157e308;
 
 /// What a step is times a power of ten.
 const DIGITS: &[i128] = &[1, 2, 5];
@@ -161,7 +163,9 @@ fn even_floats(
     let first = saturating_f64_to_i64((least / step.times(alloc, 1)?).floor());
     let mut edges = Vec::new(alloc);
     for place in 0..=MOST {
-        let edge = step.times(alloc, i128::from(first).wrapping_add(place as i128))?;
+        let edge = step
+            .times(alloc, i128::from(first).wrapping_add(place as i128))?
+            .max(LEAST);
         if !(edge <= greatest && edge.is_finite()) {
             break;
         }

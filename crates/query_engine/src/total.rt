@@ -81,7 +81,7 @@ impl Floats {
         Floats {
             least: least(self.least, other.least),
             greatest: greatest(self.greatest, other.greatest),
-            sum: self.sum.plus(other.sum.high).plus(other.sum.low),
+            sum: self.sum.joined(other.sum),
         }
     }
 
@@ -130,6 +130,17 @@ impl Sum {
         Sum {
             high,
             low: self.low + lost,
+        }
+    }
+
+    /// Returns both as one.
+    pub fn joined(self, other: Sum) -> Sum {
+        let joined = self.plus(other.high);
+        // What an infinite sum has lost isn't a number.
+        if other.high.is_finite() {
+            joined.plus(other.low)
+        } else {
+            joined
         }
     }
 

@@ -113,7 +113,8 @@ fn rows_are_bounded() {
         read(&long, COMMAS, 1 << 16).1,
         Some((1, 0, Malformed::TooLong))
     );
-    let fields = vec![b','; MOST_FIELDS + 1];
+    let fields = vec![b','; MOST_FIELDS];
+    assert_eq!(read(&fields[1..], COMMAS, 1 << 16).1, None);
     assert_eq!(
         read(&fields, COMMAS, 1 << 16).1,
         Some((1, MOST_FIELDS, Malformed::TooLong))

@@ -142,7 +142,8 @@ fn floats(
         reason = "a quotient of 16 steps fits"
     )]
     let first = (least / step.times(1)).floor() as i128;
-    let edges = (0..=2 * 16).map(|place| step.times(first + place));
+    // The first edge may be below all floats.
+    let edges = (0..=2 * 16).map(|place| step.times(first + place).max(f64::MIN));
     edges
         .take_while(|&edge| edge <= greatest && edge.is_finite())
         .collect()
@@ -225,6 +226,8 @@ mod tests {
         );
         for (least, greatest) in [
             (-1e308, 1e308),
+            (f64::MIN, f64::MAX),
+            (f64::MIN, -1e300),
             (5e-324, 1.7e308),
             (-5e-324, 0.0),
             (1e15, 1e15 + 1.0),
@@ -232,5 +235,9 @@ mod tests {
             let edges = of_floats(least, greatest, least);
             assert!((1..=33).contains(&edges.len()), "{edges:?}");
         }
+        assert_eq!(
+            of_floats(f64::MIN, f64::MAX, 0.0)[0],
+            "-1.7976931348623157e308"
+        );
     }
 }
