@@ -50,9 +50,9 @@ pub(crate) mod sealed {
                 #[inline]
                 fn group_sums(kernels: &Kernels) -> Option<GroupSums<$sum, $laid>> {
                     Some(GroupSums {
-                        by_one: kernels.$by_one,
-                        by_two: kernels.$by_two,
-                        by_four: kernels.$by_four,
+                        one_byte: kernels.$by_one,
+                        two_bytes: kernels.$by_two,
+                        four_bytes: kernels.$by_four,
                     })
                 }
             }

@@ -68,9 +68,9 @@ pub fn group_sums<V: GroupSummand, I: BitIndex>(
             }};
         }
         match Laid::of::<I>() {
-            Some(Laid::One) => by!(by_one),
-            Some(Laid::Two) => by!(by_two),
-            Some(Laid::Four) => by!(by_four),
+            Some(Laid::One) => by!(one_byte),
+            Some(Laid::Two) => by!(two_bytes),
+            Some(Laid::Four) => by!(four_bytes),
             _ => {}
         }
     }

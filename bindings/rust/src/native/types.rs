@@ -89,7 +89,7 @@ pub type GroupSum<S, C, V> = unsafe extern "C" fn(
 
 /// These calls for codes of one, two and four bytes.
 pub struct GroupSums<S, V> {
-    pub by_one: GroupSum<S, u8, V>,
-    pub by_two: GroupSum<S, u16, V>,
-    pub by_four: GroupSum<S, u32, V>,
+    pub one_byte: GroupSum<S, u8, V>,
+    pub two_bytes: GroupSum<S, u16, V>,
+    pub four_bytes: GroupSum<S, u32, V>,
 }
