@@ -88,7 +88,7 @@ returns-then-len-offset c =
       λ _. shown_none v b o n (64 - o % 8) (x.result / 2 ^ (o % 8))
           (front_shows v b o c.word_at.result x.result (digits_of_word b c.word_at.result (o / 8)
           c.word_at.ensures) c.word_at.type_inv x.ensures)
-          c.if-word-ne0.false c.if-len-offset.true,
+          c.if-word-ne0.false (omega (arith, c.if-len-offset.true)),
       λ _. refl,
     )
 
