@@ -1,5 +1,6 @@
 //! What is measured, part by part.
 
+mod aggregates;
 mod buffers;
 mod closures;
 mod compared;
@@ -58,6 +59,7 @@ pub fn measure(bench: &mut Bench) {
     made::measure(bench);
     taking::measure(bench);
     filters::measure(bench);
+    aggregates::measure(bench);
     directory::measure(bench);
     small::measure(bench);
     buffers::measure(bench);

@@ -62,6 +62,24 @@ fn by_ones(mut word: u64, mut call: impl FnMut(usize)) {
     }
 }
 
+/// Calls a closure with each value that a mask selects: all of a word of the mask whose bits are all
+/// set, else those of its ones.
+#[inline(always)]
+fn by_selected<T: Copy>(values: &[T], mask: Window, mut call: impl FnMut(usize, T)) {
+    by_words(mask.len, |at, many| {
+        let word = load(mask, at, many);
+        if word == u64::MAX {
+            for k in at..at + 64 {
+                call(k, unsafe { *values.get_unchecked(k) });
+            }
+        } else {
+            by_ones(word, |k| {
+                call(at + k, unsafe { *values.get_unchecked(at + k) });
+            });
+        }
+    });
+}
+
 /// Stores bits in their order from a bit on, behind those before it.
 struct Writer {
     to: *mut u8,
@@ -390,4 +408,52 @@ pub fn take_bits(out: &mut [u8], to: usize, from: Window, indices: &[u32]) -> bo
     });
     out.finish();
     true
+}
+
+/// The sum of the values that a mask selects, without overflow.
+#[inline(never)]
+pub fn masked_sum<T: Copy + Into<i64>>(values: &[T], mask: Window) -> i128 {
+    let mut sum = 0;
+    by_selected(values, mask, |_, value| sum += i128::from(value.into()));
+    sum
+}
+
+/// The sum of the values that a mask selects, wrapped around.
+#[inline(never)]
+pub fn masked_wrapping_sum(values: &[i64], mask: Window) -> i64 {
+    let mut sum = 0i64;
+    by_selected(values, mask, |_, value| sum = sum.wrapping_add(value));
+    sum
+}
+
+/// The least of the values that a mask selects.
+#[inline(never)]
+pub fn masked_min<T: Copy + Ord>(values: &[T], mask: Window) -> Option<T> {
+    let mut least = None;
+    by_selected(values, mask, |_, value| {
+        least = Some(least.map_or(value, |it: T| it.min(value)));
+    });
+    least
+}
+
+/// Adds the number of selected rows to the count of each code; answers whether all codes have one.
+#[inline(never)]
+pub fn group_counts(counts: &mut [u64], codes: &[u32], mask: Window) -> bool {
+    let mut good = true;
+    by_selected(codes, mask, |_, code| match counts.get_mut(code as usize) {
+        Some(count) => *count += 1,
+        None => good = false,
+    });
+    good
+}
+
+/// Adds each selected value to the sum of its code; answers whether all codes have one.
+#[inline(never)]
+pub fn group_sums(sums: &mut [i64], codes: &[u32], values: &[i64], mask: Window) -> bool {
+    let mut good = true;
+    by_selected(codes, mask, |k, code| match sums.get_mut(code as usize) {
+        Some(sum) => *sum = sum.wrapping_add(unsafe { *values.get_unchecked(k) }),
+        None => good = false,
+    });
+    good
 }

@@ -140,3 +140,67 @@ compares_with! {
     vb_compare_with_u32: u32;
     vb_compare_with_i64: i64;
 }
+
+/// A number of 128 bits, as two.
+#[repr(C)]
+pub struct Wide {
+    pub low: u64,
+    pub high: i64,
+}
+
+/// A value, or none.
+#[repr(C)]
+pub struct Optional<T> {
+    pub has_value: bool,
+    pub value: T,
+}
+
+/// What a mask selects of values, as one answer: the values, how many there are, the mask's bytes,
+/// how many these are, and its first bit.
+pub type Masked<T, A> = unsafe extern "C" fn(*const T, usize, Bytes, usize, usize) -> A;
+
+macro_rules! masked {
+    ($($name:ident: $value:ty => $answer:ty;)*) => {
+        unsafe extern "C" {
+            $(pub fn $name(
+                values: *const $value,
+                values_count: usize,
+                mask: Bytes,
+                mask_size: usize,
+                m: usize,
+            ) -> $answer;)*
+        }
+    };
+}
+
+masked! {
+    vb_masked_sum_i32: i32 => Wide;
+    vb_masked_sum_i64: i64 => Wide;
+    vb_masked_wrapping_sum_i64: i64 => i64;
+    vb_masked_min_i32: i32 => Optional<i32>;
+}
+
+unsafe extern "C" {
+    pub fn vb_group_counts_u32(
+        counts: *mut u64,
+        counts_count: usize,
+        codes: *const u32,
+        codes_count: usize,
+        all_selected: bool,
+        mask: Bytes,
+        mask_size: usize,
+        m: usize,
+    ) -> Place;
+    pub fn vb_group_sums_i64_u32(
+        sums: *mut i64,
+        sums_count: usize,
+        codes: *const u32,
+        codes_count: usize,
+        values: *const i64,
+        values_count: usize,
+        all_selected: bool,
+        mask: Bytes,
+        mask_size: usize,
+        m: usize,
+    ) -> Place;
+}
