@@ -70,11 +70,15 @@ impl Bench {
         self.times.with_those_before(&best(contenders, self.budget))
     }
 
-    /// Measures a row, once all its contenders have given the same answer. Aims are of x86-64-v2
+    /// Measures a row, once all its contenders have given the same answer. Targets are of x86-64-v2
     /// and v3; at x86-64-v4 there are some of counts alone.
     pub fn row(&mut self, row: Row) {
-        let has_aims = self.level != "x86-64-v4" || self.part == "Counts";
-        let row = if has_aims { row } else { row.without_aims() };
+        let has_targets = self.level != "x86-64-v4" || self.part == "Counts";
+        let row = if has_targets {
+            row
+        } else {
+            row.without_targets()
+        };
         if !row.has(&self.word) && !self.part.contains(&self.word) {
             return;
         }
@@ -83,9 +87,13 @@ impl Bench {
         let same = row.equals().all(|it| it.answer() == answer);
         assert!(same, "{}, {}: the answers differ", row.call(), row.input());
         let measured = row.measured(self.times_of(contenders));
-        let met = measured.aims().iter().filter(|aim| aim.is_met()).count();
+        let met = measured
+            .targets()
+            .iter()
+            .filter(|target| target.is_met())
+            .count();
         self.met += met;
-        self.missed += measured.aims().len() - met;
+        self.missed += measured.targets().len() - met;
         self.misses.push_str(&measured.misses());
         if self.parts.last().is_some_and(|(_, table)| table.is_empty()) {
             self.add(Measured::HEAD);
@@ -128,7 +136,7 @@ impl Bench {
         self.missed += !is_met as usize;
         let met = if is_met { "met" } else { "**missed**" };
         if !is_met {
-            let text = format!("- Growth of {call}: {grown:.2} (aim {GROWN}): {met}\n");
+            let text = format!("- Growth of {call}: {grown:.2} (target {GROWN}): {met}\n");
             self.misses.push_str(&text);
         }
         if self.parts.last().is_some_and(|(_, table)| table.is_empty()) {
@@ -136,7 +144,7 @@ impl Bench {
         }
         let (shown, copied) = (listed(costs), listed(copies));
         let size = grouped(first);
-        let outcome = format!("{grown:.2} (aim {GROWN}): {met}");
+        let outcome = format!("{grown:.2} (target {GROWN}): {met}");
         self.add(&format!(
             "| {call} | {size} | {shown} | {copied} | {outcome} |\n"
         ));
@@ -154,7 +162,7 @@ impl Bench {
     /// Prints the tables.
     pub fn print(self) {
         println!("## {}\n", self.level);
-        println!("{} aims met, {} missed.\n", self.met, self.missed);
+        println!("{} targets met, {} missed.\n", self.met, self.missed);
         for (part, table) in self.parts.iter().filter(|(_, table)| !table.is_empty()) {
             println!("### {part}, {}\n\n{table}", self.level);
         }

@@ -1,4 +1,4 @@
-//! A row: one call on one input, with what it is compared with and what is aimed at.
+//! A row: one call on one input, with what it is compared with and what its targets are.
 
 use std::fmt::Write;
 
@@ -15,7 +15,7 @@ pub const LOOP: &str = "loop";
 pub const ONES: &str = "a loop over ones";
 pub const PORTABLE: &str = "portable Rust";
 
-/// How far above an aim a ratio may be and count as met: a tolerance for the noise of rounds.
+/// How far above a target a ratio may be and count as met: a tolerance for the noise of rounds.
 pub const NOISE: f64 = 1.02;
 
 /// What a time is held against.
@@ -28,8 +28,8 @@ enum Over {
     NanosecondAnItem,
 }
 
-/// At most so much is aimed at.
-struct Aim {
+/// A target: at most so much.
+struct Target {
     over: Over,
     most: f64,
 }
@@ -44,7 +44,7 @@ pub struct Row<'a> {
     set: Option<f64>,
     names: Vec<&'static str>,
     contenders: Vec<Contender<'a>>,
-    aims: Vec<Aim>,
+    targets: Vec<Target>,
 }
 
 impl<'a> Row<'a> {
@@ -58,7 +58,7 @@ impl<'a> Row<'a> {
             set: None,
             names: vec!["ours"],
             contenders: vec![ours],
-            aims: Vec::new(),
+            targets: Vec::new(),
         }
     }
 
@@ -112,27 +112,27 @@ impl<'a> Row<'a> {
     /// At most so much of another contender's time.
     pub fn at_most(mut self, most: f64, other: &'static str) -> Self {
         let over = Over::Other(other);
-        self.aims.push(Aim { over, most });
+        self.targets.push(Target { over, most });
         self
     }
 
     /// At most so many nanoseconds.
     pub fn at_most_ns(mut self, most: f64) -> Self {
         let over = Over::Nanosecond;
-        self.aims.push(Aim { over, most });
+        self.targets.push(Target { over, most });
         self
     }
 
     /// At most so many nanoseconds an item.
     pub fn at_most_ns_an_item(mut self, most: f64) -> Self {
         let over = Over::NanosecondAnItem;
-        self.aims.push(Aim { over, most });
+        self.targets.push(Target { over, most });
         self
     }
 
-    /// The same row, of which nothing is aimed at.
-    pub fn without_aims(mut self) -> Self {
-        self.aims.clear();
+    /// The same row, without targets.
+    pub fn without_targets(mut self) -> Self {
+        self.targets.clear();
         self
     }
 
@@ -177,7 +177,10 @@ impl<'a> Row<'a> {
 
     /// The row with its times.
     pub fn measured(&self, times: Vec<Placed>) -> Measured {
-        let aims = self.aims.iter().filter_map(|aim| self.outcome(aim, &times));
+        let targets = self
+            .targets
+            .iter()
+            .filter_map(|target| self.outcome(target, &times));
         Measured {
             call: self.call.clone(),
             input: self.input(),
@@ -186,14 +189,14 @@ impl<'a> Row<'a> {
             offsets: self.offsets.clone(),
             set: self.set,
             names: self.names.clone(),
-            aims: aims.collect(),
+            targets: targets.collect(),
             times,
         }
     }
 
-    /// What came of an aim, unless its other contender isn't there.
-    fn outcome(&self, aim: &Aim, times: &[Placed]) -> Option<Outcome> {
-        let (over, reached) = match aim.over {
+    /// What came of a target, unless its other contender isn't there.
+    fn outcome(&self, target: &Target, times: &[Placed]) -> Option<Outcome> {
+        let (over, reached) = match target.over {
             Over::Other(name) => {
                 let other = self.names.iter().position(|it| *it == name)?;
                 (format!("of {name}"), times[0].over(&times[other]))
@@ -206,13 +209,13 @@ impl<'a> Row<'a> {
         };
         Some(Outcome {
             over,
-            most: aim.most,
+            most: target.most,
             reached,
         })
     }
 }
 
-/// What was aimed at, and what was reached.
+/// A target, and what was reached.
 pub struct Outcome {
     over: String,
     most: f64,
@@ -228,7 +231,7 @@ impl Outcome {
     fn text(&self) -> String {
         let met = if self.is_met() { "met" } else { "**missed**" };
         format!(
-            "{:.2} {} (aim {:.2}): {met}",
+            "{:.2} {} (target {:.2}): {met}",
             self.reached, self.over, self.most
         )
     }
@@ -244,16 +247,16 @@ pub struct Measured {
     set: Option<f64>,
     names: Vec<&'static str>,
     times: Vec<Placed>,
-    aims: Vec<Outcome>,
+    targets: Vec<Outcome>,
 }
 
 impl Measured {
     pub const HEAD: &'static str = "| call | input | ours, ns, least to greatest | upstream | \
-        Rust loop | beside | aims |\n\
+        Rust loop | beside | targets |\n\
         |---|---|---|---|---|---|---|\n";
 
-    pub fn aims(&self) -> &[Outcome] {
-        &self.aims
+    pub fn targets(&self) -> &[Outcome] {
+        &self.targets
     }
 
     /// A line of a table in Markdown: our time, with the least and the greatest of all placements,
@@ -270,7 +273,7 @@ impl Measured {
         let beside: Vec<_> = beside
             .map(|(it, time)| format!("{it} {}", cell(time)))
             .collect();
-        let aims: Vec<_> = self.aims.iter().map(Outcome::text).collect();
+        let targets: Vec<_> = self.targets.iter().map(Outcome::text).collect();
         let [least, greatest] = ours.range();
         format!(
             "| {} | {} | {}, {} to {} | {} | {} | {} | {} |\n",
@@ -282,15 +285,15 @@ impl Measured {
             of(UPSTREAM),
             of(LOOP),
             beside.join(", "),
-            aims.join("; "),
+            targets.join("; "),
         )
     }
 
-    /// A line on each aim that is missed.
+    /// A line on each target that is missed.
     pub fn misses(&self) -> String {
         let mut lines = String::new();
-        for aim in self.aims.iter().filter(|aim| !aim.is_met()) {
-            let (call, input, text) = (&self.call, &self.input, aim.text());
+        for target in self.targets.iter().filter(|target| !target.is_met()) {
+            let (call, input, text) = (&self.call, &self.input, target.text());
             writeln!(lines, "- {call}, {input}: {text}").expect("a string takes all");
         }
         lines
@@ -313,18 +316,19 @@ impl Measured {
         row.object("ns", times);
         let range = self.times[0].range();
         row.list("ours_from_to", range.iter().map(f64::to_string));
-        row.list("aims", self.aims.iter().map(Outcome::json));
+        row.list("targets", self.targets.iter().map(Outcome::json));
         row.line()
     }
 }
 
 impl Outcome {
     fn json(&self) -> String {
-        let mut aim = Object::default();
-        aim.text("over", &self.over)
+        let mut target = Object::default();
+        target
+            .text("over", &self.over)
             .number("at_most", Some(self.most));
-        aim.number("is", Some(self.reached));
-        aim.line()
+        target.number("is", Some(self.reached));
+        target.line()
     }
 }
 

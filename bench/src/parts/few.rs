@@ -93,14 +93,18 @@ pub fn measure(bench: &mut Bench) {
                 outs: RefCell::new(Outs::new(len)),
             };
             for row in rows(&case) {
-                let has_aim = bench.level == "x86-64-v2" || !PACKED.contains(&row.call());
+                let has_target = bench.level == "x86-64-v2" || !PACKED.contains(&row.call());
                 let shown = if case.to == 0 {
                     &offsets[..1]
                 } else {
                     &offsets
                 };
                 let row = row.offsets(shown);
-                bench.row(if has_aim { row.at_most(1.0, LOOP) } else { row });
+                bench.row(if has_target {
+                    row.at_most(1.0, LOOP)
+                } else {
+                    row
+                });
             }
         }
     }
