@@ -1,4 +1,5 @@
 """Tests tools/vendor into folders that are empty, copied to before, or changed by hand."""
+import os
 import subprocess
 import tempfile
 import unittest
@@ -16,9 +17,10 @@ class Vendor(unittest.TestCase):
     def tearDown(self):
         self.folder.cleanup()
 
-    def vendor(self) -> tuple[int, str]:
+    def vendor(self, **environment: str) -> tuple[int, str]:
         """Returns the status and standard error."""
-        ended = subprocess.run([COMMAND, self.top], capture_output=True, text=True)
+        ended = subprocess.run([COMMAND, self.top], capture_output=True, text=True,
+                               env=os.environ | environment)
         return ended.returncode, ended.stderr
 
     def test_crates_and_their_lines_are_copied(self):
@@ -53,6 +55,13 @@ class Vendor(unittest.TestCase):
         refused = "vendor: crates/vb_bits is there, and no earlier copy brought it\n"
         self.assertEqual(self.vendor(), (1, refused))
         self.assertFalse((self.top / "crates/vb_core").exists())
+
+    def test_without_a_repository_nothing_is_written(self):
+        top = COMMAND.parent.parent
+        # As in an unpacked archive: git sees no repository above this folder.
+        refused = f"vendor: git can't tell the commit of {top}\n"
+        self.assertEqual(self.vendor(GIT_DIR="/nonexistent"), (1, refused))
+        self.assertEqual(list(self.top.iterdir()), [])
 
 
 if __name__ == "__main__":
