@@ -227,6 +227,33 @@ fn a_file_as_standard_input() {
     assert_eq!(output.stdout, b"count(*)\n120\n");
 }
 
+/// The file has more bytes than the program may have of memory.
+#[test]
+#[cfg(target_os = "linux")]
+fn memory_does_not_grow_with_the_file() {
+    let folder = Folder::new("large");
+    let note = "n".repeat(200);
+    let rows: Vec<String> = (0..200_000)
+        .map(|row: u32| format!("{row},{note}\n"))
+        .collect();
+    let file = folder.file("large.csv", format!("number,note\n{}", rows.concat()));
+    let output = Command::new("sh")
+        .args(["-c", "ulimit -v 32768 && exec \"$0\" \"$@\""])
+        .args([env!("CARGO_BIN_EXE_query").as_ref(), file.as_os_str()])
+        .args([
+            "--where",
+            "number < 150000",
+            "--select",
+            "count(*), min(note)",
+        ])
+        .output()
+        .unwrap();
+    let errors = String::from_utf8_lossy(&output.stderr);
+    assert_eq!(output.status.code(), Some(0), "{errors}");
+    let printed = format!("count(*),min(note)\n150000,{note}\n");
+    assert_eq!(String::from_utf8(output.stdout).unwrap(), printed);
+}
+
 /// A histogram of the whole column's range would have one bar.
 #[test]
 fn a_histogram_of_few_values_has_their_range() {
