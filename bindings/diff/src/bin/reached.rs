@@ -87,10 +87,19 @@ const ROWS: &[Row] = &[
     ("masked_float_max", NEVER, |n| _ = values::masked_float_max(&vec![1.0; n], left(n))),
     ("group_counts", 17, |n| values::group_counts(&mut [0], &indices(n), left(n))),
     ("group_sums", 17, |n| values::group_sums(&mut [0], &indices(n), &vec![1i8; n], left(n))),
+    ("group_counts of wide codes", NEVER, |n| {
+        values::group_counts(&mut [0], &vec![0u64; n], left(n));
+    }),
+    ("Ranked", 1, |n| _ = Bitmap::new(BYTES.to_vec(), 3, n).ranked()),
     ("Ranks::new", 1, |n| _ = Ranks::new(left(n), &mut [0; 9])),
     ("rank", 1, |n| _ = Ranks::with_table(left(n), &[0; 9]).rank(1)),
     ("Ranks::select", 1, |n| _ = Ranks::with_table(left(n), &[0; 9]).select(0)),
     ("filter of values", 65, |n| _ = values::filter(&vec![1u8; n], left(n))),
+    ("filter of values at odd addresses", NEVER, |n| {
+        // An allocation of bytes begins at an even address.
+        let bytes = vec![1u8; 2 * n + 1];
+        _ = values::filter(bytes[1..].as_chunks::<2>().0, left(n));
+    }),
     ("scatter of values", 65, |n| _ = left(n).scatter_into(&[1u8; MOST], &mut [2; MOST][..n])),
     ("take of values", 17, |n| _ = values::take(&vec![1i64; n], &indices(n))),
     ("take of wide values", NEVER, |n| _ = values::take(&vec![[1u64; 3]; n], &indices(n))),
