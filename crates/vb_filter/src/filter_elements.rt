@@ -8,10 +8,10 @@ ghost use Rattle.vb_bits.specs.Kept.{kept_by};
 ghost use Rattle.vb_filter.specs.Gathered.{PutsAt};
 ghost use Rattle.vb_view.specs.View.{bits_of};
 
-use crate::filter_values::{put_places, put_word};
+use crate::filter_values::{PutWord, filter_words, put_places, put_word};
 use std::simd::prelude::*;
 use vb_core::Element;
-use vb_view::{BitBufferView, view_word};
+use vb_view::BitBufferView;
 
 /// For each mask of four elements, the numbers of the bytes that it selects from their 16, and then
 /// 0.
@@ -55,38 +55,24 @@ pub fn filter_elements_into<T: Element>(
     ensures count { result ≡ count (bits_of mask.entry) }
     ensures kept { out.new ≡ kept_by (bits_of mask.entry) values.now ++ drop result out.old }
 {
-    let whole = mask.len() / 64;
-    let mut len = 0;
-    for t in 0..whole {
-        let keep = view_word(mask, 64 * t, 64);
-        len += put_elements(out, len, &values[64 * t..64 * t + 64], keep);
-    }
-    let n = mask.len() % 64;
-    if n == 0 {
-        return len;
-    }
-    let keep = view_word(mask, 64 * whole, n);
-    len + put_word(out, len, &values[64 * whole..64 * whole + n], keep)
+    filter_words::<T, ByFours>(out, values, mask)
 }
 
-/// Writes those of 64 elements whose bit of `keep` is 1 after the first `len` items of `out`, and
-/// returns their number.
-#[inline(always)]
-fn put_elements<T: Element>(out: &mut [T], len: usize, values: &[T], keep: u64) -> usize
-    requires long { length values.now ≡ 64 }
-    requires room { len + count_ones keep ≤ length out.old }
-    ensures count { result ≡ count_ones keep }
-    ensures kept { PutsAt len (kept_by (digits keep 0 (length values.now)) values.now)
-        out.old out.new }
-{
-    if T::SIZE == 4 {
-        put_of_four_bytes(out, len, values, keep)
-    } else {
-        put_word(out, len, values, keep)
+/// Four elements of four bytes at once.
+struct ByFours;
+
+impl<T: Element> PutWord<T> for ByFours {
+    #[inline(always)]
+    fn put_word(out: &mut [T], len: usize, values: &[T], keep: u64) -> usize {
+        if T::SIZE == 4 && values.len() == 64 {
+            put_of_four_bytes(out, len, values, keep)
+        } else {
+            put_word(out, len, values, keep)
+        }
     }
 }
 
-/// Does [`put_elements`] for elements of four bytes each.
+/// Does [`put_word`] for 64 elements of four bytes each.
 #[inline(always)]
 fn put_of_four_bytes<T: Element>(out: &mut [T], len: usize, values: &[T], keep: u64) -> usize
     requires size { T.SIZE ≡ 4 }

@@ -20,18 +20,57 @@ pub fn filter_values_into<T: Copy>(out: &mut [T], values: &[T], mask: BitBufferV
     ensures count { result ≡ count (bits_of mask.entry) }
     ensures kept { out.new ≡ kept_by (bits_of mask.entry) values.now ++ drop result out.old }
 {
+    filter_words::<T, OneByOne>(out, values, mask)
+}
+
+/// A way to write the selected ones of at most 64 values. Each way is a type, so that it has its
+/// own loop.
+pub(crate) trait PutWord<T> {
+    /// Writes the values whose bit of `keep` is 1 after the first `len` items of `out`, and returns
+    /// their number.
+    fn put_word(out: &mut [T], len: usize, values: &[T], keep: u64) -> usize
+        requires few { length values.now ≤ 64 }
+        requires clear { keep < 2 ^ length values.now }
+        requires room { len + count_ones keep ≤ length out.old }
+        ensures count { result ≡ count_ones keep }
+        ensures kept { PutsAt len (kept_by (digits keep 0 (length values.now)) values.now)
+            out.old out.new };
+}
+
+/// [`put_word`].
+struct OneByOne;
+
+impl<T: Copy> PutWord<T> for OneByOne {
+    #[inline(always)]
+    fn put_word(out: &mut [T], len: usize, values: &[T], keep: u64) -> usize {
+        put_word(out, len, values, keep)
+    }
+}
+
+/// Does [`filter_values_into`], by the way `W`.
+#[inline(always)]
+pub(crate) fn filter_words<T: Copy, W: PutWord<T>>(
+    out: &mut [T],
+    values: &[T],
+    mask: BitBufferView<'_>,
+) -> usize
+    requires same_len { length values.now ≡ length (bits_of mask) }
+    requires room { count (bits_of mask) ≤ length out.old }
+    ensures count { result ≡ count (bits_of mask.entry) }
+    ensures kept { out.new ≡ kept_by (bits_of mask.entry) values.now ++ drop result out.old }
+{
     let whole = mask.len() / 64;
     let mut len = 0;
     for t in 0..whole {
         let keep = view_word(mask, 64 * t, 64);
-        len += put_word(out, len, &values[64 * t..64 * t + 64], keep);
+        len += W::put_word(out, len, &values[64 * t..64 * t + 64], keep);
     }
     let n = mask.len() % 64;
     if n == 0 {
         return len;
     }
     let keep = view_word(mask, 64 * whole, n);
-    len + put_word(out, len, &values[64 * whole..64 * whole + n], keep)
+    len + W::put_word(out, len, &values[64 * whole..64 * whole + n], keep)
 }
 
 /// Writes the values whose bit of `keep` is 1 after the first `len` items of `out`, and returns

@@ -2,7 +2,7 @@ use Rattle.std.proofs.Common.{◌/◌, ◌%◌, arith}
 use Rattle.vb_view.specs.View.{bits_of}
 use Rattle.vb_filter.proofs.FrontLemmas.{front_none, front_all, front_room, front_fits}
 use Rattle.vb_filter.proofs.FrontLemmas.{front_more, last_room, last_fits, front_last}
-use Rattle.vb_filter.proofs.filter_values.filter_values_into.Goals as goal
+use Rattle.vb_filter.proofs.filter_values.filter_words.Goals as goal
 
 pub loop-t-init : goal.loop-t-init
 loop-t-init g c = front_none (bits_of c.args.mask) c.args.values.now c.args.out.now

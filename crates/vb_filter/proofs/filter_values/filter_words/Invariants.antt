@@ -1,6 +1,6 @@
 use Rattle.vb_view.specs.View.{bits_of}
 use Rattle.vb_filter.proofs.FrontLemmas.{FrontKept}
-use Rattle.vb_filter.proofs.filter_elements.filter_elements_into.Given as goal
+use Rattle.vb_filter.proofs.filter_values.filter_words.Given as goal
 
 -- the values of the words so far are in front
 abbrev pub invariant-loop-t : goal.invariant-loop-t
