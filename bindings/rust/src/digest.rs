@@ -4,6 +4,6 @@
 /// What tools/digest prints; tools/write-lists writes it here.
 macro_rules! digest {
     () => {
-        "3fd2a20005cf35e0e75dd91a68dcf8cf4832e430694776894f30a0c131d02120"
+        "2cc95fc86be2e19ceda2d7e536443bb8d5a359410b94b2d2beab2b758e165267"
     };
 }

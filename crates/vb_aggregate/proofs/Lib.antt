@@ -3,5 +3,4 @@ mod FirstLemmas
 pub mod OnesLemmas
 mod SumsLemmas
 mod TypesLemmas
-pub mod WordOnes
 pub mod WordsLemmas

@@ -11,8 +11,8 @@ use Rattle.vb_bits.specs.Digits.{digits}
 use Rattle.vb_bits.specs.Kept.{kept_by}
 use Rattle.vb_bits.proofs.BitsLemmas.{count-le}
 use Rattle.vb_bits.proofs.DigitsLemmas.{length-digits, count-digits_below}
-use Rattle.vb_aggregate.proofs.WordOnes.{ones, ones_none, ones_first, length-ones, map-ones}
-use Rattle.vb_aggregate.proofs.WordOnes.{length-kept_by_ones, kept_all}
+use Rattle.vb_walk.proofs.WordOnes.{ones, ones_none, ones_first, length-ones, map-ones}
+use Rattle.vb_walk.proofs.WordOnes.{length-kept_by_ones, kept_all}
 
 -- no values, whatever the bits
 kept_nil : {T : Type 0} (bits : List Bool) → kept_by {T = T} bits [] ≡ []

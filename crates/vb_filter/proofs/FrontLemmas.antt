@@ -9,7 +9,8 @@ use Rattle.vb_bits.specs.Kept.{kept_by}
 use Rattle.vb_bits.proofs.BitsLemmas.{count-le}
 use Rattle.vb_filter.specs.Gathered.{PutsAt}
 use Rattle.vb_filter.proofs.FilteredBits.{WordKept, same_fronts, word-kept_by, ones-of}
-use Rattle.vb_filter.proofs.GatherLemmas.{length-kept_by_any, puts-add, puts_none, puts_front}
+use Rattle.vb_filter.proofs.GatherLemmas.{puts-add, puts_none, puts_front}
+use Rattle.vb_walk.proofs.WordOnes.{length-kept_by_any}
 
 -- the values that the first t words select are in front, and number len
 pub record FrontKept {T : Type 0} (mask : List Bool) (values : List T) (t len : ℕ)

@@ -9,7 +9,7 @@ use Rattle.vb_bits.specs.Digits.{has_bit, digits}
 use Rattle.vb_bits.specs.Kept.{kept_by}
 use Rattle.vb_bits.proofs.BitsLemmas.{count-le}
 use Rattle.vb_bits.proofs.DigitsLemmas.{length-digits, at-digits}
-use Rattle.vb_filter.proofs.GatherLemmas.{ones, ones_none, ones_first, map-ones}
+use Rattle.vb_walk.proofs.WordOnes.{ones, ones_none, ones_first, map-ones}
 use Rattle.vb_walk.proofs.OnesLemmas.{lowest_below}
 use Rattle.vb_filter.proofs.PackedDigits.{kept_digits, length-kept_digits}
 

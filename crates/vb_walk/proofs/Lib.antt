@@ -7,3 +7,4 @@ pub mod OnesLemmas
 pub mod RunsInLemmas
 pub mod TakenRunLemmas
 pub mod BitsToCome
+pub mod WordOnes

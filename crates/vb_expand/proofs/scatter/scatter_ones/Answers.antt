@@ -6,7 +6,7 @@ use Rattle.std.specs.Int.Bits.{bit_and}
 use Rattle.std.proofs.lemmas.Nat.{and_le_l}
 use Rattle.vb_bits.specs.Digits.{digits}
 use Rattle.vb_bits.proofs.DigitsLemmas.{length-digits}
-use Rattle.vb_filter.proofs.GatherLemmas.{ones, ones_none, ones_first, length-ones}
+use Rattle.vb_walk.proofs.WordOnes.{ones, ones_none, ones_first, length-ones}
 use Rattle.vb_walk.proofs.OnesLemmas.{lowest_below}
 use Rattle.vb_walk.proofs.PlacesLemmas.{places-digits}
 use Rattle.vb_expand.proofs.ScatterLemmas.{put_at, put_at-places}

@@ -1,5 +1,5 @@
 use Rattle.std.proofs.Common.{◌≡◌, ◌+◌, ◌^◌, ◌<◌, length, drop}
-use Rattle.vb_filter.proofs.GatherLemmas.{ones}
+use Rattle.vb_walk.proofs.WordOnes.{ones}
 use Rattle.vb_expand.proofs.ScatterLemmas.{put_at}
 use Rattle.vb_expand.proofs.scatter.scatter_ones.Given as goal
 

@@ -3,7 +3,7 @@ use Rattle.std.specs.Prelude.{count_ones}
 use Rattle.vb_bits.specs.Digits.{digits}
 use Rattle.vb_bits.specs.Kept.{kept_by}
 use Rattle.vb_bits.proofs.DigitsLemmas.{length-digits, count-digits_below}
-use Rattle.vb_filter.proofs.GatherLemmas.{length-kept_by_any}
+use Rattle.vb_walk.proofs.WordOnes.{length-kept_by_any}
 use Rattle.vb_filter.proofs.ElementsLemmas.{before_four, from_four, four_there}
 use Rattle.vb_filter.proofs.filter_elements.put_fours.Goals as goal
 

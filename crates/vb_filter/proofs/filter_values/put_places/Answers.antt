@@ -5,7 +5,7 @@ use Rattle.std.specs.Int.Bits.{bit_and}
 use Rattle.std.proofs.lemmas.List.{take_more_set, drop-set-lt, drop-drop, get_or_default}
 use Rattle.std.proofs.lemmas.List.{append-nil}
 use Rattle.std.proofs.lemmas.Nat.{and_le_l}
-use Rattle.vb_filter.proofs.GatherLemmas.{ones, ones_none, ones_first, length-ones}
+use Rattle.vb_walk.proofs.WordOnes.{ones, ones_none, ones_first, length-ones}
 use Rattle.vb_walk.proofs.OnesLemmas.{lowest_below}
 use Rattle.vb_filter.proofs.GatherLemmas.{puts_ones}
 use Rattle.vb_filter.proofs.filter_values.put_places.Goals as goal

@@ -1,5 +1,5 @@
 use Rattle.std.proofs.Common.{◌≡◌, ◌+◌, ◌^◌, ◌<◌, ◌++◌, length, map, get_or, take, drop}
-use Rattle.vb_filter.proofs.GatherLemmas.{ones}
+use Rattle.vb_walk.proofs.WordOnes.{ones}
 use Rattle.vb_filter.proofs.filter_values.put_places.Given as goal
 
 -- the values so far, and those at the ones that are left

@@ -3,7 +3,7 @@ use Rattle.std.proofs.lemmas.Slice.{take-put_mid, drop-put_mid}
 use Rattle.vb_bits.specs.Digits.{digits}
 use Rattle.vb_bits.specs.Kept.{kept_by}
 use Rattle.vb_bits.proofs.DigitsLemmas.{length-digits, count-digits_below}
-use Rattle.vb_filter.proofs.GatherLemmas.{kept_all}
+use Rattle.vb_walk.proofs.WordOnes.{kept_all}
 use Rattle.vb_filter.proofs.filter_values.put_word.Goals as goal
 
 pub returns-then-count-values-clause-kept : goal.returns-then-count-values-clause-kept

@@ -4,7 +4,7 @@ use Rattle.vb_bits.specs.Bits.{count}
 use Rattle.vb_bits.specs.Kept.{kept_by}
 use Rattle.vb_mem.specs.SharedBuffer.{ShowsMade}
 use Rattle.vb_view.specs.View.{bits_of}
-use Rattle.vb_filter.proofs.GatherLemmas.{kept_all}
+use Rattle.vb_walk.proofs.WordOnes.{kept_all}
 use Rattle.vb_gather.proofs.filter.BufferFilter.filtered.Goals as goal
 
 pub returns-then-count-items : goal.returns-then-count-items
