@@ -1,4 +1,4 @@
-use Rattle.std.proofs.Common.{ap, sym, ◌∙◌, arith}
+use Rattle.std.proofs.Common.{ap, arith}
 use Rattle.vb_bits.specs.Bits.{count}
 use Rattle.vb_bits.proofs.DigitsLemmas.{count-digits_below}
 use Rattle.vb_count.proofs.count.count_few.Goals as goal
