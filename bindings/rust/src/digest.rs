@@ -4,6 +4,6 @@
 /// What tools/digest prints; tools/write-lists writes it here.
 macro_rules! digest {
     () => {
-        "827952fa4c811fed85a90ee3a57611fb0b3010a8eefbb1a4dd44e83f367e7c9a"
+        "88a255a83730b5fadb1a107e80ed231daaa1cdbb3e729acc7c85cf19094a48e7"
     };
 }
