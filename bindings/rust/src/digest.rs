@@ -4,6 +4,6 @@
 /// What tools/digest prints; tools/write-lists writes it here.
 macro_rules! digest {
     () => {
-        "2cc95fc86be2e19ceda2d7e536443bb8d5a359410b94b2d2beab2b758e165267"
+        "183685fb00d9059909c401fa9d5a9c0f4b37455ef958e0479827af1f257b6e8a"
     };
 }

@@ -1,7 +1,7 @@
 use Rattle.std.proofs.Common.{Some, ap, arith, subst}
 use Rattle.vb_bits.specs.Bits.{count, Selects}
 use Rattle.vb_bits.proofs.DigitsLemmas.{count-digits_below}
-use Rattle.vb_select.proofs.unit.U8Unit.select.Goals as goal
+use Rattle.vb_select.proofs.unit.U8Searchable.select.Goals as goal
 
 pub select_in_byte-requires : goal.select_in_byte-requires
 select_in_byte-requires c =

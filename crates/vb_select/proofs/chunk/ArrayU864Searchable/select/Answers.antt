@@ -2,7 +2,7 @@ use Rattle.std.proofs.Common.{◌≡◌, ◌<◌, List, ℕ, Some, take, sym, su
 use Rattle.std.proofs.lemmas.List.{take_all}
 use Rattle.vb_bits.specs.Bits.{bits, count, Selects}
 use Rattle.vb_count.specs.Hits.{hits}
-use Rattle.vb_select.proofs.chunk.ArrayU864Unit.select.Goals as goal
+use Rattle.vb_select.proofs.chunk.ArrayU864Searchable.select.Goals as goal
 
 pub select_in_chunk-requires : goal.select_in_chunk-requires
 select_in_chunk-requires c =
