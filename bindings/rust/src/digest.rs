@@ -4,6 +4,6 @@
 /// What tools/digest prints; tools/write-lists writes it here.
 macro_rules! digest {
     () => {
-        "3fd2a20005cf35e0e75dd91a68dcf8cf4832e430694776894f30a0c131d02120"
+        "9f5e857905ff2e3386b7fcf8be30d4b4d1b719512cec4f6a207b350cc88f2c12"
     };
 }
