@@ -4,6 +4,6 @@
 /// What tools/digest prints; tools/write-lists writes it here.
 macro_rules! digest {
     () => {
-        "9f5e857905ff2e3386b7fcf8be30d4b4d1b719512cec4f6a207b350cc88f2c12"
+        "8805f08995428f4978f6d03679e75b6b25dd616664e69db47a0c38ec999baf4f"
     };
 }
