@@ -4,6 +4,6 @@
 /// What tools/digest prints; tools/write-lists writes it here.
 macro_rules! digest {
     () => {
-        "183685fb00d9059909c401fa9d5a9c0f4b37455ef958e0479827af1f257b6e8a"
+        "94ddb8dea95cc356829016fff41218c2b8e4996b35556bd98d8f1f1f62020401"
     };
 }

@@ -4,7 +4,7 @@ use Rattle.vb_bits.specs.Writes.{Writes}
 use Rattle.vb_view.specs.View.{bits_of}
 use Rattle.vb_filter.specs.Pending.{first_bits}
 use Rattle.vb_filter.specs.Spread.{spread_by}
-use Rattle.vb_filter.proofs.deposit.deposit_into.Given as goal
+use Rattle.vb_filter.proofs.deposit.deposit_many.Given as goal
 
 -- the bits of the words so far are after the bits before the window
 abbrev pub invariant-loop-t : goal.invariant-loop-t
