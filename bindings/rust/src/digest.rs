@@ -4,6 +4,6 @@
 /// What tools/digest prints; tools/write-lists writes it here.
 macro_rules! digest {
     () => {
-        "3fd2a20005cf35e0e75dd91a68dcf8cf4832e430694776894f30a0c131d02120"
+        "0fdf18f6b16110de0114747561bf6e814aeabcbcd64860c6f29a83170c3e31dc"
     };
 }

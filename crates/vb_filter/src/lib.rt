@@ -12,6 +12,7 @@ mod filter;
 mod filter_elements;
 mod filter_values;
 mod pending;
+mod retain;
 mod spread;
 mod spread_table;
 
@@ -19,3 +20,4 @@ pub use deposit::deposit_into;
 pub use filter::{filter_into, filter_into_at};
 pub use filter_elements::filter_elements_into;
 pub use filter_values::filter_values_into;
+pub use retain::retain_values;

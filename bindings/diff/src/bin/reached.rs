@@ -91,6 +91,7 @@ const ROWS: &[Row] = &[
     ("rank", 1, |n| _ = Ranks::with_table(left(n), &[0; 9]).rank(1)),
     ("Ranks::select", 1, |n| _ = Ranks::with_table(left(n), &[0; 9]).select(0)),
     ("filter of values", 65, |n| _ = values::filter(&vec![1u8; n], left(n))),
+    ("retain of values", 65, |n| _ = values::retain(&mut [1u8; MOST][..n], left(n))),
     ("scatter of values", 65, |n| _ = left(n).scatter_into(&[1u8; MOST], &mut [2; MOST][..n])),
     ("take of values", 17, |n| _ = values::take(&vec![1i64; n], &indices(n))),
     ("take of wide values", NEVER, |n| _ = values::take(&vec![[1u64; 3]; n], &indices(n))),
