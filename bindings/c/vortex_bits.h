@@ -294,7 +294,7 @@ VB_CHECKED bool vb_try_is_subset(const uint8_t *left, size_t left_size, size_t l
 /*
  * Writes the indices of the set bits, in ascending order, to the front of `out`, up to its
  * capacity, and returns the number written (`written`). Reads no page of memory after that of the
- * last one for which there is capacity.
+ * last one for which there is capacity. It is faster if there is capacity for each bit.
  *
  *     const uint8_t rows[] = {0xE8, 0x06};
  *     size_t places[4];

@@ -4,6 +4,6 @@
 /// What tools/digest prints; tools/write-lists writes it here.
 macro_rules! digest {
     () => {
-        "0fdf18f6b16110de0114747561bf6e814aeabcbcd64860c6f29a83170c3e31dc"
+        "6b9d0ffe88930cbaa0602b7f0dc2ace0fe1432c3d9f2c1bb4a4b3b6044bec451"
     };
 }
