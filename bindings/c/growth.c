@@ -81,6 +81,8 @@ static size_t size;
 #define FILTER(name, type)                                                                        \
     ROW(filter_values_##name, vb_filter_values_##name((type *)written, n, (const type *)values,   \
         n, WINDOW(mixed, LEFT)))
+#define RETAIN(name, type)                                                                        \
+    ROW(retain_values_##name, vb_retain_values_##name((type *)written, n, WINDOW(mixed, LEFT)))
 #define AGGREGATE(name, type)                                                                     \
     ROW(masked_sum_##name, vb_masked_sum_##name((const type *)values, n, WINDOW(mixed, LEFT)).low) \
     ROW(masked_checked_sum_##name,                                                                \
@@ -194,6 +196,12 @@ FILTER(u16, uint16_t)
 FILTER(u32, uint32_t)
 FILTER(u64, uint64_t)
 FILTER(u128, vb_u128)
+RETAIN(u8, uint8_t)
+RETAIN(u16, uint16_t)
+RETAIN(u32, uint32_t)
+RETAIN(u64, uint64_t)
+RETAIN(u128, vb_u128)
+ROW(retain_values, vb_retain_values(written, n, 4, WINDOW(mixed, LEFT)))
 ROW(filter_values, vb_filter_values(written, n, values, n, 4, WINDOW(mixed, LEFT)))
 AGGREGATE(u8, uint8_t)
 AGGREGATE(u16, uint16_t)
@@ -257,7 +265,9 @@ static const row rows[] = {
     OF_COMPARE(u16) OF_COMPARE(u32) OF_COMPARE(u64) OF_COMPARE(i8) OF_COMPARE(i16)
     OF_COMPARE(i32) OF_COMPARE(i64) OF_COMPARE(f32) OF_COMPARE(f64)
     OF(filter_values_u8) OF(filter_values_u16) OF(filter_values_u32) OF(filter_values_u64)
-    OF(filter_values_u128) OF(filter_values) OF(scatter_values_u8) OF(scatter_values_u16)
+    OF(filter_values_u128) OF(filter_values) OF(retain_values_u8) OF(retain_values_u16)
+    OF(retain_values_u32) OF(retain_values_u64) OF(retain_values_u128) OF(retain_values)
+    OF(scatter_values_u8) OF(scatter_values_u16)
     OF(scatter_values_u32) OF(scatter_values_u64) OF(scatter_values_u128) OF(scatter_values)
     OF_AGGREGATE(u8) OF_AGGREGATE(u16) OF_AGGREGATE(u32) OF_AGGREGATE(u64) OF_AGGREGATE(i8)
     OF_AGGREGATE(i16) OF_AGGREGATE(i32) OF_AGGREGATE(i64) OF_GROUP(u8) OF_GROUP(u16)

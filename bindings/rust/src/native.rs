@@ -414,6 +414,16 @@ kernels! {
         mask: *const u8, mask_size: usize, mask_offset: usize) -> usize;
     filter_values_u128(out: *mut Wide, out_count: usize, values: *const Wide, values_count: usize,
         mask: *const u8, mask_size: usize, mask_offset: usize) -> usize;
+    retain_values_u8(values: *mut u8, values_count: usize, mask: *const u8, mask_size: usize,
+        mask_offset: usize) -> usize;
+    retain_values_u16(values: *mut u16, values_count: usize, mask: *const u8, mask_size: usize,
+        mask_offset: usize) -> usize;
+    retain_values_u32(values: *mut u32, values_count: usize, mask: *const u8, mask_size: usize,
+        mask_offset: usize) -> usize;
+    retain_values_u64(values: *mut u64, values_count: usize, mask: *const u8, mask_size: usize,
+        mask_offset: usize) -> usize;
+    retain_values_u128(values: *mut Wide, values_count: usize, mask: *const u8, mask_size: usize,
+        mask_offset: usize) -> usize;
     scatter_values_u8(out: *mut u8, out_count: usize, values: *const u8, values_count: usize,
         mask: *const u8, mask_size: usize, mask_offset: usize) -> usize;
     scatter_values_u16(out: *mut u16, out_count: usize, values: *const u16, values_count: usize,

@@ -100,6 +100,7 @@ const ROWS: &[Row] = &[
         let bytes = vec![1u8; 2 * n + 1];
         _ = values::filter(bytes[1..].as_chunks::<2>().0, left(n));
     }),
+    ("retain of values", 65, |n| _ = values::retain(&mut [1u8; MOST][..n], left(n))),
     ("scatter of values", 65, |n| _ = left(n).scatter_into(&[1u8; MOST], &mut [2; MOST][..n])),
     ("take of values", 17, |n| _ = values::take(&vec![1i64; n], &indices(n))),
     ("take of wide values", NEVER, |n| _ = values::take(&vec![[1u64; 3]; n], &indices(n))),

@@ -1,4 +1,5 @@
-//! Filters bits and values by a mask, and scatters them to the indices of a mask's set bits.
+//! Filters bits and values by a mask, values also in place, and scatters them to the indices of a
+//! mask's set bits.
 
 use super::word::{only_word, words};
 use crate::Bits;
@@ -70,6 +71,27 @@ fn write_kept<T: Copy>(out: &mut [T], values: &[T], mask: u64) -> usize {
         out[at] = values[left.trailing_zeros() as usize];
         at += 1;
         left &= left - 1;
+    }
+    at
+}
+
+/// Moves the values that `mask` selects to the front, and returns their number. The values from
+/// that index on are unchanged. There is one value per bit of `mask`.
+#[inline]
+pub fn retain<T: Copy>(values: &mut [T], mask: Bits<'_>) -> usize {
+    let mut at = 0;
+    for (i, mask) in words(mask).enumerate() {
+        if mask == u64::MAX {
+            values.copy_within(64 * i..64 * i + 64, at);
+            at += 64;
+            continue;
+        }
+        let mut left = mask;
+        while left != 0 {
+            values[at] = values[64 * i + left.trailing_zeros() as usize];
+            at += 1;
+            left &= left - 1;
+        }
     }
     at
 }
