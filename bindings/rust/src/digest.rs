@@ -4,6 +4,6 @@
 /// What tools/digest prints; tools/write-lists writes it here.
 macro_rules! digest {
     () => {
-        "10ecf6afd99d1725d6eaa1192a6159f26f3e2efdc3b517a513f7a4dd877711f1"
+        "45f68ea09e1afcf886271f55abeaa8f4466d0146a99a0f3721b5293430e02c89"
     };
 }

@@ -1,7 +1,7 @@
 use Rattle.std.proofs.Common.{◌+◌, ◌*◌, ◌∙◌, sym, arith}
 use Rattle.std.proofs.lemmas.Bool.{eqb-true}
 use Rattle.vb_walk.proofs.OthersLemmas.{AreAll-word, AreAll-add, four_zeros}
-use Rattle.vb_walk.proofs.other.four_are.Goals as goal
+use Rattle.vb_walk.proofs.other_word.four_are.Goals as goal
 
 pub returns : goal.returns
 returns c = λ t.

@@ -1,6 +1,6 @@
 use Rattle.std.proofs.Common.{◌+◌, ◌*◌, ◌∙◌, sym, arith}
 use Rattle.vb_walk.proofs.OthersLemmas.{AreAll_none, AreAll-word, AreAll-add, IsOther-word}
-use Rattle.vb_walk.proofs.other.first_other.Goals as goal
+use Rattle.vb_walk.proofs.other_word.first_other.Goals as goal
 
 pub returns-then-others-ne0 : goal.returns-then-others-ne0
 returns-then-others-ne0 c =

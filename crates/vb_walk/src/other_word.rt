@@ -1,4 +1,4 @@
-//! Passes over the words of a slice whose digits are all equal.
+//! Finds the first word with a digit that differs: passes over words whose digits are all equal.
 ghost use Rattle.std.specs.Prelude.{◌≡◌, ℕ, ◌+◌, ◌-◌, ◌*◌, ◌%◌, ◌<◌, ◌≤◌, length, IsTrue};
 ghost use Rattle.vb_bits.specs.Bits.{bit_of};
 ghost use Rattle.vb_walk.specs.Walks.{others, AreAll, FindsOther};

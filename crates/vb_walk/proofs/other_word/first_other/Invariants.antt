@@ -1,6 +1,6 @@
 use Rattle.std.proofs.Common.{◌≡◌, ◌+◌, ◌-◌, ◌*◌, ◌%◌, ◌≤◌}
 use Rattle.vb_walk.specs.Walks.{AreAll}
-use Rattle.vb_walk.proofs.other.first_other.Given as goal
+use Rattle.vb_walk.proofs.other_word.first_other.Given as goal
 
 abbrev pub invariant-loop-to : goal.invariant-loop-to
 invariant-loop-to l = record {
