@@ -87,6 +87,21 @@ fn values_that_a_mask_keeps_are_added_behind_others() {
     assert_eq!(kept.len(), 7);
 }
 
+/// Each number of set bits in a word of the mask, at some offset.
+#[test]
+fn bits_that_a_mask_keeps_are_those_of_a_loop() {
+    for ones in 0..=64 {
+        for (offset, len) in [(0, 64), (3, 200), (7, 129)] {
+            let chosen = |row: usize| row * 37 % 64 < ones;
+            let all: Bitmap = (0..offset + len).map(|row| row * 7919 % 11 < 5).collect();
+            let mask: Bitmap = (0..offset + len).map(chosen).collect();
+            let (all, mask) = (all.bits().slice(offset..), mask.bits().slice(offset..));
+            let kept: Bitmap = mask.set_indices().map(|row| all[row]).collect();
+            assert_eq!(all.filter(mask), kept, "{ones} of 64, {len} from {offset}");
+        }
+    }
+}
+
 #[test]
 fn values_under_a_mask_are_summed_and_ordered() {
     let all: Vec<i64> = (0..200).map(|row| row * 7919 % 1000 - 500).collect();
