@@ -223,6 +223,37 @@ fn the_first_code_of_no_group_is_refused_and_nothing_is_changed() {
     }
 }
 
+/// The rows before the refused one may have wrapped sums around, and those that no mask selects have
+/// codes of no group.
+#[test]
+fn sums_and_counts_are_unchanged_after_a_code_of_no_group() {
+    for bad in [0, 1, 40, 63, 64, 100, 190, 199] {
+        for step in [1, 2, 40] {
+            let (mut codes, values, mask) = rows(200, step);
+            let mask: Bitmap = (0..200).map(|row| row == bad || mask.bits()[row]).collect();
+            codes[bad] = -1;
+            let (mut counts, mut sums) = ([u64::MAX; 7], [i64::MAX; 7]);
+            let refused = GroupError::Code {
+                row: bad,
+                code: -1,
+                groups: 7,
+            };
+            let answer = values::try_group_counts(&mut counts, &codes, &mask);
+            assert_eq!(answer, Err(refused));
+            let answer = values::try_group_sums(&mut sums, &codes, &values, &mask);
+            assert_eq!(answer, Err(refused));
+            let turned: Vec<u64> = (0..200).map(|row| u64::MAX - row).collect();
+            let mut unsigned = [u64::MAX; 7];
+            let answer = values::try_group_sums(&mut unsigned, &codes, &turned, &mask);
+            assert_eq!(answer, Err(refused));
+            assert_eq!(
+                (counts, sums, unsigned),
+                ([u64::MAX; 7], [i64::MAX; 7], [u64::MAX; 7])
+            );
+        }
+    }
+}
+
 #[test]
 fn rows_without_a_value_or_a_bit_are_refused_by_name() {
     let mask = Bits::new(&[0b110], 0, 3);
