@@ -87,6 +87,21 @@ fn values_that_a_mask_keeps_are_added_behind_others() {
     assert_eq!(kept.len(), 7);
 }
 
+/// Each number of set bits in a word of the mask, at some offset.
+#[test]
+fn bits_that_a_mask_keeps_are_those_of_a_loop() {
+    for ones in 0..=64 {
+        for (offset, len) in [(0, 64), (3, 200), (7, 129)] {
+            let chosen = |row: usize| row * 37 % 64 < ones;
+            let all: Bitmap = (0..offset + len).map(|row| row * 7919 % 11 < 5).collect();
+            let mask: Bitmap = (0..offset + len).map(chosen).collect();
+            let (all, mask) = (all.bits().slice(offset..), mask.bits().slice(offset..));
+            let kept: Bitmap = mask.set_indices().map(|row| all[row]).collect();
+            assert_eq!(all.filter(mask), kept, "{ones} of 64, {len} from {offset}");
+        }
+    }
+}
+
 #[test]
 fn values_under_a_mask_are_summed_and_ordered() {
     let all: Vec<i64> = (0..200).map(|row| row * 7919 % 1000 - 500).collect();
@@ -203,6 +218,37 @@ fn the_first_code_of_no_group_is_refused_and_nothing_is_changed() {
             assert_eq!(
                 sums.map(f64::to_bits),
                 [0.5, 0.5, 0.5, 0.5, 0.5, 0.5, sum].map(f64::to_bits)
+            );
+        }
+    }
+}
+
+/// The rows before the refused one may have wrapped sums around, and those that no mask selects have
+/// codes of no group.
+#[test]
+fn sums_and_counts_are_unchanged_after_a_code_of_no_group() {
+    for bad in [0, 1, 40, 63, 64, 100, 190, 199] {
+        for step in [1, 2, 40] {
+            let (mut codes, values, mask) = rows(200, step);
+            let mask: Bitmap = (0..200).map(|row| row == bad || mask.bits()[row]).collect();
+            codes[bad] = -1;
+            let (mut counts, mut sums) = ([u64::MAX; 7], [i64::MAX; 7]);
+            let refused = GroupError::Code {
+                row: bad,
+                code: -1,
+                groups: 7,
+            };
+            let answer = values::try_group_counts(&mut counts, &codes, &mask);
+            assert_eq!(answer, Err(refused));
+            let answer = values::try_group_sums(&mut sums, &codes, &values, &mask);
+            assert_eq!(answer, Err(refused));
+            let turned: Vec<u64> = (0..200).map(|row| u64::MAX - row).collect();
+            let mut unsigned = [u64::MAX; 7];
+            let answer = values::try_group_sums(&mut unsigned, &codes, &turned, &mask);
+            assert_eq!(answer, Err(refused));
+            assert_eq!(
+                (counts, sums, unsigned),
+                ([u64::MAX; 7], [i64::MAX; 7], [u64::MAX; 7])
             );
         }
     }

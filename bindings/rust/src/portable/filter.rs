@@ -103,6 +103,9 @@ fn compress(word: u64, mask: u64) -> u64 {
     if mask == u64::MAX || mask == 0 {
         return word & mask;
     }
+    if mask.count_ones() <= FEW {
+        return one_by_one(word, mask);
+    }
     let (mut word, mut mask, mut gaps) = (word & mask, mask, !mask << 1);
     for step in [1, 2, 4, 8, 16, 32] {
         let odd = [1, 2, 4, 8, 16, 32]
@@ -115,6 +118,20 @@ fn compress(word: u64, mask: u64) -> u64 {
         gaps &= !odd;
     }
     word
+}
+
+/// The most set bits of a mask for which a step for each is faster than the rounds.
+const FEW: u32 = 16;
+
+/// Returns the same as [`compress`] does, by a step for each set bit of the mask.
+fn one_by_one(word: u64, mask: u64) -> u64 {
+    let (mut kept, mut left, mut at) = (0, mask, 0);
+    while left != 0 {
+        kept |= (word >> left.trailing_zeros() & 1) << at;
+        at += 1;
+        left &= left - 1;
+    }
+    kept
 }
 
 /// Writes the bits of `source` to the indices of the set bits of `mask`, and false elsewhere.
