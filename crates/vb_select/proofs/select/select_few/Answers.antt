@@ -14,7 +14,8 @@ among_lowest : (w k n p : ℕ) → k ≤ 64 → n < count (digits w 0 k)
 among_lowest w k n p few here found =
     let q : ℕ = get_or (places (digits w 0 k)) n 0 in
     let low = Selects-places (digits w 0 k) n here in
-    let high = Selects-digits w 64 0 k n n q (omega arith) (omega (arith, count-digits_none w 0)) low in
+    let high = Selects-digits w 64 0 k n n q (omega arith)
+    (omega (arith, count-digits_none w 0)) low in
     let same = Selects-InvertsCount (digits w 0 64) n (Some p) found (0 + q) high.0 high.1
     high.2 in
     subst (Selects (digits w 0 k) n) (sym (same ∙ ap Some (zero-add q))) low
