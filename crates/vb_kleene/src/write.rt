@@ -35,6 +35,10 @@ pub(crate) fn write_combined<T: Merge, F: Merge>(
         (valid_by T.bit F.bit (column left.now) (column right.now)) }
 {
     let len = left.len();
+    if len <= 64 {
+        write_part::<T, F>(trues, t, valid, v, left, right, 0, len);
+        return;
+    }
     write_blocks::<T, F>(trues, t, valid, v, left, right, len / 256);
     for k in 4 * (len / 256)..len / 64 {
         write_part::<T, F>(trues, t, valid, v, left, right, 64 * k, 64);
