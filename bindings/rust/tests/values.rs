@@ -305,6 +305,39 @@ fn floats_under_a_mask_are_summed_in_order_and_ordered() {
     }
 }
 
+/// Of all values, and of those that a mask selects, with each value at each place.
+#[test]
+fn extremes_of_floats_are_those_of_a_loop_to_the_bit() {
+    let kinds = [
+        f64::NAN,
+        -f64::NAN,
+        0.0,
+        -0.0,
+        1.5,
+        -1.5,
+        f64::INFINITY,
+        f64::NEG_INFINITY,
+    ];
+    for len in 0..=40 {
+        for (turn, step) in (0..8).flat_map(|turn| [1, 3, 7, 8, 11].map(|step| (turn, step))) {
+            let column: Vec<f64> = (0..len).map(|row| kinds[(row / step + turn) % 8]).collect();
+            let mask: Bitmap = (0..len).map(|row| row % 5 != turn % 5).collect();
+            for mask in [None, Some(&mask)] {
+                let chosen = |row: &usize| mask.is_none_or(|mask| mask.bits()[*row]);
+                let numbers = (0..len).filter(chosen).map(|row| column[row]);
+                let numbers = numbers.filter(|value| !value.is_nan());
+                let bits = |value: Option<f64>| value.map(f64::to_bits);
+                let (least, most) = (
+                    numbers.clone().min_by(f64::total_cmp),
+                    numbers.max_by(f64::total_cmp),
+                );
+                assert_eq!(bits(values::masked_float_min(&column, mask)), bits(least));
+                assert_eq!(bits(values::masked_float_max(&column, mask)), bits(most));
+            }
+        }
+    }
+}
+
 #[test]
 fn floats_that_are_no_numbers_zeros_and_ends() {
     let (none, nan) = (None::<Bits<'_>>, f32::NAN);
