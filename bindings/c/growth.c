@@ -93,6 +93,13 @@ static size_t size;
         vb_masked_min_##name((const type *)values, n, WINDOW(mixed, LEFT)).value)                 \
     ROW(masked_max_##name,                                                                        \
         vb_masked_max_##name((const type *)values, n, WINDOW(mixed, LEFT)).value)
+#define AGGREGATE_FLOATS(name, type)                                                              \
+    ROW(masked_sum_##name,                                                                        \
+        vb_masked_sum_##name((const type *)values, n, WINDOW(mixed, LEFT)) > 0)                   \
+    ROW(masked_min_##name,                                                                        \
+        vb_masked_min_##name((const type *)values, n, WINDOW(mixed, LEFT)).has_value)             \
+    ROW(masked_max_##name,                                                                        \
+        vb_masked_max_##name((const type *)values, n, WINDOW(mixed, LEFT)).has_value)
 #define GROUP_SUMS(name, type, sum, at)                                                           \
     ROW(group_sums_##name##_##at, vb_group_sums_##name##_##at((sum *)written, n, indices_##at, n,   \
         (const type *)values, n, false, WINDOW(mixed, LEFT)).position)
@@ -211,6 +218,8 @@ AGGREGATE(i8, int8_t)
 AGGREGATE(i16, int16_t)
 AGGREGATE(i32, int32_t)
 AGGREGATE(i64, int64_t)
+AGGREGATE_FLOATS(f32, float)
+AGGREGATE_FLOATS(f64, double)
 GROUP(u8)
 GROUP(u16)
 GROUP(u32)
@@ -241,6 +250,8 @@ typedef struct {
 #define OF_AGGREGATE(name)                                                                        \
     OF(masked_sum_##name) OF(masked_checked_sum_##name) OF(masked_wrapping_sum_##name)            \
     OF(masked_min_##name) OF(masked_max_##name)
+#define OF_AGGREGATE_FLOATS(name)                                                                 \
+    OF(masked_sum_##name) OF(masked_min_##name) OF(masked_max_##name)
 #define OF_GROUP(at)                                                                              \
     OF(group_counts_##at) OF(group_sums_u8_##at) OF(group_sums_u16_##at) OF(group_sums_u32_##at)  \
     OF(group_sums_u64_##at) OF(group_sums_i8_##at) OF(group_sums_i16_##at)                        \
@@ -270,8 +281,8 @@ static const row rows[] = {
     OF(scatter_values_u8) OF(scatter_values_u16)
     OF(scatter_values_u32) OF(scatter_values_u64) OF(scatter_values_u128) OF(scatter_values)
     OF_AGGREGATE(u8) OF_AGGREGATE(u16) OF_AGGREGATE(u32) OF_AGGREGATE(u64) OF_AGGREGATE(i8)
-    OF_AGGREGATE(i16) OF_AGGREGATE(i32) OF_AGGREGATE(i64) OF_GROUP(u8) OF_GROUP(u16)
-    OF_GROUP(u32) OF_TAKE(u8) OF_TAKE(u16) OF_TAKE(u32)
+    OF_AGGREGATE(i16) OF_AGGREGATE(i32) OF_AGGREGATE(i64) OF_AGGREGATE_FLOATS(f32)
+    OF_AGGREGATE_FLOATS(f64) OF_GROUP(u8) OF_GROUP(u16) OF_GROUP(u32) OF_TAKE(u8) OF_TAKE(u16) OF_TAKE(u32)
     OF_TAKE(u64) OF(take_values) OF(block_counts) OF(rank) OF(ranked_select)
     OF(ranked_select_unset)
 };

@@ -4,6 +4,6 @@
 /// What tools/digest prints; tools/write-lists writes it here.
 macro_rules! digest {
     () => {
-        "584d135208569dc3afd210e9a85ff04a177c7a51685aa67b8c367fb3c38929e8"
+        "4d770e24d75fe97f087ebe0fe8219e69be2629a079a2e44f774253d7f9f64dd2"
     };
 }
