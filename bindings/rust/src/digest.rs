@@ -4,6 +4,6 @@
 /// What tools/digest prints; tools/write-lists writes it here.
 macro_rules! digest {
     () => {
-        "4d770e24d75fe97f087ebe0fe8219e69be2629a079a2e44f774253d7f9f64dd2"
+        "96f6d2c77afa4f4fedd8b51c2e933c7e08c9f9625ce26df5611a347466070d91"
     };
 }
