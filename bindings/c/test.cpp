@@ -249,7 +249,7 @@ static void joins()
 {
     const buffer some = {0xB6, 0x01}, others = {0x1E, 0x00};
     const bits values(some, 1, 8), mask(others, 0, 8);
-    buffer out = {0x00, 0xFF, 0xFF};
+    buffer out = {0x00, 0xFF, 0xFF}, others_out(1);
     bits_mut window(out, 5, 14);
     std::size_t rows = window.filter_of(values, mask);
     rows += window.slice(rows, 14 - rows).filter_of(mask, values);
@@ -261,6 +261,12 @@ static void joins()
     check(!window.take_of(values, std::array<std::int8_t, 2>{0, -1}, bits(others, 4, 2)),
         "a negative index of no use");
     check(out[0] == 0xA0, "what the last take wrote");
+    const std::optional<bits> some_valid = bits(others, 4, 2);
+    check(!window.take_of(values, std::array<std::int8_t, 2>{0, -1}, some_valid), "an optional");
+    check(window.take_of(values, std::array<std::int8_t, 2>{0, -1}, std::nullopt)
+            == std::optional<std::size_t>(1), "a validity that is missing");
+    check(!values.take_into(std::array<std::int8_t, 1>{0}, std::optional<bits>(), others_out)
+            && others_out[0] == 1, "a take into bytes without a validity");
     window.slice(0, 3).copy_from_bools(std::array<bool, 3>{true, false, true});
     check(out[0] == 0xA0, "bools at an offset");
     window.slice(0, 3).copy_from_truthy(buffer{0, 7, 255});
@@ -284,28 +290,6 @@ static void nearest()
     check(!window.next_set(8) && !window.previous_set(0), "no bit");
     check(window.any() && !window.all() && bits(some, 1, 2).all() && !bits(some, 3, 1).any(),
         "any and all");
-}
-
-static void comparisons()
-{
-    const std::vector<std::int16_t> ages = {19, 64, -7, 30}, limits = {20, 20, -7, 40};
-    buffer out = {0xF0};
-    vortex_bits::compare(ages, VB_GREATER, 18, bits_mut(out, 0, 4));
-    check(out[0] == 0xFB, "values above a number");
-    vortex_bits::compare_with(ages, VB_LESS_OR_EQUAL, limits, bits_mut(out, 1, 4));
-    check(out[0] == 0xFB, "values up to others");
-    const std::vector<double> prices = {1.5, std::numeric_limits<double>::quiet_NaN(), -0.0, 9.0};
-    vortex_bits::compare(prices, VB_GREATER_OR_EQUAL, 0.0, bits_mut(out, 0, 4));
-    check(out[0] == 0xFD, "doubles from zero on");
-    vortex_bits::compare_with(prices, VB_NOT_EQUAL, prices, bits_mut(out, 0, 4));
-    check(out[0] == 0xF2, "doubles that are no number");
-    const std::array<float, 2> halves = {0.5f, 0.25f};
-    vortex_bits::compare(halves, VB_LESS, 0.5f, bits_mut(out, 6, 2));
-    check(out[0] == 0xB2, "a float below a number");
-    refused([&] { vortex_bits::compare(ages, VB_LESS, 1, bits_mut(out, 0, 5)); }, "too many bits");
-    refused([&] { vortex_bits::compare(ages, 6, 1, bits_mut(out, 0, 4)); }, "no comparison");
-    refused([&] { vortex_bits::compare_with(ages, VB_LESS, std::vector<std::int16_t>(3),
-        bits_mut(out, 0, 4)); }, "too few others");
 }
 
 static void aggregates()
@@ -381,7 +365,7 @@ template <class Index> static void take(const buffer &all, bool valid, std::size
 
 template <class... Index> static void takes_of_types(const buffer &all)
 {
-    for (const std::size_t n : {0, 1, 8, 511, 512, 513, 1300}) {
+    for (const std::size_t n : std::array<std::size_t, 7>{0, 1, 8, 511, 512, 513, 1300}) {
         for (int k = 0; k < 4; k++) {
             (take<Index>(all, k % 2 == 1, n, k >= 2), ...);
         }
@@ -487,7 +471,6 @@ int main()
     truths();
     joins();
     nearest();
-    comparisons();
     aggregates();
     values_at_indices();
     refusals();
