@@ -1,8 +1,8 @@
 //! Links the archives of the processor levels, those in `native/` or in the folder that
-//! `VORTEX_BITS_NATIVE` names, and says so by `cfg(vortex_bits_native)`. Without them, for another
-//! machine than x86-64 Linux, and under Miri, nothing is linked; but for Miri that is an error
-//! where the feature `proved` is asked for. An archive of other sources than `src/digest.rs` names
-//! is an error in any case.
+//! `VORTEX_BITS_NATIVE` names, and says so by `cfg(vortex_bits_native)`. If one of them is
+//! missing, for another machine than x86-64 Linux, and under Miri, nothing is linked; but for Miri
+//! that is an error where the feature `proved` is asked for. An archive of other sources than
+//! `src/digest.rs` names is an error in any case.
 use std::env;
 use std::fs;
 use std::path::{Path, PathBuf};
@@ -77,7 +77,7 @@ fn say_missing(archive: &Path) {
     if wants_proved() {
         println!("cargo::error=feature `proved`: no {missing}, which bindings/build makes");
     } else {
-        println!("cargo::warning=no {missing}: the portable code stands in for it");
+        println!("cargo::warning=no {missing}: without both archives no proved code runs");
     }
 }
 

@@ -7,6 +7,7 @@ use crate::{Mask, Value, kernels};
 #[diagnostic::on_unimplemented(
     message = "values of `{Self}` are neither summed nor ordered",
     label = "values are whole numbers",
+    note = "for floats call `values::masked_float_min`, `masked_float_max` and `masked_float_sum`",
     note = "those of another type go by their places: `mask.set_indices().map(|row| values[row])`"
 )]
 pub trait Summand: Value + Ord + sealed::Summand {}
@@ -15,6 +16,7 @@ pub trait Summand: Value + Ord + sealed::Summand {}
 #[diagnostic::on_unimplemented(
     message = "an exact sum of `{Self}` isn't of 128 bits",
     label = "values are whole numbers of up to 64 bits",
+    note = "for floats call `values::masked_float_sum`",
     note = "`values::masked_wrapping_sum` also sums whole numbers of 128 bits"
 )]
 pub trait WideSummand: Summand + sealed::WideSummand<<Self as WideSummand>::Total> {

@@ -32,6 +32,7 @@ pub enum Comparison {
 #[diagnostic::on_unimplemented(
     message = "values of `{Self}` aren't compared",
     label = "values are whole numbers or floats",
+    note = "`Array::bits` of a column of truth values is a mask already, and `!` negates it",
     note = "those of another type go by a closure: `BitsMut::fill_with`"
 )]
 pub trait Compare: Value + PartialOrd + sealed::Compare {}

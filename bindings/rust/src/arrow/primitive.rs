@@ -18,7 +18,8 @@ use core::ops::Range;
 ///   [`values::filter`](crate::values::filter) filters decimals as these.
 #[diagnostic::on_unimplemented(
     message = "no array has values of `{Self}`",
-    label = "whole numbers of 8 to 64 bits, `i128`, floats, `[u8; N]`, `[u64; 2]` and `[i64; 2]`"
+    label = "whole numbers of 8 to 64 bits, `i128`, floats, `[u8; N]`, `[u64; 2]` and `[i64; 2]`",
+    note = "`Array::bits` returns the truth values of a column, `Array::texts` its texts"
 )]
 pub trait Primitive: sealed::Primitive {}
 
