@@ -21,28 +21,9 @@ mod types;
 
 use crate::kernels::Run;
 
-pub use types::{GroupSums, Optional, Place, SignedWide, Taken, Wide};
-
-/// Applies an operator to a window and another one of the same length.
-pub type Combine = unsafe extern "C" fn(*mut u8, usize, usize, *const u8, usize, usize, usize);
-
-/// Returns the number of bits that an operator sets, for two windows of one length.
-pub type CountCombined =
-    unsafe extern "C" fn(*const u8, usize, usize, *const u8, usize, usize, usize) -> usize;
-
-/// Writes the result of an operator on two windows to a third one of the same length.
-pub type CombineInto = unsafe extern "C" fn(
-    *mut u8,
-    usize,
-    usize,
-    *const u8,
-    usize,
-    usize,
-    *const u8,
-    usize,
-    usize,
-    usize,
-);
+pub use types::{
+    Combine, CombineInto, CountCombined, GroupSums, Optional, Place, SignedWide, Taken, Wide,
+};
 
 /// Compares values of this type with a number. The parameters are `out`, the values, the comparison
 /// and the number.

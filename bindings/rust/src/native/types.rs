@@ -93,3 +93,24 @@ pub struct GroupSums<S, V> {
     pub two_bytes: GroupSum<S, u16, V>,
     pub four_bytes: GroupSum<S, u32, V>,
 }
+
+/// Applies an operator to a window and another one of the same length.
+pub type Combine = unsafe extern "C" fn(*mut u8, usize, usize, *const u8, usize, usize, usize);
+
+/// Returns the number of bits that an operator sets, for two windows of one length.
+pub type CountCombined =
+    unsafe extern "C" fn(*const u8, usize, usize, *const u8, usize, usize, usize) -> usize;
+
+/// Writes the result of an operator on two windows to a third one of the same length.
+pub type CombineInto = unsafe extern "C" fn(
+    *mut u8,
+    usize,
+    usize,
+    *const u8,
+    usize,
+    usize,
+    *const u8,
+    usize,
+    usize,
+    usize,
+);

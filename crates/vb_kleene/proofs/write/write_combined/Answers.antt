@@ -17,11 +17,11 @@ loop-k-preserved g c =
     let t = c.args.t in let v = c.args.v in let same = c.requires.right in
     let n = c.len-len.ensures in
     record {
-      trues = Writes-part c.args.trues.now c.loop-k.trues c.write_part-in-loop-k.new.trues t (t + at) at 64
-          end trues (omega (arith, length-trues_by left right same f)) refl (omega arith)
+      trues = Writes-part c.args.trues.now c.loop-k.trues c.write_part-in-loop-k.new.trues t
+          (t + at) at 64 end trues (omega (arith, length-trues_by left right same f)) refl (omega arith)
           c.loop-k.invariant.trues c.write_part-in-loop-k.ensures.trues;
-      valid = Writes-part c.args.valid.now c.loop-k.valid c.write_part-in-loop-k.new.valid v (v + at) at 64
-          end valid (omega (arith, length-valid_by left right same f h)) refl (omega arith)
+      valid = Writes-part c.args.valid.now c.loop-k.valid c.write_part-in-loop-k.new.valid v
+          (v + at) at 64 end valid (omega (arith, length-valid_by left right same f h)) refl (omega arith)
           c.loop-k.invariant.valid c.write_part-in-loop-k.ensures.valid;
     }
 
