@@ -2,6 +2,7 @@ pub mod Fixed
 pub mod Steps
 pub mod Text
 pub use Rattle.vb_aggregate.specs.Extremes
+pub use Rattle.vb_aggregate.specs.Floats
 pub use Rattle.vb_aggregate.specs.Sums
 pub use Rattle.vb_aggregate.specs.Wraps
 pub use Rattle.vb_bit_buffer.specs.Gives
@@ -30,6 +31,7 @@ pub use Rattle.vb_core.specs.ExactCounts
 pub use Rattle.vb_core.specs.Indices
 pub use Rattle.vb_core.specs.Lengths
 pub use Rattle.vb_core.specs.LittleEndian
+pub use Rattle.vb_expand.specs.Scatter
 pub use Rattle.vb_filter.specs.Spread
 pub use Rattle.vb_gather.specs.Columns
 pub use Rattle.vb_gather.specs.Compared
@@ -38,6 +40,7 @@ pub use Rattle.vb_gather.specs.Filtered
 pub use Rattle.vb_gather.specs.OneLength
 pub use Rattle.vb_gather.specs.TakenBits
 pub use Rattle.vb_gather.specs.TakenItems
+pub use Rattle.vb_group.specs.Groups
 pub use Rattle.vb_pair.specs.Beside
 pub use Rattle.vb_count.specs.Hits
 pub use Rattle.vb_count.specs.Looks

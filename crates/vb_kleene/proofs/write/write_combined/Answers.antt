@@ -18,10 +18,12 @@ loop-k-preserved g c =
     let n = c.len-len.ensures in
     record {
       trues = Writes-part c.args.trues.now c.loop-k.trues c.write_part-in-loop-k.new.trues t
-          (t + at) at 64 end trues (omega (arith, length-trues_by left right same f)) refl (omega arith)
+          (t + at) at 64 end trues (omega (arith, length-trues_by left right same f)) refl
+          (omega arith)
           c.loop-k.invariant.trues c.write_part-in-loop-k.ensures.trues;
       valid = Writes-part c.args.valid.now c.loop-k.valid c.write_part-in-loop-k.new.valid v
-          (v + at) at 64 end valid (omega (arith, length-valid_by left right same f h)) refl (omega arith)
+          (v + at) at 64 end valid (omega (arith, length-valid_by left right same f h)) refl
+          (omega arith)
           c.loop-k.invariant.valid c.write_part-in-loop-k.ensures.valid;
     }
 
