@@ -12,7 +12,10 @@ OF_C = re.compile(r"crates/vb_c(_\w+)?/src/")
 # The functions about the C library itself, which no crate has.
 OF_THE_LIBRARY = {"vb_level", "vb_has_level"}
 # The functions that the Rust crate doesn't call.
-NOT_CALLED = {"vb_get_bit", "vb_pack_bools_padded", "vb_pack_truthy_padded"}
+NOT_CALLED = {
+    "vb_get_bit", "vb_pack_bools_padded", "vb_pack_truthy_padded", "vb_masked_min_f32",
+    "vb_masked_min_f64", "vb_masked_max_f32", "vb_masked_max_f64",
+}
 # The suffix of C functions for wide vectors. bindings/wide renames them to the plain names.
 WIDE = "_wide"
 # The C functions that the library builds from several ones of a crate.

@@ -1,6 +1,6 @@
 //! Sum, minimum and maximum of floats that a mask selects.
 
-use crate::{Mask, Value, kernels};
+use crate::{Mask, Value, kernels, portable};
 
 /// A type of floats: `f32` and `f64`.
 #[diagnostic::on_unimplemented(
@@ -12,7 +12,7 @@ pub trait Float: Value + sealed::Float {}
 
 pub(crate) mod sealed {
     #[cfg(vortex_bits_native)]
-    use crate::native::{Kernels, Masked, Optional};
+    use crate::native::{Kernels, Masked};
 
     /// What a type of floats provides.
     pub trait Float: Copy {
@@ -38,18 +38,10 @@ pub(crate) mod sealed {
         /// Returns the C function that sums.
         #[cfg(vortex_bits_native)]
         fn masked_sum(kernels: &Kernels) -> Masked<Self, Self>;
-
-        /// Returns the C function that finds the minimum.
-        #[cfg(vortex_bits_native)]
-        fn masked_min(kernels: &Kernels) -> Masked<Self, Optional<Self>>;
-
-        /// Returns the C function that finds the maximum.
-        #[cfg(vortex_bits_native)]
-        fn masked_max(kernels: &Kernels) -> Masked<Self, Optional<Self>>;
     }
 
     macro_rules! floats {
-        ($($float:ident $key:ident: $sum:ident $min:ident $max:ident;)*) => {$(
+        ($($float:ident $key:ident: $sum:ident;)*) => {$(
             impl super::Float for $float {}
 
             impl Float for $float {
@@ -82,26 +74,14 @@ pub(crate) mod sealed {
                 fn masked_sum(kernels: &Kernels) -> Masked<$float, $float> {
                     kernels.$sum
                 }
-
-                #[cfg(vortex_bits_native)]
-                #[inline]
-                fn masked_min(kernels: &Kernels) -> Masked<$float, Optional<$float>> {
-                    kernels.$min
-                }
-
-                #[cfg(vortex_bits_native)]
-                #[inline]
-                fn masked_max(kernels: &Kernels) -> Masked<$float, Optional<$float>> {
-                    kernels.$max
-                }
             }
         )*};
     }
 
     floats! {
         // Written by tools/write-lists from tools/families/masked_floats.txt.
-        f32 i32: masked_sum_f32 masked_min_f32 masked_max_f32;
-        f64 i64: masked_sum_f64 masked_min_f64 masked_max_f64;
+        f32 i32: masked_sum_f32;
+        f64 i64: masked_sum_f64;
         // To here.
     }
 }
@@ -148,7 +128,7 @@ pub fn masked_float_sum<T: Float>(values: &[T], mask: impl Mask) -> T {
 #[must_use]
 #[track_caller]
 pub fn masked_float_min<T: Float>(values: &[T], mask: impl Mask) -> Option<T> {
-    kernels::masked_float_min(values, mask.of_len(values.len()))
+    portable::masked_float_min(values, mask.of_len(values.len()))
 }
 
 /// Returns the maximum of the floats that `mask` selects, of all if it is None. It skips NaN, and
@@ -169,5 +149,5 @@ pub fn masked_float_min<T: Float>(values: &[T], mask: impl Mask) -> Option<T> {
 #[must_use]
 #[track_caller]
 pub fn masked_float_max<T: Float>(values: &[T], mask: impl Mask) -> Option<T> {
-    kernels::masked_float_max(values, mask.of_len(values.len()))
+    portable::masked_float_max(values, mask.of_len(values.len()))
 }

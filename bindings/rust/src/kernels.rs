@@ -13,8 +13,7 @@ mod values;
 mod walk;
 
 pub use aggregate::{
-    masked_checked_sum, masked_float_max, masked_float_min, masked_float_sum, masked_max,
-    masked_min, masked_sum, masked_wrapping_sum,
+    masked_checked_sum, masked_float_sum, masked_max, masked_min, masked_sum, masked_wrapping_sum,
 };
 pub use compare::{compare, compare_with};
 pub use filter::{filter, keep, retain, scatter};

@@ -223,14 +223,6 @@ kernels! {
         mask_offset: usize) -> f32;
     masked_sum_f64(values: *const f64, values_count: usize, mask: *const u8, mask_size: usize,
         mask_offset: usize) -> f64;
-    masked_min_f32(values: *const f32, values_count: usize, mask: *const u8, mask_size: usize,
-        mask_offset: usize) -> OptionalF32;
-    masked_min_f64(values: *const f64, values_count: usize, mask: *const u8, mask_size: usize,
-        mask_offset: usize) -> OptionalF64;
-    masked_max_f32(values: *const f32, values_count: usize, mask: *const u8, mask_size: usize,
-        mask_offset: usize) -> OptionalF32;
-    masked_max_f64(values: *const f64, values_count: usize, mask: *const u8, mask_size: usize,
-        mask_offset: usize) -> OptionalF64;
     group_counts_u8(counts: *mut u64, counts_count: usize, codes: *const u8, codes_count: usize,
         all_selected: bool, mask: *const u8, mask_size: usize, mask_offset: usize) -> Taken;
     group_counts_u16(counts: *mut u64, counts_count: usize, codes: *const u16, codes_count: usize,

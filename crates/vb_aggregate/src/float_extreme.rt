@@ -19,8 +19,8 @@ trait Search<T>: Fold<T> {
             → (xs : List T) → Self.shows state xs → Self.shows state (xs ++ values.now) };
 }
 
-/// A search that first tests the values of a word whose bits are all true. The compiler builds
-/// vectors for the tests, but none for the search: it keeps the order of its steps.
+/// A search that first tests whether the values of a word whose bits are all true can change its
+/// state: most words of a long mask can't.
 struct ByTests<S> {
     search: PhantomData<S>,
 }

@@ -83,8 +83,8 @@ const ROWS: &[Row] = &[
     ("masked_max without a mask", NEVER, |n| _ = values::masked_max(&vec![1; n], None::<Bits>)),
     ("masked_min of wide numbers", NEVER, |n| _ = values::masked_min(&vec![1u128; n], left(n))),
     ("masked_float_sum", 65, |n| _ = values::masked_float_sum(&vec![1.0; n], left(n))),
-    ("masked_float_min", 65, |n| _ = values::masked_float_min(&vec![1.0; n], left(n))),
-    ("masked_float_max", 65, |n| _ = values::masked_float_max(&vec![1.0; n], left(n))),
+    ("masked_float_min", NEVER, |n| _ = values::masked_float_min(&vec![1.0; n], left(n))),
+    ("masked_float_max", NEVER, |n| _ = values::masked_float_max(&vec![1.0; n], left(n))),
     ("group_counts", 17, |n| values::group_counts(&mut [0], &indices(n), left(n))),
     ("group_sums", 17, |n| values::group_sums(&mut [0], &indices(n), &vec![1i8; n], left(n))),
     ("group_counts of wide codes", NEVER, |n| {

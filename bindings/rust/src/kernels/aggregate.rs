@@ -72,30 +72,6 @@ pub fn masked_float_sum<T: Float>(values: &[T], mask: Option<Bits<'_>>) -> T {
     portable::masked_float_sum(values, mask)
 }
 
-#[inline]
-pub fn masked_float_min<T: Float>(values: &[T], mask: Option<Bits<'_>>) -> Option<T> {
-    aggregate!(
-        values,
-        mask,
-        |it| Some(T::masked_min(it)),
-        Option<T>,
-        |least| least
-    );
-    portable::masked_float_min(values, mask)
-}
-
-#[inline]
-pub fn masked_float_max<T: Float>(values: &[T], mask: Option<Bits<'_>>) -> Option<T> {
-    aggregate!(
-        values,
-        mask,
-        |it| Some(T::masked_max(it)),
-        Option<T>,
-        |greatest| greatest
-    );
-    portable::masked_float_max(values, mask)
-}
-
 #[cfg(vortex_bits_native)]
 #[inline]
 fn of_laid<T: Summand>(value: Option<T::Laid>) -> Option<T> {
