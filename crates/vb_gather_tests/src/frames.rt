@@ -6,7 +6,7 @@ use std::alloc::{Allocator, Global};
 use std::process::Abort;
 use vb_bit_buffer::BitBuffer;
 use vb_core::{Element, Result};
-use vb_filter::filter_elements_into;
+use vb_filter::{filter_elements_into, retain_values};
 use vb_gather::{Filter, Take};
 use vb_mem::{Buffer, BufferMut};
 use vb_take::take_values_into;
@@ -98,11 +98,19 @@ fn a_filter_keeps_no_block_of_elements(rt: HostRuntime) {
         let count = are_kept(&rt, kept.as_slice(), each);
         equal(&rt, (kept.len(), mask.true_count()), (count, count));
         holds(&rt, mask.len() == values.len());
+        holds(&rt, out.len() == values.len());
         holds(&rt, mask.true_count() <= out.len());
         let written = filter_elements_into(out.as_mut_slice(), values.as_slice(), mask.as_view());
         equal(
             &rt,
             (written, are_kept(&rt, out.as_slice(), each)),
+            (count, count),
+        );
+        out.as_mut_slice().copy_from_slice(values.as_slice());
+        let moved = retain_values(out.as_mut_slice(), mask.as_view());
+        equal(
+            &rt,
+            (moved, are_kept(&rt, out.as_slice(), each)),
             (count, count),
         );
         drop((mask, kept));

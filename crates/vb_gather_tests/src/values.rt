@@ -5,7 +5,7 @@ use crate::masks::{ROWS, Row, mask};
 use std::alloc::Allocator;
 use vb_bit_buffer::BitBuffer;
 use vb_core::{BufferError, Result};
-use vb_filter::{filter_elements_into, filter_values_into};
+use vb_filter::{filter_elements_into, filter_values_into, retain_values};
 use vb_mem::Buffer;
 use vb_testing::{Handle, Refusing};
 use vb_view::BitBufferView;
@@ -69,13 +69,30 @@ fn writes_in_front(values: &[u32], mask: BitBufferView<'_>, row: &Row) -> bool {
     same && is_plain(&out[..len], row) && out[len..].iter().all(|item| *item == u32::MAX)
 }
 
+/// Whether the values that a row's mask keeps are moved to the front of their slice, and the others
+/// from there on stay.
+fn moves_to_the_front(values: &[u32], mask: BitBufferView<'_>, row: &Row) -> bool {
+    let mut items = [u32::MAX; 1001];
+    let many = values.len();
+    if many != mask.len() || many > items.len() {
+        return false;
+    }
+    items[..many].copy_from_slice(values);
+    let len = retain_values(&mut items[..many], mask);
+    len <= many
+        && is_plain(&items[..len], row)
+        && items[len..many] == values[len..]
+        && items[many..].iter().all(|item| *item == u32::MAX)
+}
+
 #[test]
 fn kept_values_are_written_in_front(rt: HostRuntime) {
     for row in ROWS {
         let values = numbers(rt.alloc(), row).expect(&rt, "memory");
         let mask = mask(rt.alloc(), row).expect(&rt, "memory");
         let is_written = writes_in_front(values.as_slice(), mask.as_view(), row);
-        equal(&rt, is_written, true);
+        let is_moved = moves_to_the_front(values.as_slice(), mask.as_view(), row);
+        equal(&rt, (is_written, is_moved), (true, true));
         drop((values, mask));
     }
 }
