@@ -172,7 +172,7 @@ struct rows {
 };
 
 /* Which values of a column compare with a number; nulls do by what they happen to hold. */
-template <class T> static mask compared(const column &of, std::uint8_t op, T number)
+template <class T> static mask compared(const column &of, vb_comparison op, T number)
 {
     mask made(of.size());
     vortex_bits::compare(of.values<T>(), op, number, made.write());
@@ -180,7 +180,7 @@ template <class T> static mask compared(const column &of, std::uint8_t op, T num
 }
 
 /* The same without the nulls. */
-template <class T> static mask passed(const column &of, std::uint8_t op, T number)
+template <class T> static mask passed(const column &of, vb_comparison op, T number)
 {
     mask made = compared(of, op, number);
     made.write().and_validity(of.valid());

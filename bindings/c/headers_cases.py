@@ -50,6 +50,7 @@ static void line_{line}()
     [[maybe_unused]] const buffer fixed(4);
     [[maybe_unused]] std::uint8_t plain[4] = {{}};
     [[maybe_unused]] bits rows(fixed, 0, 8);
+    [[maybe_unused]] bits_mut four(bytes, 0, 4);
 #line {line}
     {code}
 }}
@@ -90,6 +91,11 @@ ACCEPTED = [
     "bits_mut all(bytes, 0, 8); all.and_validity(rows); all.and_validity(std::nullopt);",
     "bits_mut(bytes, 0, 8).and_validities_of(bits_mut(plain, 4, 0, 8), bits(fixed, 1, 8));",
     "(void)count_valid(rows, {}, 8); (void)count_valid(validity(plain, 4, 0, 8), rows, 8);",
+    "compare(std::vector<std::int8_t>(8), VB_LESS, 5, bits_mut(bytes, 0, 8));",
+    "const vb_comparison op = VB_LESS; compare(vortex_bits::view(plain, 4), op, 5u, four);",
+    "compare(std::vector<float>(8), VB_LESS, 0.5, {bytes, 0, 8});",
+    "compare(std::vector<double>(8), VB_LESS, fixed.size(), {bytes, 0, 8});",
+    "const auto op = static_cast<vb_comparison>(plain[0]); compare_with(fixed, op, fixed, four);",
 ]
 ACCEPTED_SINCE_20 = [
     "(void)bits(std::span<const std::uint8_t>(fixed), 0, 8);",
@@ -104,8 +110,8 @@ ACCEPTED_SINCE_20 = [
     "static_assert(!can_be<bits_mut, std::span<const std::uint8_t>>);",
 ]
 
-# What must not: windows over bytes that end before them, or that can't be written, and answers that
-# nobody looks at. Both compilers say it so.
+# What must not: windows over bytes that end before them, or that can't be written; a number in the
+# place of a comparison; and answers that nobody looks at. Both compilers say it so.
 DELETED, NONE, UNUSED = "deleted (function|constructor)", "no matching", "ignoring return value"
 REFUSED = [
     ("bits it(buffer(4), 0, 8); (void)it;", DELETED),
@@ -127,6 +133,9 @@ REFUSED = [
     ("bits_mut it(fixed, 0, 8); (void)it;", NONE),
     ("bits_mut it(made_constant(), 0, 8); (void)it;", DELETED),
     ("bits_mut it(slice{plain, 4}, 0, 8); (void)it;", NONE),
+    ("compare(fixed, 2, VB_LESS, four);", NONE),
+    ("compare(fixed, 5, 2, four);", NONE),
+    ("compare_with(fixed, 2, fixed, four);", NONE),
     ("rows.take_into(bytes, bytes);", UNUSED),
     ("rows.take_into(bytes, rows, bytes);", UNUSED),
     ("bits_mut(bytes, 0, 8).take_of(rows, fixed);", UNUSED),

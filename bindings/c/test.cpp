@@ -286,28 +286,6 @@ static void nearest()
         "any and all");
 }
 
-static void comparisons()
-{
-    const std::vector<std::int16_t> ages = {19, 64, -7, 30}, limits = {20, 20, -7, 40};
-    buffer out = {0xF0};
-    vortex_bits::compare(ages, VB_GREATER, 18, bits_mut(out, 0, 4));
-    check(out[0] == 0xFB, "values above a number");
-    vortex_bits::compare_with(ages, VB_LESS_OR_EQUAL, limits, bits_mut(out, 1, 4));
-    check(out[0] == 0xFB, "values up to others");
-    const std::vector<double> prices = {1.5, std::numeric_limits<double>::quiet_NaN(), -0.0, 9.0};
-    vortex_bits::compare(prices, VB_GREATER_OR_EQUAL, 0.0, bits_mut(out, 0, 4));
-    check(out[0] == 0xFD, "doubles from zero on");
-    vortex_bits::compare_with(prices, VB_NOT_EQUAL, prices, bits_mut(out, 0, 4));
-    check(out[0] == 0xF2, "doubles that are no number");
-    const std::array<float, 2> halves = {0.5f, 0.25f};
-    vortex_bits::compare(halves, VB_LESS, 0.5f, bits_mut(out, 6, 2));
-    check(out[0] == 0xB2, "a float below a number");
-    refused([&] { vortex_bits::compare(ages, VB_LESS, 1, bits_mut(out, 0, 5)); }, "too many bits");
-    refused([&] { vortex_bits::compare(ages, 6, 1, bits_mut(out, 0, 4)); }, "no comparison");
-    refused([&] { vortex_bits::compare_with(ages, VB_LESS, std::vector<std::int16_t>(3),
-        bits_mut(out, 0, 4)); }, "too few others");
-}
-
 static void aggregates()
 {
     using namespace vortex_bits;
@@ -487,7 +465,6 @@ int main()
     truths();
     joins();
     nearest();
-    comparisons();
     aggregates();
     values_at_indices();
     refusals();

@@ -426,11 +426,10 @@ public:
     template <class Bytes> void copy_from_truthy(const Bytes &truthy);
 
 private:
-    template <class Values>
-    friend void compare(const Values &, std::uint8_t,
-        const std::remove_cv_t<detail::lent_t<const Values>> &, bits_mut);
+    template <class Values, class Number>
+    friend void compare(const Values &, vb_comparison, Number, bits_mut);
     template <class Values, class Others>
-    friend void compare_with(const Values &, std::uint8_t, const Others &, bits_mut);
+    friend void compare_with(const Values &, vb_comparison, const Others &, bits_mut);
 
     template <class Call> void by_another(Call call, bits right)
     {

@@ -11,6 +11,13 @@
 extern "C" {
 #endif
 
+/* The type of the enumeration below in C++, so that any byte can be cast to it. */
+#if defined(__cplusplus) && __cplusplus >= 201103L
+#define VB_OF_BYTES : uint8_t
+#else
+#define VB_OF_BYTES
+#endif
+
 /*
  * The comparison of a value with another one: the `op` of the calls below, which is less than 6.
  * With another number a plain form crashes with SIGILL (illegal instruction), and a checked form
@@ -20,7 +27,7 @@ extern "C" {
  *     uint8_t out[] = {0};
  *     assert(!vb_try_compare_u8(out, 1, 0, values, 1, VB_GREATER_OR_EQUAL + 1, 7));
  */
-enum {
+enum vb_comparison VB_OF_BYTES {
     VB_EQUAL,
     VB_NOT_EQUAL,
     VB_LESS,
@@ -33,7 +40,9 @@ enum {
  * Writes to bit `out_offset + k` of `out`, for each k below `values_count`, whether value k
  * compares with `number` by `op`. Every other bit of `out` is unchanged. Processes 64 values at a
  * time, by vectors. Floats compare as by C's operators and IEEE 754: with a NaN on either side or
- * on both only VB_NOT_EQUAL holds, and 0.0 equals -0.0.
+ * on both only VB_NOT_EQUAL holds, and 0.0 equals -0.0. C converts `number` to the type of the
+ * values before the call: 2.5 becomes 2 for whole numbers, with a warning by -Wconversion alone.
+ * compare of vortex_bits.hpp compares exactly.
  *
  *     const double prices[] = {1.5, NAN, 0.25};
  *     uint8_t cheap[] = {0};

@@ -48,43 +48,120 @@ template <class Value> constexpr bool is_compared()
     return is_index<Value>() || std::is_same_v<Value, float> || std::is_same_v<Value, double>;
 }
 
+/* Returns whether such values are compared with a `Number`: whole numbers with whole ones only. */
+template <class Value, class Number> constexpr bool is_compared_with()
+{
+    if constexpr (std::is_convertible_v<Number, double> && !std::is_class_v<Number>) {
+        using promoted = decltype(+std::declval<Number>());
+        return is_index<promoted>()
+            || (std::is_floating_point_v<promoted> && std::is_floating_point_v<Value>);
+    }
+    return false;
+}
+
+/* The least value of a type that is not below a number: it may be the number, or there is none. */
+template <class Value> struct bound {
+    Value value;
+    bool is_number;
+    bool is_none;
+};
+
+template <class Value, class Number> bound<Value> bound_of_whole(Number number)
+{
+    using limits = std::numeric_limits<Value>;
+    if (number > 0) {
+        const bool is_none =
+            static_cast<std::uint64_t>(number) > static_cast<std::uint64_t>(limits::max());
+        return {static_cast<Value>(number), !is_none, is_none};
+    }
+    const bool is_less =
+        static_cast<std::int64_t>(number) < static_cast<std::int64_t>(limits::min());
+    return {is_less ? limits::min() : static_cast<Value>(number), !is_less, false};
+}
+
+/* Returns whether a number, rounded, is above it (1) or below it (-1); 0 if it is it, or a NaN. */
+template <class Value, class Number> int side(Value rounded, Number number)
+{
+    if constexpr (std::is_floating_point_v<Number>) {
+        using wide = std::common_type_t<Value, Number>;
+        const wide left = static_cast<wide>(rounded), right = static_cast<wide>(number);
+        return (left > right) - (left < right);
+    } else {
+        // It is a whole number, and behind the type of the number if it was rounded up to that.
+        constexpr Value half = static_cast<Value>(std::numeric_limits<Number>::max() / 2 + 1);
+        if (rounded >= 2 * half) {
+            return 1;
+        }
+        const Number whole = static_cast<Number>(rounded);
+        return (whole > number) - (whole < number);
+    }
+}
+
+template <class Value, class Number> bound<Value> bound_of_float(Number number)
+{
+    const Value rounded = static_cast<Value>(number);
+    const int is_at = side(rounded, number);
+    const Value next = std::nextafter(rounded, std::numeric_limits<Value>::infinity());
+    return {is_at < 0 ? next : rounded, is_at == 0, false};
+}
+
+template <class Value, class Number> bound<Value> bound_of(Number number)
+{
+    if constexpr (std::is_floating_point_v<Value>) {
+        return bound_of_float<Value>(number);
+    } else {
+        return bound_of_whole<Value>(number);
+    }
+}
+
 } // namespace detail
 
 /*
  * Writes to `out` which of the values compare with `number` by `op`: VB_EQUAL, VB_LESS, .. of
- * vortex_bits_compare.h. Values are whole numbers of 8 to 64 bits, floats or doubles. C++ converts
- * `number` to their type before the call, so that 300 becomes 44 beside values of 8 bits.
+ * vortex_bits_compare.h. Values are whole numbers of 8 to 64 bits, floats or doubles. `number` is
+ * of any type of numbers, and a whole number if the values are. It is compared as it is, exactly,
+ * also if their type doesn't have it: all values of 8 bits are below 300, and no float equals 0.1.
  */
-template <class Values>
-void compare(const Values &values, std::uint8_t op,
-    const std::remove_cv_t<detail::lent_t<const Values>> &number, bits_mut out)
+template <class Values, class Number>
+void compare(const Values &values, vb_comparison op, Number number, bits_mut out)
 {
     using value = std::remove_cv_t<detail::lent_t<const Values>>;
     static_assert(detail::is_compared<value>(),
-        "compare compares whole numbers of 8, 16, 32 or 64 bits, float and double");
-    detail::expect(op <= VB_GREATER_OR_EQUAL, "not a comparison");
-    detail::expect(values.size() == out.len_, "not a bit for each value");
-    if constexpr (detail::is_compared<value>()) {
+        "compare compares whole numbers of 8, 16, 32 or 64 bits, float and double, of what has "
+        "data() and size(): for a pointer write vortex_bits::view(pointer, count)");
+    static_assert(!detail::is_compared<value>() || detail::is_compared_with<value, Number>(),
+        "compare compares whole numbers with a whole number: round this one as you mean it");
+    if constexpr (detail::is_compared<value>() && detail::is_compared_with<value, Number>()) {
+        detail::expect(op <= VB_GREATER_OR_EQUAL, "not a comparison");
+        detail::expect(values.size() == out.len_, "not a bit for each value");
         using by = detail::compared_as<value>;
         using as = typename by::type;
+        const auto bound = detail::bound_of<as>(+number);
+        const bool is_less = op == VB_LESS || op == VB_LESS_OR_EQUAL;
+        if (!bound.is_number && (bound.is_none || op == VB_EQUAL || op == VB_NOT_EQUAL)) {
+            return out.fill(op == VB_NOT_EQUAL || is_less);
+        }
+        const std::uint8_t beside = is_less ? VB_LESS : VB_GREATER_OR_EQUAL;
         by::number(out.bytes_, out.size_, out.offset_, reinterpret_cast<const as *>(values.data()),
-            values.size(), op, static_cast<as>(number));
+            values.size(), bound.is_number ? std::uint8_t{op} : beside, bound.value);
     }
 }
 
 /* Does the same with the item of `others` at the same index; both have one length and type. */
 template <class Values, class Others>
-void compare_with(const Values &values, std::uint8_t op, const Others &others, bits_mut out)
+void compare_with(const Values &values, vb_comparison op, const Others &others, bits_mut out)
 {
     using value = std::remove_cv_t<detail::lent_t<const Values>>;
+    using other = std::remove_cv_t<detail::lent_t<const Others>>;
     static_assert(detail::is_compared<value>(),
-        "compare_with compares whole numbers of 8, 16, 32 or 64 bits, float and double");
-    static_assert(std::is_same_v<std::remove_cv_t<detail::lent_t<const Others>>, value>,
+        "compare_with compares whole numbers of 8, 16, 32 or 64 bits, float and double, of what "
+        "has data() and size(): for a pointer write vortex_bits::view(pointer, count)");
+    static_assert(!detail::is_compared<value>() || std::is_same_v<other, value>,
         "compare_with compares values of one type");
-    detail::expect(op <= VB_GREATER_OR_EQUAL, "not a comparison");
-    detail::expect(values.size() == out.len_ && others.size() == out.len_,
-        "not a bit for each value and other");
-    if constexpr (detail::is_compared<value>()) {
+    if constexpr (detail::is_compared<value>() && std::is_same_v<other, value>) {
+        detail::expect(op <= VB_GREATER_OR_EQUAL, "not a comparison");
+        detail::expect(values.size() == out.len_ && others.size() == out.len_,
+            "not a bit for each value and other");
         using by = detail::compared_as<value>;
         using as = typename by::type;
         by::others(out.bytes_, out.size_, out.offset_, reinterpret_cast<const as *>(values.data()),
