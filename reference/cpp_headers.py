@@ -8,7 +8,7 @@ from reference.c_headers import COMMENT, Declared, Entry, Header, plain
 OF_C = re.compile(r"\bvb_\w+")
 DIRECTIVE = re.compile(r"^#(?:.*\\\n)*.*$", re.MULTILINE)
 LABEL = re.compile(r"(public|private|protected):")
-CLASS = re.compile(r"\b(class|struct) (\w+)$")
+CLASS = re.compile(r"\b(class|struct) (\w+)(?: : public \w+)?$")
 TEMPLATE = re.compile(r"template <")
 NAME = re.compile(r"(operator(?:\[\]|[^\w\s(]+| \w+)|\w+(?:::\w+)*)\(")
 VARIABLE = re.compile(r"(\w+) =")

@@ -91,11 +91,17 @@ ACCEPTED = [
     "bits_mut all(bytes, 0, 8); all.and_validity(rows); all.and_validity(std::nullopt);",
     "bits_mut(bytes, 0, 8).and_validities_of(bits_mut(plain, 4, 0, 8), bits(fixed, 1, 8));",
     "(void)count_valid(rows, {}, 8); (void)count_valid(validity(plain, 4, 0, 8), rows, 8);",
+    "bits_mut all(bytes, 0, 8); (void)(all.count_ones() + all[0] + all.any() + (all == rows));",
+    "const bits_mut all(bytes, 0, 8); all.for_each_set([](std::size_t) {}); rows = all;",
+    "std::optional<bits> valid = rows; (void)bits_mut(bytes, 0, 8).take_of(rows, fixed, valid);",
+    "(void)rows.take_into(fixed, std::nullopt, bytes); (void)rows.take_into(fixed, rows, bytes);",
     "compare(std::vector<std::int8_t>(8), VB_LESS, 5, bits_mut(bytes, 0, 8));",
     "const vb_comparison op = VB_LESS; compare(vortex_bits::view(plain, 4), op, 5u, four);",
     "compare(std::vector<float>(8), VB_LESS, 0.5, {bytes, 0, 8});",
     "compare(std::vector<double>(8), VB_LESS, fixed.size(), {bytes, 0, 8});",
     "const auto op = static_cast<vb_comparison>(plain[0]); compare_with(fixed, op, fixed, four);",
+    "static_assert(!can_be<bits, std::string &> && !can_be<bits, std::uint8_t *>);",
+    "static_assert(!can_be<bits_mut, std::string &> && !can_be<bits_mut, std::uint8_t *>);",
 ]
 ACCEPTED_SINCE_20 = [
     "(void)bits(std::span<const std::uint8_t>(fixed), 0, 8);",
@@ -110,8 +116,8 @@ ACCEPTED_SINCE_20 = [
     "static_assert(!can_be<bits_mut, std::span<const std::uint8_t>>);",
 ]
 
-# What must not: windows over bytes that end before them, or that can't be written; a number in the
-# place of a comparison; and answers that nobody looks at. Both compilers say it so.
+# What must not: windows over bytes that end before them, that can't be written, or over other items;
+# a number in the place of a comparison; and answers that nobody looks at. Both compilers say it so.
 DELETED, NONE, UNUSED = "deleted (function|constructor)", "no matching", "ignoring return value"
 REFUSED = [
     ("bits it(buffer(4), 0, 8); (void)it;", DELETED),
@@ -123,16 +129,21 @@ REFUSED = [
     ("bits it(digest(), 0, 8); (void)it;", DELETED),
     ("bits it(std::vector<std::uint64_t>(4), 0, 8); (void)it;", DELETED),
     ("bits_mut it(std::vector<std::uint64_t>(4), 0, 8); (void)it;", DELETED),
-    ("const std::vector<std::uint64_t> all(1); bits_mut it(all, 0, 8); (void)it;", NONE),
-    ("std::vector<std::uint32_t> all(1); bits it(all, 0, 8); (void)it;", NONE),
+    ("const std::vector<std::uint64_t> all(1); bits_mut it(all, 0, 8); (void)it;", DELETED),
+    ("std::vector<std::uint32_t> all(1); bits it(all, 0, 8); (void)it;", DELETED),
+    ("std::string all(4, ' '); bits it(all, 0, 8); (void)it;", DELETED),
+    ("std::vector<std::byte> all(1); bits_mut it(all, 0, 8); (void)it;", DELETED),
+    ("bits it(bytes.data(), 0, 8); (void)it;", DELETED),
+    ("bits_mut it(plain, 0, 8); (void)it;", DELETED),
+    ("bits_mut it(fixed.data(), 0, 8); (void)it;", DELETED),
     ("(void)count({buffer(4), 0, 8});", DELETED),
     ("bits_mut it(buffer(4), 0, 8); (void)it;", DELETED),
     ("bits_mut(made(), 0, 8).fill(true);", DELETED),
     ("bits_mut(std::move(bytes), 0, 8).fill(true);", DELETED),
     ("bits_mut(std::array<std::uint8_t, 4>{}, 0, 8).fill(true);", DELETED),
-    ("bits_mut it(fixed, 0, 8); (void)it;", NONE),
+    ("bits_mut it(fixed, 0, 8); (void)it;", DELETED),
     ("bits_mut it(made_constant(), 0, 8); (void)it;", DELETED),
-    ("bits_mut it(slice{plain, 4}, 0, 8); (void)it;", NONE),
+    ("bits_mut it(slice{plain, 4}, 0, 8); (void)it;", DELETED),
     ("compare(fixed, 2, VB_LESS, four);", NONE),
     ("compare(fixed, 5, 2, four);", NONE),
     ("compare_with(fixed, 2, fixed, four);", NONE),

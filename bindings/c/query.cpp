@@ -78,7 +78,7 @@ struct by_calls {
         vortex_bits::compare(a.values<std::int32_t>(), VB_GREATER, limit, mask);
         mask.and_validity(a.valid());
         mask.and_validity(b.valid());
-        const std::size_t kept = bits(mask).count_ones();
+        const std::size_t kept = mask.count_ones();
         find(to, mask, 0, to.first);
         if (at <= nth) {
             find(to, mask, nth - at, to.found);

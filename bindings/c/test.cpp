@@ -249,7 +249,7 @@ static void joins()
 {
     const buffer some = {0xB6, 0x01}, others = {0x1E, 0x00};
     const bits values(some, 1, 8), mask(others, 0, 8);
-    buffer out = {0x00, 0xFF, 0xFF};
+    buffer out = {0x00, 0xFF, 0xFF}, others_out(1);
     bits_mut window(out, 5, 14);
     std::size_t rows = window.filter_of(values, mask);
     rows += window.slice(rows, 14 - rows).filter_of(mask, values);
@@ -261,6 +261,12 @@ static void joins()
     check(!window.take_of(values, std::array<std::int8_t, 2>{0, -1}, bits(others, 4, 2)),
         "a negative index of no use");
     check(out[0] == 0xA0, "what the last take wrote");
+    const std::optional<bits> some_valid = bits(others, 4, 2);
+    check(!window.take_of(values, std::array<std::int8_t, 2>{0, -1}, some_valid), "an optional");
+    check(window.take_of(values, std::array<std::int8_t, 2>{0, -1}, std::nullopt)
+            == std::optional<std::size_t>(1), "a validity that is missing");
+    check(!values.take_into(std::array<std::int8_t, 1>{0}, std::optional<bits>(), others_out)
+            && others_out[0] == 1, "a take into bytes without a validity");
     window.slice(0, 3).copy_from_bools(std::array<bool, 3>{true, false, true});
     check(out[0] == 0xA0, "bools at an offset");
     window.slice(0, 3).copy_from_truthy(buffer{0, 7, 255});
@@ -359,7 +365,7 @@ template <class Index> static void take(const buffer &all, bool valid, std::size
 
 template <class... Index> static void takes_of_types(const buffer &all)
 {
-    for (const std::size_t n : {0, 1, 8, 511, 512, 513, 1300}) {
+    for (const std::size_t n : std::array<std::size_t, 7>{0, 1, 8, 511, 512, 513, 1300}) {
         for (int k = 0; k < 4; k++) {
             (take<Index>(all, k % 2 == 1, n, k >= 2), ...);
         }

@@ -53,6 +53,12 @@ public:
     template <class Words, detail::owner<Words, const std::uint64_t> = 0>
     bits(const Words &&words, std::size_t offset, std::size_t len) = delete;
 
+    /* Deleted: a pointer needs a size, and other items, such as char, a cast. */
+    template <class Item>
+    bits(Item *, std::size_t, std::size_t) = delete; // no size: write view(pointer, count)
+    template <class Other, detail::other<Other> = 0>
+    bits(const Other &, std::size_t, std::size_t) = delete; // write view(cast to uint8_t *, ..)
+
     std::size_t size() const { return len_; }
     bool empty() const { return len_ == 0; }
 
@@ -129,6 +135,7 @@ public:
         return detail::place(vb_previous_unset(bytes_, size_, offset_, len_, before));
     }
 
+    /* Returns whether any bit is set (false for no bits), or whether all are (true for no bits). */
     bool any() const { return vb_any_set(bytes_, size_, offset_, len_); }
     bool all() const { return vb_all_set(bytes_, size_, offset_, len_); }
 
@@ -221,15 +228,15 @@ public:
     /*
      * Takes (gathers): writes the bits at the indices, whole numbers of 8 to 64 bits, to the first
      * bits of `out`, one each. Returns the first position whose index is out of range, if there is
-     * one; these bits then hold anything.
+     * one; the bits for all indices are then unspecified.
      */
     template <class Indices, class Out>
     [[nodiscard]] std::optional<std::size_t> take_into(const Indices &indices, Out &&out) const;
 
-    /* Does the same where `valid` is true; writes false at the other positions. */
+    /* Does the same where `valid`, if there is one, is true; writes false at other positions. */
     template <class Indices, class Out>
-    [[nodiscard]] std::optional<std::size_t> take_into(const Indices &indices, bits valid,
-        Out &&out) const;
+    [[nodiscard]] std::optional<std::size_t> take_into(const Indices &indices,
+        const std::optional<bits> &valid, Out &&out) const;
 
     /*
      * Writes the bits that `mask`, of the same length, selects, in order, to the first bits of
@@ -254,7 +261,10 @@ public:
     template <class Values, class Out>
     std::size_t scatter_into(const Values &values, Out &&out) const;
 
-    /* Copies the bits to one bool each (std::vector<bool> lends none), or to one byte 0 or 1. */
+    /*
+     * Copies the bits to one bool each (std::vector<bool> lends none), or to one byte 0 or 1. `out`
+     * has exactly one item per bit; vb_unpack_bools and vb_unpack_bytes of C accept more.
+     */
     template <class Bools> void copy_to_bools(Bools &&out) const;
     template <class Bytes> void copy_to_bytes(Bytes &&out) const;
 
@@ -297,19 +307,19 @@ private:
     [[nodiscard]] std::optional<std::size_t> take(const Indices &indices, const bits *valid,
         std::uint8_t *out, std::size_t size, std::size_t at) const;
 
+protected:
     const std::uint8_t *bytes_ = nullptr;
     std::size_t size_ = 0;
     std::size_t offset_ = 0;
     std::size_t len_ = 0;
 };
 
-/* A writable window; every bit outside of it is unchanged. */
-class bits_mut {
+/* A writable window, with all calls of bits; every bit outside of it is unchanged. */
+class bits_mut : public bits {
 public:
     bits_mut(std::uint8_t *bytes, std::size_t size, std::size_t offset, std::size_t len)
-        : bytes_(bytes), size_(size), offset_(offset), len_(len)
+        : bits(bytes, size, offset, len), bytes_(bytes)
     {
-        detail::expect(fits(size, offset, len), "a window does not lie in its bytes");
     }
 
     template <class Bytes, detail::lender<Bytes, std::uint8_t> = 0>
@@ -341,10 +351,13 @@ public:
     template <class Words, detail::owner<Words, std::uint64_t> = 0>
     bits_mut(const Words &&words, std::size_t offset, std::size_t len) = delete;
 
-    std::size_t size() const { return len_; }
-
-    /* Returns the window as a read-only one. */
-    operator bits() const { return bits(bytes_, size_, offset_, len_); }
+    /* Deleted, as in bits; and const bytes can only be read. */
+    template <class Item>
+    bits_mut(Item *, std::size_t, std::size_t) = delete; // no size: write view(pointer, count)
+    template <class Bytes, detail::fixed<Bytes> = 0>
+    bits_mut(const Bytes &, std::size_t, std::size_t) = delete; // the bytes are const: write bits
+    template <class Other, detail::other<Other> = 0>
+    bits_mut(const Other &, std::size_t, std::size_t) = delete; // write view(cast to uint8_t *, ..)
 
     /* Returns the `len` bits from index `start` on. */
     bits_mut slice(std::size_t start, std::size_t len) const
@@ -357,7 +370,10 @@ public:
     void fill(bool value) { vb_fill_bits(bytes_, size_, offset_, len_, value); }
     void negate() { vb_negate_bits(bytes_, size_, offset_, len_); }
 
-    /* Copies the `len` bits from index `from` on to those from index `to` on, as memmove does. */
+    /*
+     * Copies the `len` bits from index `from` on to those from index `to` on, which may overlap.
+     * vb_move_bits of C has these numbers in memmove's order: to, from, length.
+     */
     void copy_within(std::size_t from, std::size_t len, std::size_t to)
     {
         detail::expect(from <= len_ && len <= len_ - from && to <= len_ && len <= len_ - to,
@@ -386,29 +402,31 @@ public:
 
     /*
      * Undoes filter_into: writes the bits of `values` in order where `mask`, of this length, is
-     * true, and false elsewhere. `values` has one bit per set bit of the mask.
+     * true, and false elsewhere. `values` has exactly one bit per set bit of the mask; scatter_into
+     * and vb_deposit_bits of C accept more.
      */
     void deposit_of(bits values, bits mask);
 
     /*
      * Writes the bits of `values` that `mask`, of the same length, selects, in order, to the first
-     * bits of the window, and returns their number. This joins batches:
+     * bits of the window, and returns their number. This joins batches, behind `rows` bits:
      *
-     *     rows += out.slice(rows, left).filter_of(batch, mask);
+     *     rows += out.slice(rows, out.size() - rows).filter_of(batch, mask);
      */
     std::size_t filter_of(bits values, bits mask);
 
     /* Does the same with a validity; if it is missing, writes true for each row selected. */
     std::size_t filter_validity_of(const std::optional<bits> &validity, bits mask);
 
-    /* Takes bits of `values`, as bits::take_into writes them; all positions count. */
-    template <class Indices>
-    [[nodiscard]] std::optional<std::size_t> take_of(bits values, const Indices &indices);
-
-    /* Does the same where `valid` is true; writes false at the other positions. */
+    /*
+     * Takes bits of `values`, as bits::take_into writes them, where `valid`, if there is one, is
+     * true; writes false at other positions. With the codes of rows this is a whole semi-join:
+     *
+     *     bad = rows.take_of(selected_keys, codes, valid);    // the rows of these keys
+     */
     template <class Indices>
     [[nodiscard]] std::optional<std::size_t> take_of(bits values, const Indices &indices,
-        bits valid);
+        const std::optional<bits> &valid = std::nullopt);
 
     /*
      * Writes which of `left and right`, or of `left or right`, are true, by three-valued logic on
@@ -448,10 +466,8 @@ private:
     void by_columns(Call call, bits left, std::optional<bits> left_valid, bits right,
         std::optional<bits> right_valid, bits_mut valid);
 
+    // The same bytes, to write them.
     std::uint8_t *bytes_;
-    std::size_t size_;
-    std::size_t offset_;
-    std::size_t len_;
 };
 
 } // namespace vortex_bits

@@ -108,6 +108,10 @@ struct aggregate {
             using by = aggregated_by<sizeof(value), std::is_signed_v<value>>;
             return call(by(), reinterpret_cast<const typename by::type *>(values.data()),
                 values.size(), mask.bytes_, mask.size_, mask.offset_);
+        } else if constexpr (std::is_arithmetic_v<value>) {
+            // Of the right type, so that what a program does with it is no second error.
+            return call(aggregated_by<8, true>(), static_cast<const std::int64_t *>(nullptr),
+                values.size(), mask.bytes_, mask.size_, mask.offset_);
         }
     }
 
@@ -213,7 +217,7 @@ template <class Sums, class Codes, class Values>
     static_assert(detail::is_code<code>(), "codes are whole numbers of 8, 16 or 32 bits");
     static_assert(detail::is_index<value>(), "values are whole numbers of 8, 16, 32 or 64 bits");
     using total = std::conditional_t<std::is_signed_v<value>, std::int64_t, std::uint64_t>;
-    static_assert(std::is_same_v<detail::lent_t<std::remove_reference_t<Sums>>, total>,
+    static_assert(!detail::is_index<value>() || std::is_same_v<detail::lent_of<Sums>, total>,
         "sums are of std::int64_t for signed values, else of std::uint64_t");
     detail::expect(values.size() == codes.size(), "not a value for each code");
     if constexpr (detail::is_code<code>() && detail::is_index<value>()) {

@@ -88,25 +88,28 @@ std::optional<std::size_t> bits::take_into(const Indices &indices, Out &&out) co
 }
 
 template <class Indices, class Out>
-std::optional<std::size_t> bits::take_into(const Indices &indices, bits valid, Out &&out) const
+std::optional<std::size_t> bits::take_into(const Indices &indices,
+    const std::optional<bits> &valid, Out &&out) const
 {
     static_assert(detail::is_bytes<Out>(), "take_into writes bytes of std::uint8_t");
-    return take(indices, &valid, out.data(), out.size(), 0);
+    return take(indices, valid ? &*valid : nullptr, out.data(), out.size(), 0);
 }
 
 template <class Out> std::size_t bits::filter_into(bits mask, Out &&out) const
 {
     static_assert(detail::is_bytes<Out>(), "filter_into writes bytes of std::uint8_t");
     detail::expect(mask.len_ == len_, "windows are of two lengths");
-    detail::expect(fits(out.size(), 0, mask.count_ones()), "no room for the bits to keep");
-    return vb_filter_bits(out.data(), out.size(), 0, bytes_, size_, offset_, mask.bytes_,
-        mask.size_, mask.offset_, len_);
+    std::size_t kept = 0;
+    detail::expect(vb_try_filter_bits(out.data(), out.size(), 0, bytes_, size_, offset_,
+            mask.bytes_, mask.size_, mask.offset_, len_, &kept),
+        "no room for the bits to keep");
+    return kept;
 }
 
 inline std::size_t bits_mut::filter_of(bits values, bits mask)
 {
     detail::expect(mask.len_ == values.len_, "windows are of two lengths");
-    detail::expect(mask.count_ones() <= len_, "no room for the bits to keep");
+    detail::expect(mask.len_ <= len_ || mask.count_ones() <= len_, "no room for the bits to keep");
     return vb_filter_bits(bytes_, size_, offset_, values.bytes_, values.size_, values.offset_,
         mask.bytes_, mask.size_, mask.offset_, mask.len_);
 }
@@ -131,24 +134,18 @@ inline void bits_mut::and_validities_of(const std::optional<bits> &left,
 inline std::size_t bits_mut::filter_validity_of(const std::optional<bits> &validity, bits mask)
 {
     detail::expect(!validity || validity->len_ == mask.len_, "windows are of two lengths");
-    detail::expect(mask.count_ones() <= len_, "no room for the bits to keep");
+    detail::expect(mask.len_ <= len_ || mask.count_ones() <= len_, "no room for the bits to keep");
     const bits rows = validity.value_or(bits());
     return vb_filter_validity(bytes_, size_, offset_, rows.bytes_, rows.size_, rows.offset_,
         mask.bytes_, mask.size_, mask.offset_, mask.len_);
 }
 
 template <class Indices>
-std::optional<std::size_t> bits_mut::take_of(bits values, const Indices &indices)
+std::optional<std::size_t> bits_mut::take_of(bits values, const Indices &indices,
+    const std::optional<bits> &valid)
 {
     detail::expect(indices.size() <= len_, "no room for a bit an index");
-    return values.take(indices, nullptr, bytes_, size_, offset_);
-}
-
-template <class Indices>
-std::optional<std::size_t> bits_mut::take_of(bits values, const Indices &indices, bits valid)
-{
-    detail::expect(indices.size() <= len_, "no room for a bit an index");
-    return values.take(indices, &valid, bytes_, size_, offset_);
+    return values.take(indices, valid ? &*valid : nullptr, bytes_, size_, offset_);
 }
 
 inline void bits_mut::deposit_of(bits values, bits mask)

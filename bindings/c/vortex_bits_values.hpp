@@ -54,17 +54,18 @@ std::size_t bits::keep_into(const Values &values, Out &&out) const
     static_assert(detail::is_value<value>(),
         "keep_into takes values of 1, 2, 4, 8 or 16 bytes that are copied and aligned as whole "
         "numbers are: these, floats, bool, vb_u128. std::vector<bool> has none of them");
-    static_assert(std::is_same_v<detail::lent_t<std::remove_reference_t<Out>>, value>,
+    static_assert(std::is_same_v<detail::lent_of<Out>, value>,
         "keep_into writes values of the type that it reads");
-    detail::expect(values.size() == len_, "not a bit for each value");
-    detail::expect(count_ones() <= out.size(), "no room for the values to keep");
-    if constexpr (detail::is_value<value>()) {
+    std::size_t kept = 0;
+    if constexpr (detail::is_value<value>() && std::is_same_v<detail::lent_of<Out>, value>) {
+        detail::expect(values.size() == len_, "not a bit for each value");
         using laid = detail::laid<sizeof(value)>;
-        return laid::keep(reinterpret_cast<typename laid::type *>(out.data()), out.size(),
-            reinterpret_cast<const typename laid::type *>(values.data()), len_, bytes_, size_,
-            offset_);
+        detail::expect(laid::try_keep(reinterpret_cast<typename laid::type *>(out.data()),
+                out.size(), reinterpret_cast<const typename laid::type *>(values.data()), len_,
+                bytes_, size_, offset_, &kept),
+            "no room for the values to keep");
     }
-    return 0;
+    return kept;
 }
 
 template <class Values, class Out>
@@ -74,11 +75,11 @@ std::size_t bits::scatter_into(const Values &values, Out &&out) const
     static_assert(detail::is_value<value>(),
         "scatter_into takes values of 1, 2, 4, 8 or 16 bytes that are copied and aligned as whole "
         "numbers are: these, floats, bool, vb_u128. std::vector<bool> has none of them");
-    static_assert(std::is_same_v<detail::lent_t<std::remove_reference_t<Out>>, value>,
+    static_assert(std::is_same_v<detail::lent_of<Out>, value>,
         "scatter_into writes values of the type that it reads");
-    detail::expect(out.size() == len_, "not a bit for each item");
-    detail::expect(count_ones() <= values.size(), "not a value for each set bit");
-    if constexpr (detail::is_value<value>()) {
+    if constexpr (detail::is_value<value>() && std::is_same_v<detail::lent_of<Out>, value>) {
+        detail::expect(out.size() == len_, "not a bit for each item");
+        detail::expect(count_ones() <= values.size(), "not a value for each set bit");
         using laid = detail::laid<sizeof(value)>;
         return laid::scatter(reinterpret_cast<typename laid::type *>(out.data()), len_,
             reinterpret_cast<const typename laid::type *>(values.data()), values.size(), bytes_,
@@ -90,8 +91,8 @@ std::size_t bits::scatter_into(const Values &values, Out &&out) const
 /*
  * Takes (gathers): writes the values at the indices, whole numbers of 8 to 64 bits, to the front of
  * `out`, one each; where `valid` is false, 0, whatever the index. Returns the first position that
- * counts and whose index is out of range, if there is one; the items before then hold anything.
- * Later items of `out` are unchanged. Values are of the types that keep_into takes.
+ * counts and whose index is out of range, if there is one; the items for all indices are then
+ * unspecified. Later ones are unchanged. Values are of the types that keep_into takes.
  */
 template <class Values, class Indices, class Out>
 [[nodiscard]] std::optional<std::size_t> take_values(const Values &values, const Indices &indices,
@@ -104,11 +105,13 @@ template <class Values, class Indices, class Out>
         "numbers are: these, floats, bool, vb_u128. std::vector<bool> has none of them");
     static_assert(detail::is_index<index>(),
         "take_values takes indices of a whole number of 8, 16, 32 or 64 bits");
-    static_assert(std::is_same_v<detail::lent_t<std::remove_reference_t<Out>>, value>,
+    static_assert(std::is_same_v<detail::lent_of<Out>, value>,
         "take_values writes values of the type that it reads");
-    detail::expect(indices.size() <= out.size(), "no room for a value an index");
-    detail::expect(!valid || valid->size() == indices.size(), "not a bit of validity for each index");
-    if constexpr (detail::is_value<value>() && detail::is_index<index>()) {
+    if constexpr (detail::is_value<value>() && detail::is_index<index>()
+        && std::is_same_v<detail::lent_of<Out>, value>) {
+        detail::expect(indices.size() <= out.size(), "no room for a value an index");
+        detail::expect(!valid || valid->size() == indices.size(),
+            "not a bit of validity for each index");
         using laid = typename detail::laid<sizeof(value)>::type;
         using as = typename detail::laid<sizeof(index)>::type;
         const bits counts = valid.value_or(bits());

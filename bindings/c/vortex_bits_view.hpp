@@ -69,6 +69,16 @@ using borrower = std::enable_if_t<lends<Container, Byte> && is_borrowed<Containe
 template <class Container, class Byte>
 using owner = std::enable_if_t<lends<Container, Byte> && !is_borrowed<Container>, int>;
 
+/* Types that lend neither bytes nor words, and types that lend them only to be read. */
+template <class Container>
+inline constexpr bool is_lender =
+    lends<const Container, const std::uint8_t> || lends<const Container, const std::uint64_t>;
+template <class Container>
+using other = std::enable_if_t<std::is_class_v<Container> && !is_lender<Container>, int>;
+template <class Container>
+using fixed = std::enable_if_t<is_lender<Container> && !lends<const Container, std::uint8_t>
+        && !lends<const Container, std::uint64_t>, int>;
+
 /* Returns the bytes of words, the lowest byte of each first, as on each x86-64. */
 template <class Words> auto bytes_of(Words &words)
 {

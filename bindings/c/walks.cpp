@@ -144,9 +144,9 @@ static void items()
 /* Bits that move within their window, beside a loop over a copy. */
 static void moves(const buffer &any)
 {
-    for (const std::size_t len : {0, 1, 64, 65, 500, 1300}) {
-        for (const std::size_t from : {0, 1, 9, 40}) {
-            for (const std::size_t to : {0, 3, 8, 41}) {
+    for (const std::size_t len : std::array<std::size_t, 6>{0, 1, 64, 65, 500, 1300}) {
+        for (const std::size_t from : std::array<std::size_t, 4>{0, 1, 9, 40}) {
+            for (const std::size_t to : std::array<std::size_t, 4>{0, 3, 8, 41}) {
                 buffer got = any, wanted = any;
                 bits_mut(got, 5, 1350).copy_within(from, len, to);
                 for (std::size_t i = 0; i < len; i++) {
@@ -172,7 +172,7 @@ int main()
         more[i] = static_cast<std::uint8_t>(i * i * 37 >> 3);
     }
     std::copy_n(more.begin(), any.size(), any.begin());
-    for (const std::size_t n : {0, 1, 2, 63, 64, 65, 128, 129, 9999}) {
+    for (const std::size_t n : std::array<std::size_t, 9>{0, 1, 2, 63, 64, 65, 128, 129, 9999}) {
         for (const buffer &all : {any, buffer(200, 0xFF), buffer(200, 0x55), buffer(200)}) {
             stops(all, n);
         }

@@ -1,0 +1,88 @@
+/*
+ * Windows of vortex_bits.hpp that are written as windows that are read, and how often filters count
+ * the bits of a mask.
+ */
+#include "vortex_bits.h"
+
+#include <cstddef>
+#include <cstdint>
+
+/* How often a class counts bits: not for a call of C that counts them too. */
+static std::size_t counts = 0;
+
+static std::size_t counted(const std::uint8_t *bytes, std::size_t size, std::size_t offset,
+    std::size_t len)
+{
+    counts++;
+    return vb_count_ones(bytes, size, offset, len);
+}
+
+#define vb_count_ones counted
+#include "vortex_bits.hpp"
+
+#include <cstdio>
+
+using vortex_bits::bits;
+using vortex_bits::bits_mut;
+using buffer = std::vector<std::uint8_t>;
+
+static int failures = 0;
+
+static void check(bool holds, const char *what)
+{
+    if (!holds) {
+        failures++;
+        std::fprintf(stderr, "failed: %s\n", what);
+    }
+}
+
+template <class Call> static void refused(Call call, const char *what)
+{
+    try {
+        call();
+        check(false, what);
+    } catch (const std::out_of_range &) {
+    }
+}
+
+/* Calls that filter count the bits of a mask in C alone, where there is room for all. */
+static void counts_of_filters()
+{
+    const buffer all = {0xB6, 0x01};
+    const bits rows(all, 1, 8), mask(all, 0, 8);
+    const std::array<std::uint16_t, 8> values = {10, 11, 12, 13, 14, 15, 16, 17};
+    std::array<std::uint16_t, 5> kept;
+    buffer out(2);
+    bits_mut window(out, 3, 8);
+    counts = 0;
+    check(mask.keep_into(values, kept) == 5 && counts == 0, "values are counted once");
+    check(rows.filter_into(mask, out) == 5 && counts == 0, "bits are counted once");
+    check(window.filter_of(rows, mask) == 5 && counts == 0, "bits for a window are counted once");
+    check(window.filter_validity_of(rows, mask) == 5 && counts == 0, "so are validities");
+    check(window.slice(0, 5).filter_of(rows, mask) == 5 && counts == 1, "where not all have room");
+    refused([&] { (void)window.slice(0, 4).filter_validity_of(rows, mask); }, "no room");
+    refused([&] { (void)window.slice(0, 4).filter_validity_of(std::nullopt, mask); }, "no room");
+}
+
+/* A window to write is one to read, too. */
+static void readings()
+{
+    buffer all = {0xB6, 0x01};
+    const bits_mut window(all, 1, 8), other(all, 1, 8);
+    const bits reader = window;
+    check(window.count_ones() == 6 && window.count_zeros() == 2 && !window.empty(), "counts");
+    check(window.any() && !window.all() && window[0] && !window[2], "any, all and a bit");
+    check(window == other && window == reader && !(window != bits(all, 1, 8)), "==");
+    check(window != bits(all, 0, 8) && window.offset() == 1, "!= and where it begins");
+    check(window.set_indices() == reader.set_indices(), "indices");
+    check(window.and_count(reader) == 6 && reader.is_subset(window), "two windows");
+    bits_mut(all, 0, 3).fill(false);
+    check(window.slice(0, 2).count_ones() == 0, "what another one writes");
+}
+
+int main()
+{
+    counts_of_filters();
+    readings();
+    return failures == 0 ? 0 : 1;
+}
