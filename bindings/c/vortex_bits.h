@@ -32,10 +32,10 @@
  *
  * For every call, the caller must ensure: each pointer points to the number of items that the next
  * argument gives, and may be null if that is 0; the last pointer of a vb_try_ function, to the
- * result, is not null; the output overlaps no other argument, which no function can test; during
- * the call nothing else accesses the bytes that it stores, and nothing writes the `size` bytes that
- * it reads. For a call without `try` also: each window ends in its bytes, and its end, offset +
- * len, is at most SIZE_MAX.
+ * result, is not null; the output overlaps no other argument (no function tests that, also none
+ * with `try`); during the call nothing else accesses the bytes that it stores, and nothing writes
+ * the `size` bytes that it reads. For a call without `try` also: each window ends in its bytes, and
+ * its end, offset + len, is at most SIZE_MAX.
  *
  * A vb_try_ function requires no more than every call does. It tests sizes, offsets, lengths and
  * capacities, and that no pointer is null whose number is not 0, as after a failed malloc. If a
@@ -385,8 +385,9 @@ VB_CHECKED bool vb_try_copy_bits(uint8_t *dst, size_t dst_size, size_t dst_offse
 
 /*
  * Copies the `len` bits from bit `from` on to the bits from bit `offset` on of the same bytes, as
- * memmove does: the windows may overlap. Processes 4,096 bits at a time. Loads only bytes with a bit
- * of one of the windows.
+ * memmove does: the windows may overlap. The arguments are in the order of memmove: to, from,
+ * length; copy_within of C++ has from, length, to. Processes 4,096 bits at a time. Loads only bytes
+ * with a bit of one of the windows.
  *
  *     uint8_t rows[] = {0x68};
  *     vb_move_bits(rows, 1, 1, 3, 5);

@@ -199,12 +199,14 @@ VB_CHECKED bool vb_try_unpack_bytes(uint8_t *out, size_t out_count, const uint8_
 
 /*
  * Takes (gathers) bits: writes the bits of the window at the indices to the bits of `out` from bit
- * `out_offset` on, one for each index. Returns, a checked form in `taken`, the first position that
- * counts and whose index is out of range (not below `len`), if there is one. If `all_valid` is
- * true, each position counts, and the validity may be null, of no bytes. Else a position counts if
- * its bit of `validity`, from bit `validity_offset` on, is true; the others get false, and their
- * indices are ignored. Every other bit of `out` is unchanged; if a position is returned, the bits
- * of the indices hold anything. Processes 64 indices at a time.
+ * `out_offset` on, one for each index. Returns the first position that counts and whose index is
+ * out of range (not below `len`), if there is one; the checked form writes it to `taken`. If
+ * `all_valid` is true, each position counts, and the validity may be null, of no bytes. Else a
+ * position counts if its bit of `validity`, from bit `validity_offset` on, is true; the others get
+ * false, and their indices are ignored. Every other bit of `out` is unchanged. If a position is
+ * returned, the bits of `out` for all indices are unspecified. Processes 64 indices at a time.
+ *
+ * With the codes of rows as indices into a selection of keys, one call is a whole semi-join.
  *
  * Signed indices can be cast, if `len` is at most the number of indices that the type can
  * represent, as in vortex_bits_values.h.
