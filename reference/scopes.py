@@ -110,7 +110,8 @@ class Scopes:
     def import_of_rust(self, steps: list[str], name: str) -> Target | None:
         if steps[-1] in ("TheVariants", "TheConstants"):
             owner = self.library.rust_of(steps[:-1])
-            member = owner.member(name) if owner else None
+            # Without a type the path is that of a module, whose constants they are.
+            member = owner.member(name) if owner else self.library.rust_of([*steps[:-1], name])
             return self.of_item(member) if member else None
         item = self.library.rust_of(steps)
         return self.of_item(item) if item else None

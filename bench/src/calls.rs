@@ -306,6 +306,7 @@ unsafe extern "C" {
     pub fn bench_new_set(len: usize) -> usize;
     pub fn bench_new_unset(len: usize) -> usize;
     pub fn bench_append(bytes: Bytes, many: usize, room: usize) -> usize;
+    pub fn bench_appender(bytes: Bytes, many: usize, room: usize) -> usize;
     pub fn bench_append_n(before: usize, n: usize) -> usize;
     pub fn bench_append_bools(
         bools: *const bool,

@@ -1,10 +1,12 @@
 /*
  * Counts and sums by group of vortex_bits.hpp: what they add, rows without a group, and what they
- * refuse.
+ * refuse; and the sum, the minimum and the maximum of floats.
  */
 #include "vortex_bits.hpp"
 
+#include <cmath>
 #include <cstdio>
+#include <limits>
 
 using vortex_bits::bits;
 using buffer = std::vector<std::uint8_t>;
@@ -28,8 +30,27 @@ template <class Call> static void refused(Call call, const char *what)
     }
 }
 
+static void floats()
+{
+    using namespace vortex_bits;
+    const buffer mask = {0x3E};
+    const double nan = std::numeric_limits<double>::quiet_NaN();
+    const std::vector<double> weights = {1e16, 7.0, -1e16, nan, 1.0, -5.0};
+    const std::vector<double> turning = {1e16, 1.0, -1e16};
+    check(masked_sum(turning, bits(mask, 3, 3)) == 0.0, "a sum of floats, in order");
+    check(std::isnan(masked_sum(weights, bits(mask, 0, 6))), "a sum of a NaN");
+    check(masked_min(weights, bits(mask, 0, 6)) == -1e16, "the least number");
+    check(masked_max(weights, bits(mask, 0, 6)) == 7.0, "the greatest number");
+    const std::array<float, 2> zeros = {0.0f, -0.0f};
+    check(std::signbit(*masked_min(zeros, bits(mask, 1, 2))), "-0.0 is less than 0.0");
+    check(!std::signbit(*masked_max(zeros, bits(mask, 1, 2))), "0.0 is greater than -0.0");
+    check(!masked_max(std::vector<double>(3, nan), bits(mask, 1, 3)), "of no numbers");
+    refused([&] { (void)masked_sum(weights, bits(mask, 0, 5)); }, "too few bits of a mask");
+}
+
 int main()
 {
+    floats();
     using namespace vortex_bits;
     const std::vector<std::int8_t> codes = {2, 1, -1, 2, 0};
     const buffer mask = {0xD8};

@@ -81,6 +81,8 @@ static size_t size;
 #define FILTER(name, type)                                                                        \
     ROW(filter_values_##name, vb_filter_values_##name((type *)written, n, (const type *)values,   \
         n, WINDOW(mixed, LEFT)))
+#define RETAIN(name, type)                                                                        \
+    ROW(retain_values_##name, vb_retain_values_##name((type *)written, n, WINDOW(mixed, LEFT)))
 #define AGGREGATE(name, type)                                                                     \
     ROW(masked_sum_##name, vb_masked_sum_##name((const type *)values, n, WINDOW(mixed, LEFT)).low) \
     ROW(masked_checked_sum_##name,                                                                \
@@ -91,6 +93,13 @@ static size_t size;
         vb_masked_min_##name((const type *)values, n, WINDOW(mixed, LEFT)).value)                 \
     ROW(masked_max_##name,                                                                        \
         vb_masked_max_##name((const type *)values, n, WINDOW(mixed, LEFT)).value)
+#define AGGREGATE_FLOATS(name, type)                                                              \
+    ROW(masked_sum_##name,                                                                        \
+        vb_masked_sum_##name((const type *)values, n, WINDOW(mixed, LEFT)) > 0)                   \
+    ROW(masked_min_##name,                                                                        \
+        vb_masked_min_##name((const type *)values, n, WINDOW(mixed, LEFT)).has_value)             \
+    ROW(masked_max_##name,                                                                        \
+        vb_masked_max_##name((const type *)values, n, WINDOW(mixed, LEFT)).has_value)
 #define GROUP_SUMS(name, type, sum, at)                                                           \
     ROW(group_sums_##name##_##at, vb_group_sums_##name##_##at((sum *)written, n, indices_##at, n,   \
         (const type *)values, n, false, WINDOW(mixed, LEFT)).position)
@@ -194,6 +203,12 @@ FILTER(u16, uint16_t)
 FILTER(u32, uint32_t)
 FILTER(u64, uint64_t)
 FILTER(u128, vb_u128)
+RETAIN(u8, uint8_t)
+RETAIN(u16, uint16_t)
+RETAIN(u32, uint32_t)
+RETAIN(u64, uint64_t)
+RETAIN(u128, vb_u128)
+ROW(retain_values, vb_retain_values(written, n, 4, WINDOW(mixed, LEFT)))
 ROW(filter_values, vb_filter_values(written, n, values, n, 4, WINDOW(mixed, LEFT)))
 AGGREGATE(u8, uint8_t)
 AGGREGATE(u16, uint16_t)
@@ -203,6 +218,8 @@ AGGREGATE(i8, int8_t)
 AGGREGATE(i16, int16_t)
 AGGREGATE(i32, int32_t)
 AGGREGATE(i64, int64_t)
+AGGREGATE_FLOATS(f32, float)
+AGGREGATE_FLOATS(f64, double)
 GROUP(u8)
 GROUP(u16)
 GROUP(u32)
@@ -233,6 +250,8 @@ typedef struct {
 #define OF_AGGREGATE(name)                                                                        \
     OF(masked_sum_##name) OF(masked_checked_sum_##name) OF(masked_wrapping_sum_##name)            \
     OF(masked_min_##name) OF(masked_max_##name)
+#define OF_AGGREGATE_FLOATS(name)                                                                 \
+    OF(masked_sum_##name) OF(masked_min_##name) OF(masked_max_##name)
 #define OF_GROUP(at)                                                                              \
     OF(group_counts_##at) OF(group_sums_u8_##at) OF(group_sums_u16_##at) OF(group_sums_u32_##at)  \
     OF(group_sums_u64_##at) OF(group_sums_i8_##at) OF(group_sums_i16_##at)                        \
@@ -257,11 +276,13 @@ static const row rows[] = {
     OF_COMPARE(u16) OF_COMPARE(u32) OF_COMPARE(u64) OF_COMPARE(i8) OF_COMPARE(i16)
     OF_COMPARE(i32) OF_COMPARE(i64) OF_COMPARE(f32) OF_COMPARE(f64)
     OF(filter_values_u8) OF(filter_values_u16) OF(filter_values_u32) OF(filter_values_u64)
-    OF(filter_values_u128) OF(filter_values) OF(scatter_values_u8) OF(scatter_values_u16)
+    OF(filter_values_u128) OF(filter_values) OF(retain_values_u8) OF(retain_values_u16)
+    OF(retain_values_u32) OF(retain_values_u64) OF(retain_values_u128) OF(retain_values)
+    OF(scatter_values_u8) OF(scatter_values_u16)
     OF(scatter_values_u32) OF(scatter_values_u64) OF(scatter_values_u128) OF(scatter_values)
     OF_AGGREGATE(u8) OF_AGGREGATE(u16) OF_AGGREGATE(u32) OF_AGGREGATE(u64) OF_AGGREGATE(i8)
-    OF_AGGREGATE(i16) OF_AGGREGATE(i32) OF_AGGREGATE(i64) OF_GROUP(u8) OF_GROUP(u16)
-    OF_GROUP(u32) OF_TAKE(u8) OF_TAKE(u16) OF_TAKE(u32)
+    OF_AGGREGATE(i16) OF_AGGREGATE(i32) OF_AGGREGATE(i64) OF_AGGREGATE_FLOATS(f32)
+    OF_AGGREGATE_FLOATS(f64) OF_GROUP(u8) OF_GROUP(u16) OF_GROUP(u32) OF_TAKE(u8) OF_TAKE(u16) OF_TAKE(u32)
     OF_TAKE(u64) OF(take_values) OF(block_counts) OF(rank) OF(ranked_select)
     OF(ranked_select_unset)
 };

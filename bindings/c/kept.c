@@ -186,6 +186,42 @@ SCATTERS(u32, uint32_t)
 SCATTERS(u64, uint64_t)
 SCATTERS(u128, vb_u128)
 
+/* Values of a type that are filtered in place; those behind them stay as they were. */
+#define RETAINS(V, value_t)                                                                       \
+    static void retains_##V(const uint8_t *mask, size_t m, size_t len, size_t ones)               \
+    {                                                                                             \
+        static value_t values[BITS], got[2][BITS], wanted[BITS];                                  \
+        size_t written = 77, n = 0;                                                               \
+        for (size_t i = 0; i < BITS; i++) {                                                       \
+            const uint64_t number = number_at(i);                                                 \
+            memset(&values[i], (int)(number >> 56), sizeof(value_t));                             \
+            memcpy(&values[i], &number, sizeof(value_t) < 8 ? sizeof(value_t) : 8);               \
+        }                                                                                         \
+        memcpy(got[0], values, sizeof values);                                                    \
+        memcpy(got[1], values, sizeof values);                                                    \
+        memcpy(wanted, values, sizeof values);                                                    \
+        for (size_t i = 0; i < len; i++) {                                                        \
+            if (bit(mask, m + i)) {                                                               \
+                wanted[n++] = values[i];                                                          \
+            }                                                                                     \
+        }                                                                                         \
+        check(vb_retain_values_##V(got[0], len, mask, BYTES, m) == ones,                          \
+            "how many values of " #V " stay");                                                    \
+        check(vb_try_retain_values_##V(got[1], len, mask, BYTES, m, &written)                     \
+                && written == ones, "how many of " #V " stay, checked");                          \
+        check(memcmp(got[0], wanted, sizeof wanted) == 0                                          \
+                && memcmp(got[1], wanted, sizeof wanted) == 0, "values of " #V " that stay");     \
+        check(!vb_try_retain_values_##V(got[1], len, mask, (m + len) / 8, m + 8, &written)        \
+                && written == ones && memcmp(got[1], wanted, sizeof wanted) == 0,                 \
+            "a bad mask of " #V " in place");                                                     \
+    }
+
+RETAINS(u8, uint8_t)
+RETAINS(u16, uint16_t)
+RETAINS(u32, uint32_t)
+RETAINS(u64, uint64_t)
+RETAINS(u128, vb_u128)
+
 /* Of bits and of values the ones that a mask keeps, with what stood in memory behind them. */
 static void filters(const uint8_t *bytes, size_t v, const uint8_t *mask, size_t m, size_t len)
 {
@@ -253,6 +289,11 @@ static void filters(const uint8_t *bytes, size_t v, const uint8_t *mask, size_t 
     scatters_u32(mask, m, len, ones);
     scatters_u64(mask, m, len, ones);
     scatters_u128(mask, m, len, ones);
+    retains_u8(mask, m, len, ones);
+    retains_u16(mask, m, len, ones);
+    retains_u32(mask, m, len, ones);
+    retains_u64(mask, m, len, ones);
+    retains_u128(mask, m, len, ones);
     combined_counts(bytes, v, mask, m, len);
     relations(bytes, v, mask, m, len);
     three_valued(bytes, v, mask, mask, m, bytes, len);

@@ -57,6 +57,24 @@ static bool same_taken(vb_taken a, vb_taken b)
             "what a scatter of " #V " writes");                                                   \
     }
 
+#define RETAINS(V, value_t)                                                                       \
+    static void retains_##V(void)                                                                 \
+    {                                                                                             \
+        static value_t got[3][VALUES];                                                            \
+        const size_t n = random_below(VALUES + 1), m = random_below(9), size = sizeof(value_t);   \
+        randomize(got[0], sizeof got[0]);                                                         \
+        memcpy(got[1], got[0], sizeof got[0]);                                                    \
+        memcpy(got[2], got[0], sizeof got[0]);                                                    \
+        size_t written = 77;                                                                      \
+        const size_t kept = vb_retain_values_##V(got[0], n, mask, BYTES, m);                      \
+        check(vb_retain_values(got[1], n, size, mask, BYTES, m) == kept                           \
+                && vb_try_retain_values(got[2], n, size, mask, BYTES, m, &written)                \
+                && written == kept, "how many a filter of " #V " in place keeps");                \
+        check(memcmp(got[0], got[1], sizeof got[0]) == 0                                          \
+                && memcmp(got[0], got[2], sizeof got[0]) == 0,                                    \
+            "what a filter of " #V " in place keeps");                                            \
+    }
+
 #define TAKES(V, value_t, I, index_t)                                                             \
     static void takes_##V##_##I(void)                                                             \
     {                                                                                             \
@@ -89,11 +107,13 @@ static bool same_taken(vb_taken a, vb_taken b)
 
 EACH(FILTERS)
 EACH(SCATTERS)
+EACH(RETAINS)
 EACH(BY)
 
 #define RUN(V, value_t)                                                                           \
     filters_##V();                                                                                \
     scatters_##V();                                                                               \
+    retains_##V();                                                                                \
     takes_##V##_u8();                                                                             \
     takes_##V##_u16();                                                                            \
     takes_##V##_u32();                                                                            \
@@ -110,6 +130,7 @@ static void refusals(void)
         const bool known = size == 1 || size == 2 || size == 4 || size == 8 || size == 16;
         check(vb_try_filter_values(out, 4, values, 4, size, mask, BYTES, 0, &written) == known
                 && vb_try_scatter_values(out, 4, values, 4, size, mask, BYTES, 0, &written) == known
+                && vb_try_retain_values(values, 4, size, mask, BYTES, 0, &written) == known
                 && vb_try_take_values(out, 4, values, 4, size, indices, 4, 8, true, NULL, 0, 0,
                     &past) == known, "a size of values");
         check(vb_try_take_values(out, 4, values, 4, 8, indices, 4, size, true, NULL, 0, 0, &past)
@@ -123,6 +144,7 @@ static void refusals(void)
             && !vb_try_filter_values((uint8_t *)out + 1, 4, values, 4, 2, mask, BYTES, 0, &written)
             && !vb_try_scatter_values(out, 4, odd, 4, 8, mask, BYTES, 0, &written)
             && !vb_try_scatter_values((uint8_t *)out + 1, 4, values, 4, 2, mask, BYTES, 0, &written)
+            && !vb_try_retain_values((uint8_t *)out + 4, 2, 8, mask, BYTES, 0, &written)
             && !vb_try_take_values(out, 4, odd, 4, 16, indices, 4, 8, true, NULL, 0, 0, &past)
             && !vb_try_take_values(out, 4, values, 4, 8, odd, 4, 8, true, NULL, 0, 0, &past),
         "items that aren't aligned");

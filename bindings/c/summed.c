@@ -1,10 +1,12 @@
 /*
  * Compares the calls of vortex_bits_aggregate.h with a loop over single bits: for every type, under
- * random masks, with values at both ends of the type. It compiles as C and as C++.
+ * random masks, with values at both ends of the type, and floats that are no numbers. It compiles as
+ * C and as C++.
  */
 #include "tests.h"
 #include "vortex_bits.h"
 
+#include <math.h>
 #include <string.h>
 
 enum { VALUES = 300, BYTES = 48, ROUNDS = 20000 };
@@ -107,6 +109,68 @@ static uint64_t number_of(unsigned bits)
                 && is_##T(greatest_too, is_any, greatest), "the checked forms of " #T);           \
     }
 
+/* Whether a is less than b, with -0.0 less than 0.0. */
+#define IS_BELOW(a, b) ((a) < (b) || ((a) == (b) && signbit(a) && !signbit(b)))
+
+/* Does the same for a type of floats: numbers whose sums are rounded, zeros, infinities and NaN. */
+#define FLOAT_AGGREGATES(T, type)                                                                 \
+    static bool same_##T(type a, type b)                                                          \
+    {                                                                                             \
+        return (a == b && !signbit(a) == !signbit(b)) || (a != a && b != b);                      \
+    }                                                                                             \
+                                                                                                  \
+    static bool is_##T(vb_optional_##T it, bool has_value, type v)                                \
+    {                                                                                             \
+        return it.has_value == has_value && (!has_value || same_##T(it.value, v));                \
+    }                                                                                             \
+                                                                                                  \
+    static void aggregates_##T(void)                                                              \
+    {                                                                                             \
+        static const type few[] = {0, (type)-0.0, INFINITY, -INFINITY, NAN, 1, -1};               \
+        static type values[VALUES];                                                               \
+        uint8_t mask[BYTES];                                                                      \
+        const size_t n = random_below(VALUES + 1), o = random_below(10);                          \
+        const size_t kinds = random_below(8);                                                     \
+        type sum = 0, least = 0, greatest = 0;                                                    \
+        bool is_any = false;                                                                      \
+        randomize_bytes(mask, BYTES);                                                             \
+        for (size_t i = 0; i < n; i++) {                                                          \
+            const bool is_few = random_below(8) < kinds;                                          \
+            const type number = (type)(int64_t)random_below(SIZE_MAX) / (type)3;                  \
+            const type v = values[i] = is_few ? few[random_below(7)] : number;                    \
+            if (bit(mask, o + i)) {                                                               \
+                sum += v;                                                                         \
+                if (v == v) {                                                                     \
+                    least = !is_any || IS_BELOW(v, least) ? v : least;                            \
+                    greatest = !is_any || IS_BELOW(greatest, v) ? v : greatest;                   \
+                    is_any = true;                                                                \
+                }                                                                                 \
+            }                                                                                     \
+        }                                                                                         \
+        check(same_##T(vb_masked_sum_##T(values, n, mask, BYTES, o), sum), "vb_masked_sum_" #T);  \
+        check(is_##T(vb_masked_min_##T(values, n, mask, BYTES, o), is_any, least),                \
+            "vb_masked_min_" #T);                                                                 \
+        check(is_##T(vb_masked_max_##T(values, n, mask, BYTES, o), is_any, greatest),             \
+            "vb_masked_max_" #T);                                                                 \
+                                                                                                  \
+        type sum_too = 7;                                                                         \
+        vb_optional_##T least_too = {false, 7}, greatest_too = {false, 7};                        \
+        const size_t past = 8 * BYTES + 1 - n;                                                    \
+        check(!vb_try_masked_sum_##T(values, n, mask, BYTES, past, &sum_too)                      \
+                && !vb_try_masked_min_##T(values, n, mask, n / 8, n % 8 + 1, &least_too)          \
+                && !vb_try_masked_max_##T(values, n, mask, BYTES, SIZE_MAX - n / 2,               \
+                    &greatest_too),                                                               \
+            "a mask that ends too soon, " #T);                                                    \
+        check(sum_too == 7 && least_too.value == 7 && greatest_too.value == 7,                    \
+            "what a refusal leaves");                                                             \
+        check(vb_try_masked_sum_##T(values, n, mask, BYTES, o, &sum_too)                          \
+                && same_##T(sum_too, sum)                                                         \
+                && vb_try_masked_min_##T(values, n, mask, BYTES, o, &least_too)                   \
+                && is_##T(least_too, is_any, least)                                               \
+                && vb_try_masked_max_##T(values, n, mask, BYTES, o, &greatest_too)                \
+                && is_##T(greatest_too, is_any, greatest), "the checked forms of " #T);           \
+    }
+
 #define NUMBERS(X)                                                                                \
     X(u8, uint8_t, vb_u128, false) X(u16, uint16_t, vb_u128, false)                               \
     X(u32, uint32_t, vb_u128, false) X(u64, uint64_t, vb_u128, false)                             \
@@ -114,6 +178,8 @@ static uint64_t number_of(unsigned bits)
     X(i32, int32_t, vb_i128, true) X(i64, int64_t, vb_i128, true)
 
 NUMBERS(AGGREGATES)
+FLOAT_AGGREGATES(f32, float)
+FLOAT_AGGREGATES(f64, double)
 
 #define RUN(T, type, wide, is_signed) aggregates_##T();
 
@@ -121,6 +187,8 @@ int main(void)
 {
     for (int round = 0; round < ROUNDS; round++) {
         NUMBERS(RUN)
+        aggregates_f32();
+        aggregates_f64();
     }
     return failures == 0 ? 0 : 1;
 }

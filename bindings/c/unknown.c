@@ -66,6 +66,11 @@ static void filter_values(size_t value_size)
     (void)vb_filter_values(out, 8, values, 8, value_size, mask, 1, 0);
 }
 
+static void retain_values(size_t value_size)
+{
+    (void)vb_retain_values(out, 8, value_size, mask, 1, 0);
+}
+
 static void sizes(void)
 {
     static const size_t known[] = {1, 2, 4, 8, 16};
@@ -84,8 +89,11 @@ static void sizes(void)
             vb_try_filter_values(out, 8, values, 8, size, mask, 1, 0, &written);
         check(!kept && written == 77, "a checked filter of an unknown size");
         check(stops(filter_values, size), "a filter of an unknown size");
+        const bool left = vb_try_retain_values(out, 8, size, mask, 1, 0, &written);
+        check(!left && written == 77, "a checked filter in place of an unknown size");
+        check(stops(retain_values, size), "a filter in place of an unknown size");
     }
-    check(!stops(filter_values, 8), "a filter of a known size");
+    check(!stops(filter_values, 8) && !stops(retain_values, 8), "a filter of a known size");
     check(is_unwritten(), "what a filter of an unknown size writes");
 }
 

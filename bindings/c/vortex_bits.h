@@ -57,9 +57,9 @@
  * it replaces a null pointer to no items by one that they accept; checked forms reject others; it
  * selects the level; vb_set_indices, vb_set_indices_u32, vb_set_slices and their checked forms work
  * by pages of memory, and join runs that cross page ends; it packs bools as bytes, and unpacks them
- * so; vb_filter_values, vb_scatter_values and vb_take_values choose by sizes, and the functions of
- * validities that may be missing by which are; vb_set_slices_u32 narrows the indices of runs. The
- * C++ classes are also written by hand, and tested.
+ * so; vb_filter_values, vb_retain_values, vb_scatter_values and vb_take_values choose by sizes, and
+ * the functions of validities that may be missing by which are; vb_set_slices_u32 narrows the
+ * indices of runs. The C++ classes are also written by hand, and tested.
  */
 #ifndef VORTEX_BITS_H
 #define VORTEX_BITS_H
@@ -294,7 +294,7 @@ VB_CHECKED bool vb_try_is_subset(const uint8_t *left, size_t left_size, size_t l
 /*
  * Writes the indices of the set bits, in ascending order, to the front of `out`, up to its
  * capacity, and returns the number written (`written`). Reads no page of memory after that of the
- * last one for which there is capacity.
+ * last one for which there is capacity. It is faster if there is capacity for each bit.
  *
  *     const uint8_t rows[] = {0xE8, 0x06};
  *     size_t places[4];

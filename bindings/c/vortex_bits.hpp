@@ -254,6 +254,12 @@ public:
     std::size_t keep_into(const Values &values, Out &&out) const;
 
     /*
+     * Does the same in place (filters in place): moves those values to the front, and returns their
+     * number. The values from that index on are unchanged.
+     */
+    template <class Values> std::size_t retain_in(Values &&values) const;
+
+    /*
      * Undoes keep_into (scatters): writes the values, in order, over those items of `out` whose bit
      * is set, and returns their number. There must be one item per bit, and a value per set bit.
      * Values after these are ignored, and the other items are unchanged.

@@ -35,6 +35,8 @@ typedef struct { bool has_value; int8_t value; } vb_optional_i8;
 typedef struct { bool has_value; int16_t value; } vb_optional_i16;
 typedef struct { bool has_value; int32_t value; } vb_optional_i32;
 typedef struct { bool has_value; int64_t value; } vb_optional_i64;
+typedef struct { bool has_value; float value; } vb_optional_f32;
+typedef struct { bool has_value; double value; } vb_optional_f64;
 /* To here. */
 
 /*
@@ -242,6 +244,54 @@ vb_optional_i64 vb_masked_max_i64(const int64_t *values, size_t values_count, co
         size_t mask_size, size_t mask_offset);
 VB_CHECKED bool vb_try_masked_max_i64(const int64_t *values, size_t values_count,
         const uint8_t *mask, size_t mask_size, size_t mask_offset, vb_optional_i64 *greatest);
+/* To here. */
+
+/*
+ * Returns the sum of the selected floats, 0.0 if there are none. It starts from 0.0 and adds one
+ * float after the other, in the order of the rows, each rounded as IEEE 754 says: the result is that
+ * of a plain loop, bit by bit, unless it is NaN.
+ *
+ *     const double weights[] = {1e16, 7.0, 1.0, -1e16};
+ *     const uint8_t mask[] = {0x0D};
+ *     assert(vb_masked_sum_f64(weights, 4, mask, 1, 0) == 0.0);
+ */
+/* Written by tools/write-lists from tools/families/masked_floats.txt. */
+float vb_masked_sum_f32(const float *values, size_t values_count, const uint8_t *mask,
+        size_t mask_size, size_t mask_offset);
+VB_CHECKED bool vb_try_masked_sum_f32(const float *values, size_t values_count, const uint8_t *mask,
+        size_t mask_size, size_t mask_offset, float *sum);
+double vb_masked_sum_f64(const double *values, size_t values_count, const uint8_t *mask,
+        size_t mask_size, size_t mask_offset);
+VB_CHECKED bool vb_try_masked_sum_f64(const double *values, size_t values_count,
+        const uint8_t *mask, size_t mask_size, size_t mask_offset, double *sum);
+/* To here. */
+
+/*
+ * Returns the minimum or the maximum of the selected floats, or no value if none of them is a number.
+ * They skip NaN, and -0.0 is less than 0.0.
+ *
+ *     const float weights[] = {0.5f, -7.0f, NAN, -0.5f};
+ *     const uint8_t mask[] = {0x0D};
+ *     assert(vb_masked_min_f32(weights, 4, mask, 1, 0).value == -0.5f);
+ *     assert(!vb_masked_max_f32(weights + 2, 1, mask, 1, 0).has_value);
+ */
+/* Written by tools/write-lists from tools/families/masked_floats.txt. */
+vb_optional_f32 vb_masked_min_f32(const float *values, size_t values_count, const uint8_t *mask,
+        size_t mask_size, size_t mask_offset);
+VB_CHECKED bool vb_try_masked_min_f32(const float *values, size_t values_count, const uint8_t *mask,
+        size_t mask_size, size_t mask_offset, vb_optional_f32 *least);
+vb_optional_f64 vb_masked_min_f64(const double *values, size_t values_count, const uint8_t *mask,
+        size_t mask_size, size_t mask_offset);
+VB_CHECKED bool vb_try_masked_min_f64(const double *values, size_t values_count,
+        const uint8_t *mask, size_t mask_size, size_t mask_offset, vb_optional_f64 *least);
+vb_optional_f32 vb_masked_max_f32(const float *values, size_t values_count, const uint8_t *mask,
+        size_t mask_size, size_t mask_offset);
+VB_CHECKED bool vb_try_masked_max_f32(const float *values, size_t values_count, const uint8_t *mask,
+        size_t mask_size, size_t mask_offset, vb_optional_f32 *greatest);
+vb_optional_f64 vb_masked_max_f64(const double *values, size_t values_count, const uint8_t *mask,
+        size_t mask_size, size_t mask_offset);
+VB_CHECKED bool vb_try_masked_max_f64(const double *values, size_t values_count,
+        const uint8_t *mask, size_t mask_size, size_t mask_offset, vb_optional_f64 *greatest);
 /* To here. */
 
 /*

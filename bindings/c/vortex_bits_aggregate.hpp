@@ -41,6 +41,21 @@ VB_AGGREGATED_BY(8, true, i64, std::int64_t)
 /* To here. */
 #undef VB_AGGREGATED_BY
 
+/* The C functions for floats. */
+template <class Float> struct floats_by;
+#define VB_FLOATS_BY(name, float_type)                                                            \
+    template <> struct floats_by<float_type> {                                                    \
+        using type = float_type;                                                                  \
+        static constexpr auto sum = vb_masked_sum_##name;                                         \
+        static constexpr auto min = vb_masked_min_##name;                                         \
+        static constexpr auto max = vb_masked_max_##name;                                         \
+    };
+/* Written by tools/write-lists from tools/families/masked_floats.txt. */
+VB_FLOATS_BY(f32, float)
+VB_FLOATS_BY(f64, double)
+/* To here. */
+#undef VB_FLOATS_BY
+
 /* The C function that counts rows by codes of `Code` bytes. */
 template <std::size_t Code> struct counted_by;
 #define VB_COUNTED_BY(code, name)                                                                 \
@@ -95,24 +110,49 @@ template <class Code> constexpr bool is_code()
 
 template <class Values> using item_t = std::remove_cv_t<lent_t<const Values>>;
 
+template <class Value> constexpr bool is_float()
+{
+    return std::is_same_v<Value, float> || std::is_same_v<Value, double>;
+}
+
 /* Calls `call` with those for the type of the values, and with the arguments of each. */
 struct aggregate {
+    template <class Values, class Call>
+    static auto of_whole(const Values &values, const bits &mask, Call call)
+    {
+        using value = item_t<Values>;
+        static_assert(is_index<value>(),
+            "exact sums are of whole numbers of 8, 16, 32 or 64 bits");
+        if constexpr (is_index<value>()) {
+            return call_by<aggregated_by<sizeof(value), std::is_signed_v<value>>>(values, mask, call);
+        } else if constexpr (std::is_arithmetic_v<value>) {
+            // Of the right type, so that what a program does with it is no second error.
+            return of_whole(std::array<std::int64_t, 0>{}, mask, call);
+        }
+    }
+
+    /* The same, also for floats. */
     template <class Values, class Call>
     static auto of(const Values &values, const bits &mask, Call call)
     {
         using value = item_t<Values>;
-        static_assert(is_index<value>(),
-            "sums, min and max are of whole numbers of 8, 16, 32 or 64 bits");
-        expect(values.size() == mask.len_, "not a bit of the mask for each value");
-        if constexpr (is_index<value>()) {
-            using by = aggregated_by<sizeof(value), std::is_signed_v<value>>;
-            return call(by(), reinterpret_cast<const typename by::type *>(values.data()),
-                values.size(), mask.bytes_, mask.size_, mask.offset_);
+        static_assert(is_index<value>() || is_float<value>(),
+            "sums, min and max are of whole numbers of 8, 16, 32 or 64 bits, float and double");
+        if constexpr (is_float<value>()) {
+            return call_by<floats_by<value>>(values, mask, call);
+        } else if constexpr (is_index<value>()) {
+            return of_whole(values, mask, call);
         } else if constexpr (std::is_arithmetic_v<value>) {
-            // Of the right type, so that what a program does with it is no second error.
-            return call(aggregated_by<8, true>(), static_cast<const std::int64_t *>(nullptr),
-                values.size(), mask.bytes_, mask.size_, mask.offset_);
+            return of_whole(std::array<std::int64_t, 0>{}, mask, call);
         }
+    }
+
+    template <class By, class Values, class Call>
+    static auto call_by(const Values &values, const bits &mask, Call call)
+    {
+        expect(values.size() == mask.len_, "not a bit of the mask for each value");
+        return call(By(), reinterpret_cast<const typename By::type *>(values.data()),
+            values.size(), mask.bytes_, mask.size_, mask.offset_);
     }
 
     /*
@@ -145,6 +185,7 @@ template <class Value, class Optional> std::optional<Value> optional(Optional it
 /*
  * Returns the exact sum of the values whose bit in the mask is set: a vb_i128 for signed values, a
  * vb_u128 for unsigned ones. Values are whole numbers of 8 to 64 bits; the mask has a bit for each.
+ * Of floats and doubles it returns the sum in their type: from 0.0 on one after the other, in order.
  */
 template <class Values> [[nodiscard]] auto masked_sum(const Values &values, bits mask)
 {
@@ -154,7 +195,7 @@ template <class Values> [[nodiscard]] auto masked_sum(const Values &values, bits
 /* Returns that sum as a value of their type; nullopt if it is out of the range of the type. */
 template <class Values> [[nodiscard]] auto masked_checked_sum(const Values &values, bits mask)
 {
-    return detail::aggregate::of(values, mask, [](auto by, auto... all) {
+    return detail::aggregate::of_whole(values, mask, [](auto by, auto... all) {
         return detail::optional<detail::item_t<Values>>(by.checked_sum(all...));
     });
 }
@@ -162,12 +203,15 @@ template <class Values> [[nodiscard]] auto masked_checked_sum(const Values &valu
 /* Returns that sum, wrapped around at the end of their type. */
 template <class Values> [[nodiscard]] auto masked_wrapping_sum(const Values &values, bits mask)
 {
-    return detail::aggregate::of(values, mask, [](auto by, auto... all) {
+    return detail::aggregate::of_whole(values, mask, [](auto by, auto... all) {
         return static_cast<detail::item_t<Values>>(by.wrapping_sum(all...));
     });
 }
 
-/* Returns the minimum of the values whose bit in the mask is set; nullopt if there are none. */
+/*
+ * Returns the minimum of the values whose bit in the mask is set; nullopt if there are none. Of floats
+ * it skips NaN, returns nullopt if there are no others, and -0.0 is less than 0.0.
+ */
 template <class Values> [[nodiscard]] auto masked_min(const Values &values, bits mask)
 {
     return detail::aggregate::of(values, mask, [](auto by, auto... all) {

@@ -105,28 +105,40 @@ template <class F, class... Item> bool goes_on(F &f, Item &&...item)
     }
 }
 
-/* The type of the C functions for items of `Size` bytes, or void, their filter and its reverse. */
+/*
+ * The type of the C functions for items of `Size` bytes, or void, their filter, its reverse, and
+ * the filter in place.
+ */
 template <class Type> using masked = std::size_t (*)(Type *, std::size_t, const Type *, std::size_t,
     const std::uint8_t *, std::size_t, std::size_t);
 template <class Type> using try_masked = bool (*)(Type *, std::size_t, const Type *, std::size_t,
     const std::uint8_t *, std::size_t, std::size_t, std::size_t *);
-template <class Type, try_masked<Type> Keep, masked<Type> Scatter> struct by {
+template <class Type> using masked_in_place = std::size_t (*)(Type *, std::size_t,
+    const std::uint8_t *, std::size_t, std::size_t);
+template <class Type, try_masked<Type> Keep, masked<Type> Scatter, masked_in_place<Type> Retain>
+struct by {
     using type = Type;
     static constexpr auto try_keep = Keep;
     static constexpr auto scatter = Scatter;
+    static constexpr auto retain = Retain;
 };
 template <std::size_t Size> struct laid { using type = void; };
 /* Written by tools/write-lists from tools/families/filter.txt. */
 template <>
-struct laid<1> : by<std::uint8_t, vb_try_filter_values_u8, vb_scatter_values_u8> {};
+struct laid<1> : by<std::uint8_t, vb_try_filter_values_u8, vb_scatter_values_u8,
+    vb_retain_values_u8> {};
 template <>
-struct laid<2> : by<std::uint16_t, vb_try_filter_values_u16, vb_scatter_values_u16> {};
+struct laid<2> : by<std::uint16_t, vb_try_filter_values_u16, vb_scatter_values_u16,
+    vb_retain_values_u16> {};
 template <>
-struct laid<4> : by<std::uint32_t, vb_try_filter_values_u32, vb_scatter_values_u32> {};
+struct laid<4> : by<std::uint32_t, vb_try_filter_values_u32, vb_scatter_values_u32,
+    vb_retain_values_u32> {};
 template <>
-struct laid<8> : by<std::uint64_t, vb_try_filter_values_u64, vb_scatter_values_u64> {};
+struct laid<8> : by<std::uint64_t, vb_try_filter_values_u64, vb_scatter_values_u64,
+    vb_retain_values_u64> {};
 template <>
-struct laid<16> : by<vb_u128, vb_try_filter_values_u128, vb_scatter_values_u128> {};
+struct laid<16> : by<vb_u128, vb_try_filter_values_u128, vb_scatter_values_u128,
+    vb_retain_values_u128> {};
 /* To here. */
 
 /* Returns whether items of the type may be copied as those of such a C type. */

@@ -1,5 +1,6 @@
 /*
- * Values of 1, 2, 4, 8 or 16 bytes, selected by a mask or by indices, or scattered by a mask.
+ * Values of 1, 2, 4, 8 or 16 bytes, selected by a mask, also in place, or by indices, or scattered
+ * by a mask.
  * vortex_bits.h includes this file; its first comment states what the caller must ensure for every
  * call.
  */
@@ -69,6 +70,51 @@ size_t vb_filter_values(void *out, size_t out_count, const void *values, size_t 
 VB_CHECKED bool vb_try_filter_values(void *out, size_t out_count, const void *values,
         size_t values_count, size_t value_size, const uint8_t *mask, size_t mask_size,
         size_t mask_offset, size_t *written);
+
+/*
+ * Filters in place: moves the values whose bit of `mask`, from bit `mask_offset` on, is true, in
+ * order, to the front of `values`, and returns their number (`written`). The values from that index
+ * on are unchanged. Processes 64 values at a time.
+ *
+ *     uint32_t values[] = {5, 6, 7};
+ *     const uint8_t mask[] = {0x06};
+ *     assert(vb_retain_values_u32(values, 3, mask, 1, 0) == 2);
+ *     assert(values[0] == 6 && values[1] == 7 && values[2] == 7);
+ */
+/* Written by tools/write-lists from tools/families/retain.txt. */
+size_t vb_retain_values_u8(uint8_t *values, size_t values_count, const uint8_t *mask,
+        size_t mask_size, size_t mask_offset);
+VB_CHECKED bool vb_try_retain_values_u8(uint8_t *values, size_t values_count, const uint8_t *mask,
+        size_t mask_size, size_t mask_offset, size_t *written);
+size_t vb_retain_values_u16(uint16_t *values, size_t values_count, const uint8_t *mask,
+        size_t mask_size, size_t mask_offset);
+VB_CHECKED bool vb_try_retain_values_u16(uint16_t *values, size_t values_count, const uint8_t *mask,
+        size_t mask_size, size_t mask_offset, size_t *written);
+size_t vb_retain_values_u32(uint32_t *values, size_t values_count, const uint8_t *mask,
+        size_t mask_size, size_t mask_offset);
+VB_CHECKED bool vb_try_retain_values_u32(uint32_t *values, size_t values_count, const uint8_t *mask,
+        size_t mask_size, size_t mask_offset, size_t *written);
+size_t vb_retain_values_u64(uint64_t *values, size_t values_count, const uint8_t *mask,
+        size_t mask_size, size_t mask_offset);
+VB_CHECKED bool vb_try_retain_values_u64(uint64_t *values, size_t values_count, const uint8_t *mask,
+        size_t mask_size, size_t mask_offset, size_t *written);
+size_t vb_retain_values_u128(vb_u128 *values, size_t values_count, const uint8_t *mask,
+        size_t mask_size, size_t mask_offset);
+VB_CHECKED bool vb_try_retain_values_u128(vb_u128 *values, size_t values_count, const uint8_t *mask,
+        size_t mask_size, size_t mask_offset, size_t *written);
+/* To here. */
+
+/*
+ * Does the same for values of any type, by their size, as vb_filter_values does.
+ *
+ *     float prices[] = {0.5f, 1.5f, 2.5f};
+ *     const uint8_t mask[] = {0x06};
+ *     assert(vb_retain_values(prices, 3, sizeof *prices, mask, 1, 0) == 2 && prices[0] == 1.5f);
+ */
+size_t vb_retain_values(void *values, size_t values_count, size_t value_size, const uint8_t *mask,
+        size_t mask_size, size_t mask_offset);
+VB_CHECKED bool vb_try_retain_values(void *values, size_t values_count, size_t value_size,
+        const uint8_t *mask, size_t mask_size, size_t mask_offset, size_t *written);
 
 /*
  * Undoes vb_filter_values (scatters): writes the values, in order, over those items of `out` whose

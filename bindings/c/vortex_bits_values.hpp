@@ -68,6 +68,21 @@ std::size_t bits::keep_into(const Values &values, Out &&out) const
     return kept;
 }
 
+template <class Values> std::size_t bits::retain_in(Values &&values) const
+{
+    using value = detail::lent_t<std::remove_reference_t<Values>>;
+    static_assert(detail::is_value<value>() && !std::is_const_v<value>,
+        "retain_in takes values to write of 1, 2, 4, 8 or 16 bytes that are copied and aligned as "
+        "whole numbers are: these, floats, bool, vb_u128. std::vector<bool> has none of them");
+    detail::expect(values.size() == len_, "not a bit for each value");
+    if constexpr (detail::is_value<value>() && !std::is_const_v<value>) {
+        using laid = detail::laid<sizeof(value)>;
+        return laid::retain(reinterpret_cast<typename laid::type *>(values.data()), len_, bytes_,
+            size_, offset_);
+    }
+    return 0;
+}
+
 template <class Values, class Out>
 std::size_t bits::scatter_into(const Values &values, Out &&out) const
 {

@@ -1,6 +1,6 @@
 /*
  * Walks of vortex_bits.hpp that end before their window does, windows over temporary views, windows
- * over words, and bits that move within a window.
+ * over words, and what moves within a window or a column.
  */
 #include "vortex_bits.hpp"
 
@@ -165,6 +165,23 @@ static void moves(const buffer &any)
     check(some == any, "a refused move left all as it was");
 }
 
+/* Values of some type that a mask filters in place. */
+template <class Value> static void retains(const buffer &any)
+{
+    const bits mask(any, 3, 500);
+    std::vector<Value> column(500);
+    for (std::size_t i = 0; i < column.size(); i++) {
+        std::memcpy(&column[i], &any[i], sizeof(Value));
+    }
+    const std::vector<Value> all = column;
+    std::vector<Value> wanted = column;
+    const std::size_t kept = mask.keep_into(all, wanted);
+    check(mask.retain_in(column) == kept, "retain_in");
+    check(std::memcmp(column.data(), wanted.data(), 500 * sizeof(Value)) == 0, "what it retains");
+    refused([&] { (void)bits(any, 3, 499).retain_in(column); }, "two lengths");
+    check(std::memcmp(column.data(), wanted.data(), 500 * sizeof(Value)) == 0, "a refused filter");
+}
+
 int main()
 {
     buffer any(170), more(600);
@@ -181,6 +198,11 @@ int main()
     words(any);
     items();
     moves(any);
+    retains<std::uint8_t>(more);
+    retains<std::int16_t>(more);
+    retains<float>(more);
+    retains<std::uint64_t>(more);
+    retains<vb_u128>(more);
     narrow_indices();
     return failures == 0 ? 0 : 1;
 }

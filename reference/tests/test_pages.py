@@ -188,6 +188,16 @@ class Errors(unittest.TestCase):
         found = errors((COUNTER, "counted self.old by", "countd self.old by"))
         self.assertEqual(found, [f"{COUNTER}:22: the word `countd` isn't known"])
 
+    def test_a_constant_of_a_module_is_known(self):
+        seen = "crates/low/specs/Seen.antt"
+        fresh = "/// A counter that counted nothing.\n"
+        found = errors(
+            (COUNTER, fresh, f"/// One.\npub const ONE: usize = 1;\n\n{fresh}"),
+            (seen, "\n\n", "\nuse Rattle.low.specs.declared.counter.TheConstants.{ONE, TWO}\n\n"),
+            (seen, "IsOne n = n ≡ 1", "IsOne n = n + TWO ≡ ONE"),
+        )
+        self.assertEqual(found, [f"{seen}:16: the word `TWO` isn't known"])
+
     def test_a_docstring_that_leads_nowhere(self):
         found = errors((COUNTER, "[`fresh`]", "[`stale`]"))
         self.assertEqual(found, [f"{COUNTER}:22: `stale` of its docstring isn't there"])

@@ -5,12 +5,12 @@ and these have the same names and types.
 import re
 from dataclasses import dataclass
 
-from families.types import AGGREGATED, FLOATS, SIGNED, UNSIGNED
+from families.types import FLOATS, OPTIONAL, SIGNED, UNSIGNED
 
 OF_NUMBERS = {it.c: it.crossing for it in [*UNSIGNED, *SIGNED, *FLOATS] if it.c}
-OPTIONAL = {f"vb_optional_{it}": f"Optional{it.camel}" for it in AGGREGATED}
+MISSING = {f"vb_optional_{it}": f"Optional{it.camel}" for it in OPTIONAL}
 OTHERS = {"vb_place": "Place", "vb_taken": "Taken", "vb_run": "Run", "void": "()"}
-TYPES = OF_NUMBERS | OPTIONAL | OTHERS
+TYPES = OF_NUMBERS | MISSING | OTHERS
 # Names of the crate's parameters of one letter, except the first letter of the window before.
 LETTERS = {"v": "value"}
 

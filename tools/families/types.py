@@ -113,6 +113,16 @@ class Number:
         return f"(FitsSigned w{self.bits})" if self.is_signed else f"(λ x. x < 2 ^ {self.bits})"
 
     @property
+    def zero_literal(self) -> str:
+        """The value 0 in Rattle."""
+        return "0.0" if self.is_float else "0"
+
+    @property
+    def kind(self) -> str:
+        """The values of the type in contracts."""
+        return "Float" if self.is_float else "ℤ" if self.is_signed else "ℕ"
+
+    @property
     def wrap(self) -> str:
         """The function of contracts that wraps an integer around to a value of the type."""
         return f"{'int_wrap' if self.is_signed else 'wrap_unsigned'} w{self.bits}"
@@ -174,8 +184,12 @@ CODES = [U8, U16, U32]
 # The types that C has sums of, and the same by the name of the file that has them.
 AGGREGATED = [it for it in COMPARED if not it.is_float]
 SUMMED = {name: [it for it in AGGREGATED if it in numbers] for name, numbers in WHOLE.items()}
+# The types of C of which a value may be missing.
+OPTIONAL = [*AGGREGATED, *FLOATS]
 # The least and the greatest value: the name of the call, the word for it, and its definition.
 EXTREMES = [("min", "least", "LeastOf"), ("max", "greatest", "GreatestOf")]
+# The same of floats, with the order whose first number it is.
+FLOAT_EXTREMES = [("min", "least", "upwards"), ("max", "greatest", "downwards")]
 # The types that processors have vectors of.
 LANES = {name: [it for it in numbers if it.bits < 128] for name, numbers in WHOLE.items()}
 # The comparisons of floats, by the name of the call and by that of IEEE 754.

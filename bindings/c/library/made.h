@@ -237,6 +237,38 @@ bool vb_try_filter_values(void *out, size_t out_count, const void *values, size_
     }
 }
 
+size_t vb_retain_values(void *values, size_t values_count, size_t value_size, const uint8_t *mask,
+    size_t mask_size, size_t mask_offset)
+{
+    switch (value_size) {
+#define WIDTH(size, name, V)                                                                      \
+    case size:                                                                                    \
+        return vb_retain_values_##name((V *)values, values_count, mask, mask_size, mask_offset);
+        EACH_VALUE(WIDTH)
+#undef WIDTH
+    default:
+        __builtin_trap();
+    }
+}
+
+bool vb_try_retain_values(void *values, size_t values_count, size_t value_size,
+    const uint8_t *mask, size_t mask_size, size_t mask_offset, size_t *written)
+{
+    if (!is_laid(values, value_size, 16)) {
+        return false;
+    }
+    switch (value_size) {
+#define WIDTH(size, name, V)                                                                      \
+    case size:                                                                                    \
+        return vb_try_retain_values_##name((V *)values, values_count, mask, mask_size,            \
+            mask_offset, written);
+        EACH_VALUE(WIDTH)
+#undef WIDTH
+    default:
+        return false;
+    }
+}
+
 size_t vb_scatter_values(void *out, size_t out_count, const void *values, size_t values_count,
     size_t value_size, const uint8_t *mask, size_t mask_size, size_t mask_offset)
 {

@@ -159,7 +159,12 @@ fn keeps<T: Value + Copy + PartialEq + Debug>(
         scattered[i] = values[i];
     }
     let put = case.right().scatter_into(&out[..kept.len() + 1], &mut back);
+    let mut column = values.clone();
+    let retained = values::retain(&mut column, case.right());
+    let mut front = values.clone();
+    front[..kept.len()].copy_from_slice(&kept);
     Ok(same("keep_into", (count, out), (kept.len(), wanted))?
+        + same("retain", (retained, column), (kept.len(), front))?
         + same("scatter_into", (put, back), (kept.len(), scattered))?)
 }
 

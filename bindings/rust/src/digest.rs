@@ -4,6 +4,6 @@
 /// What tools/digest prints; tools/write-lists writes it here.
 macro_rules! digest {
     () => {
-        "2cc95fc86be2e19ceda2d7e536443bb8d5a359410b94b2d2beab2b758e165267"
+        "96f6d2c77afa4f4fedd8b51c2e933c7e08c9f9625ce26df5611a347466070d91"
     };
 }

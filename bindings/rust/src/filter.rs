@@ -80,6 +80,30 @@ pub fn filter<T: Value>(values: &[T], mask: impl Mask) -> Vec<T> {
     kept
 }
 
+/// Moves the values that `mask` selects to the front, in their order, and returns their number: a
+/// filter in place. The values from that index on are unchanged. If `mask` is None, it selects all.
+///
+/// ```
+/// use vortex_bits::{Bits, values};
+///
+/// let mut column = vec![0.5, 1.5, 2.5, 3.5];
+/// let kept = values::retain(&mut column, Bits::new(&[0b1010], 0, 4));
+/// assert_eq!(column, [1.5, 3.5, 2.5, 3.5]);
+/// column.truncate(kept);
+/// ```
+///
+/// # Panics
+///
+/// Panics if `mask` isn't as long as the values, which are then unchanged.
+#[doc(alias("compress", "filter", "select"))]
+#[track_caller]
+pub fn retain<T: Value>(values: &mut [T], mask: impl Mask) -> usize {
+    match mask.of_len(values.len()) {
+        Some(mask) => kernels::retain(values, mask),
+        None => values.len(),
+    }
+}
+
 /// Appends the values that `mask` selects to `kept`, in their order; all values if `mask` is None.
 /// Call it for each batch to join the filtered rows into one column.
 ///

@@ -1,6 +1,6 @@
 //! Sum, minimum and maximum of floats that a mask selects.
 
-use crate::{Mask, Value, portable};
+use crate::{Mask, Value, kernels};
 
 /// A type of floats: `f32` and `f64`.
 #[diagnostic::on_unimplemented(
@@ -11,6 +11,9 @@ use crate::{Mask, Value, portable};
 pub trait Float: Value + sealed::Float {}
 
 pub(crate) mod sealed {
+    #[cfg(vortex_bits_native)]
+    use crate::native::{Kernels, Masked, Optional};
+
     /// What a type of floats provides.
     pub trait Float: Copy {
         /// The key of NaN, in a search for the minimum: above those of all numbers.
@@ -31,10 +34,22 @@ pub(crate) mod sealed {
 
         /// Returns the number with that key.
         fn of_key(key: Self::Key) -> Self;
+
+        /// Returns the C function that sums.
+        #[cfg(vortex_bits_native)]
+        fn masked_sum(kernels: &Kernels) -> Masked<Self, Self>;
+
+        /// Returns the C function that finds the minimum.
+        #[cfg(vortex_bits_native)]
+        fn masked_min(kernels: &Kernels) -> Masked<Self, Optional<Self>>;
+
+        /// Returns the C function that finds the maximum.
+        #[cfg(vortex_bits_native)]
+        fn masked_max(kernels: &Kernels) -> Masked<Self, Optional<Self>>;
     }
 
     macro_rules! floats {
-        ($($float:ident $key:ident;)*) => {$(
+        ($($float:ident $key:ident: $sum:ident $min:ident $max:ident;)*) => {$(
             impl super::Float for $float {}
 
             impl Float for $float {
@@ -61,13 +76,33 @@ pub(crate) mod sealed {
                     let bits = key ^ (key >> ($key::BITS - 1) & $key::MAX);
                     <$float>::from_ne_bytes(bits.to_ne_bytes())
                 }
+
+                #[cfg(vortex_bits_native)]
+                #[inline]
+                fn masked_sum(kernels: &Kernels) -> Masked<$float, $float> {
+                    kernels.$sum
+                }
+
+                #[cfg(vortex_bits_native)]
+                #[inline]
+                fn masked_min(kernels: &Kernels) -> Masked<$float, Optional<$float>> {
+                    kernels.$min
+                }
+
+                #[cfg(vortex_bits_native)]
+                #[inline]
+                fn masked_max(kernels: &Kernels) -> Masked<$float, Optional<$float>> {
+                    kernels.$max
+                }
             }
         )*};
     }
 
     floats! {
-        f32 i32;
-        f64 i64;
+        // Written by tools/write-lists from tools/families/masked_floats.txt.
+        f32 i32: masked_sum_f32 masked_min_f32 masked_max_f32;
+        f64 i64: masked_sum_f64 masked_min_f64 masked_max_f64;
+        // To here.
     }
 }
 
@@ -91,7 +126,7 @@ pub(crate) mod sealed {
 #[must_use]
 #[track_caller]
 pub fn masked_float_sum<T: Float>(values: &[T], mask: impl Mask) -> T {
-    portable::masked_float_sum(values, mask.of_len(values.len()))
+    kernels::masked_float_sum(values, mask.of_len(values.len()))
 }
 
 /// Returns the minimum of the floats that `mask` selects, of all if it is None. It skips NaN, and
@@ -113,7 +148,7 @@ pub fn masked_float_sum<T: Float>(values: &[T], mask: impl Mask) -> T {
 #[must_use]
 #[track_caller]
 pub fn masked_float_min<T: Float>(values: &[T], mask: impl Mask) -> Option<T> {
-    portable::masked_float_min(values, mask.of_len(values.len()))
+    kernels::masked_float_min(values, mask.of_len(values.len()))
 }
 
 /// Returns the maximum of the floats that `mask` selects, of all if it is None. It skips NaN, and
@@ -134,5 +169,5 @@ pub fn masked_float_min<T: Float>(values: &[T], mask: impl Mask) -> Option<T> {
 #[must_use]
 #[track_caller]
 pub fn masked_float_max<T: Float>(values: &[T], mask: impl Mask) -> Option<T> {
-    portable::masked_float_max(values, mask.of_len(values.len()))
+    kernels::masked_float_max(values, mask.of_len(values.len()))
 }

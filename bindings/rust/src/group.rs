@@ -22,6 +22,9 @@ pub(crate) mod sealed {
         /// Returns the sum with one value more.
         fn plus(sum: Sum, value: Self) -> Sum;
 
+        /// Returns the sum as it was before [`plus`](GroupSummand::plus); None if that has rounded.
+        const MINUS: Option<fn(Sum, Self) -> Sum>;
+
         /// The type that the C functions sum, with the same layout as this one.
         #[cfg(vortex_bits_native)]
         type Laid;
@@ -38,6 +41,9 @@ pub(crate) mod sealed {
             }
 
             impl GroupSummand<$sum> for $value {
+                const MINUS: Option<fn($sum, $value) -> $sum> =
+                    Some(|sum, value| sum.wrapping_sub(value as $sum));
+
                 #[inline]
                 fn plus(sum: $sum, value: $value) -> $sum {
                     sum.wrapping_add(value as $sum)
@@ -66,6 +72,8 @@ pub(crate) mod sealed {
             }
 
             impl GroupSummand<f64> for $value {
+                const MINUS: Option<fn(f64, $value) -> f64> = None;
+
                 #[inline]
                 fn plus(sum: f64, value: $value) -> f64 {
                     sum + f64::from(value)

@@ -12,9 +12,12 @@ mod kleene;
 mod values;
 mod walk;
 
-pub use aggregate::{masked_checked_sum, masked_max, masked_min, masked_sum, masked_wrapping_sum};
+pub use aggregate::{
+    masked_checked_sum, masked_float_max, masked_float_min, masked_float_sum, masked_max,
+    masked_min, masked_sum, masked_wrapping_sum,
+};
 pub use compare::{compare, compare_with};
-pub use filter::{filter, keep, scatter};
+pub use filter::{filter, keep, retain, scatter};
 pub use gather::{pack_bools, pack_truthy, take, unpack_bools, unpack_bytes};
 pub use group::{group_counts, group_sums};
 pub use kleene::{Column, Logic, combine_truths};

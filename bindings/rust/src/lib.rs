@@ -37,8 +37,8 @@
 //! - single bits, other windows of at most 64, values at up to 16 indices, and types of values and
 //!   indices that [`Value`], [`Compare`], [`Summand`] and [`BitIndex`] exclude;
 //! - code that joins calls: `fill_with`, and the blocks that iterators fill;
-//! - sums, minimum and maximum without a mask, or of floats; sums of floats by group, and groups by
-//!   codes of 64 bits;
+//! - sums, minimum and maximum without a mask; sums of floats by group, and groups by codes of 64
+//!   bits;
 //! - iterators over false bits and from the end, the building and growth of bitmaps, [`Validity`],
 //!   and `arrow`;
 //! - everything on other targets, under Miri, and if the archives of those functions are missing at

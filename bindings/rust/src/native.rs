@@ -9,9 +9,8 @@
 //! - Windows are in bounds of their bytes, and end at a `usize`.
 //! - Windows of takes and packs have one bit per item. The output of a filter has one bit or item
 //!   per selected one. There is space for a value at each index. There is a bit of validity per
-//!   index, unless all are valid. A deposit has one bit per set bit of its mask. The mask of a sum,
-//!   a minimum or a maximum has one bit per value. There is one value, and one bit of the mask, per
-//!   code.
+//!   index, unless all are valid. A deposit has one bit per set bit of its mask. The mask of an
+//!   aggregate has one bit per value. There is one value, and one bit of the mask, per code.
 //! - A comparison is a number below 6, and there are as many others as values.
 //! - A table has one entry per block of 512 bits of the window, with any contents.
 //! - The processor has the level.
@@ -65,6 +64,8 @@ pub type OptionalI8 = Optional<i8>;
 pub type OptionalI16 = Optional<i16>;
 pub type OptionalI32 = Optional<i32>;
 pub type OptionalI64 = Optional<i64>;
+pub type OptionalF32 = Optional<f32>;
+pub type OptionalF64 = Optional<f64>;
 // To here.
 
 macro_rules! kernels {
@@ -237,6 +238,18 @@ kernels! {
         mask_offset: usize) -> OptionalI32;
     masked_max_i64(values: *const i64, values_count: usize, mask: *const u8, mask_size: usize,
         mask_offset: usize) -> OptionalI64;
+    masked_sum_f32(values: *const f32, values_count: usize, mask: *const u8, mask_size: usize,
+        mask_offset: usize) -> f32;
+    masked_sum_f64(values: *const f64, values_count: usize, mask: *const u8, mask_size: usize,
+        mask_offset: usize) -> f64;
+    masked_min_f32(values: *const f32, values_count: usize, mask: *const u8, mask_size: usize,
+        mask_offset: usize) -> OptionalF32;
+    masked_min_f64(values: *const f64, values_count: usize, mask: *const u8, mask_size: usize,
+        mask_offset: usize) -> OptionalF64;
+    masked_max_f32(values: *const f32, values_count: usize, mask: *const u8, mask_size: usize,
+        mask_offset: usize) -> OptionalF32;
+    masked_max_f64(values: *const f64, values_count: usize, mask: *const u8, mask_size: usize,
+        mask_offset: usize) -> OptionalF64;
     group_counts_u8(counts: *mut u64, counts_count: usize, codes: *const u8, codes_count: usize,
         all_selected: bool, mask: *const u8, mask_size: usize, mask_offset: usize) -> Taken;
     group_counts_u16(counts: *mut u64, counts_count: usize, codes: *const u16, codes_count: usize,
@@ -414,6 +427,16 @@ kernels! {
         mask: *const u8, mask_size: usize, mask_offset: usize) -> usize;
     filter_values_u128(out: *mut Wide, out_count: usize, values: *const Wide, values_count: usize,
         mask: *const u8, mask_size: usize, mask_offset: usize) -> usize;
+    retain_values_u8(values: *mut u8, values_count: usize, mask: *const u8, mask_size: usize,
+        mask_offset: usize) -> usize;
+    retain_values_u16(values: *mut u16, values_count: usize, mask: *const u8, mask_size: usize,
+        mask_offset: usize) -> usize;
+    retain_values_u32(values: *mut u32, values_count: usize, mask: *const u8, mask_size: usize,
+        mask_offset: usize) -> usize;
+    retain_values_u64(values: *mut u64, values_count: usize, mask: *const u8, mask_size: usize,
+        mask_offset: usize) -> usize;
+    retain_values_u128(values: *mut Wide, values_count: usize, mask: *const u8, mask_size: usize,
+        mask_offset: usize) -> usize;
     scatter_values_u8(out: *mut u8, out_count: usize, values: *const u8, values_count: usize,
         mask: *const u8, mask_size: usize, mask_offset: usize) -> usize;
     scatter_values_u16(out: *mut u16, out_count: usize, values: *const u16, values_count: usize,

@@ -1,8 +1,9 @@
 //! Functions over slices of values. `take_into` writes values at indices to a slice, and `take` to
-//! a new `Vec`. `filter` selects values by a mask. `masked_sum`, `masked_min` and `masked_max`
-//! return the sum, the minimum and the maximum of the selected values; `masked_float_sum` and
-//! its like do so for floats. `group_counts` and `group_sums` count and sum rows by their codes.
-//! `compare` compares values, into bits. `and_kleene` and `or_kleene` combine truth values that may be null.
+//! a new `Vec`. `filter` selects values by a mask, and `retain` in place. `masked_sum`,
+//! `masked_min` and `masked_max` return the sum, the minimum and the maximum of the selected
+//! values; `masked_float_sum` and its like do so for floats. `group_counts` and `group_sums` count
+//! and sum rows by their codes. `compare` compares values, into bits. `and_kleene` and `or_kleene`
+//! combine truth values that may be null.
 //!
 //! Each take has a form with a validity for the indices, and a `try_` form that returns an error
 //! instead of a panic.
@@ -28,6 +29,7 @@ pub use crate::aggregate::{
 #[cfg(feature = "alloc")]
 pub use crate::compare::{compare, compare_with};
 pub use crate::compare::{compare_into, compare_with_into};
+pub use crate::filter::retain;
 #[cfg(feature = "alloc")]
 pub use crate::filter::{filter, filter_onto};
 pub use crate::float::{masked_float_max, masked_float_min, masked_float_sum};

@@ -120,7 +120,7 @@ fn single_bits_have_their_ends() {
 }
 
 #[test]
-fn bits_move_only_within_their_window() {
+fn bits_and_values_move_only_within_their_window() {
     let mut bytes = [0x5A; 2];
     let refused = |source: core::ops::Range<usize>, dest: usize| {
         let mut copy = [0x5A; 2];
@@ -139,6 +139,14 @@ fn bits_move_only_within_their_window() {
     assert_eq!(bytes, [0x5A; 2]);
     BitsMut::new(&mut bytes, 3, 9).copy_within(..=7, 1);
     assert_eq!(bytes, [0xBA, 0x54]);
+
+    let mut column = [1, 2, 3];
+    let text = panics(|| _ = values::retain(&mut column, Bits::new(&[0], 0, 4)));
+    assert_eq!(text.as_deref(), Some("a mask of 4 bits for 3"));
+    assert_eq!(column, [1, 2, 3]);
+    assert_eq!(values::retain(&mut column, None::<Bits>), 3);
+    assert_eq!(values::retain(&mut column, Bits::new(&[0b110], 0, 3)), 2);
+    assert_eq!(column, [2, 3, 3]);
 }
 
 #[test]

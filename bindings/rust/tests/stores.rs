@@ -286,6 +286,9 @@ fn value_calls<T: Value + PartialEq>(pages: &Pages, read: &Read, make: fn(u8) ->
             assert_eq!(mask.keep_into(values, out), kept.len());
             assert!(pages.all::<T>()[place..border] == kept[..]);
             let out = &mut pages.all::<T>()[border - len..border];
+            out.copy_from_slice(values);
+            assert_eq!(values::retain(out, mask), kept.len());
+            assert!(out[..kept.len()] == kept && out[kept.len()..] == values[kept.len()..]);
             assert_eq!(mask.scatter_into(&kept, out), kept.len());
             assert!(values::filter(out, mask) == kept);
         }

@@ -87,6 +87,21 @@ fn values_that_a_mask_keeps_are_added_behind_others() {
     assert_eq!(kept.len(), 7);
 }
 
+/// Each number of set bits in a word of the mask, at some offset.
+#[test]
+fn bits_that_a_mask_keeps_are_those_of_a_loop() {
+    for ones in 0..=64 {
+        for (offset, len) in [(0, 64), (3, 200), (7, 129)] {
+            let chosen = |row: usize| row * 37 % 64 < ones;
+            let all: Bitmap = (0..offset + len).map(|row| row * 7919 % 11 < 5).collect();
+            let mask: Bitmap = (0..offset + len).map(chosen).collect();
+            let (all, mask) = (all.bits().slice(offset..), mask.bits().slice(offset..));
+            let kept: Bitmap = mask.set_indices().map(|row| all[row]).collect();
+            assert_eq!(all.filter(mask), kept, "{ones} of 64, {len} from {offset}");
+        }
+    }
+}
+
 #[test]
 fn values_under_a_mask_are_summed_and_ordered() {
     let all: Vec<i64> = (0..200).map(|row| row * 7919 % 1000 - 500).collect();
@@ -208,6 +223,37 @@ fn the_first_code_of_no_group_is_refused_and_nothing_is_changed() {
     }
 }
 
+/// The rows before the refused one may have wrapped sums around, and those that no mask selects have
+/// codes of no group.
+#[test]
+fn sums_and_counts_are_unchanged_after_a_code_of_no_group() {
+    for bad in [0, 1, 40, 63, 64, 100, 190, 199] {
+        for step in [1, 2, 40] {
+            let (mut codes, values, mask) = rows(200, step);
+            let mask: Bitmap = (0..200).map(|row| row == bad || mask.bits()[row]).collect();
+            codes[bad] = -1;
+            let (mut counts, mut sums) = ([u64::MAX; 7], [i64::MAX; 7]);
+            let refused = GroupError::Code {
+                row: bad,
+                code: -1,
+                groups: 7,
+            };
+            let answer = values::try_group_counts(&mut counts, &codes, &mask);
+            assert_eq!(answer, Err(refused));
+            let answer = values::try_group_sums(&mut sums, &codes, &values, &mask);
+            assert_eq!(answer, Err(refused));
+            let turned: Vec<u64> = (0..200).map(|row| u64::MAX - row).collect();
+            let mut unsigned = [u64::MAX; 7];
+            let answer = values::try_group_sums(&mut unsigned, &codes, &turned, &mask);
+            assert_eq!(answer, Err(refused));
+            assert_eq!(
+                (counts, sums, unsigned),
+                ([u64::MAX; 7], [i64::MAX; 7], [u64::MAX; 7])
+            );
+        }
+    }
+}
+
 #[test]
 fn rows_without_a_value_or_a_bit_are_refused_by_name() {
     let mask = Bits::new(&[0b110], 0, 3);
@@ -255,6 +301,39 @@ fn floats_under_a_mask_are_summed_in_order_and_ordered() {
             let ends = (chosen.clone().reduce(f64::min), chosen.reduce(f64::max));
             assert_eq!(values::masked_float_min(column, &mask), ends.0);
             assert_eq!(values::masked_float_max(column, &mask), ends.1);
+        }
+    }
+}
+
+/// Of all values, and of those that a mask selects, with each value at each place.
+#[test]
+fn extremes_of_floats_are_those_of_a_loop_to_the_bit() {
+    let kinds = [
+        f64::NAN,
+        -f64::NAN,
+        0.0,
+        -0.0,
+        1.5,
+        -1.5,
+        f64::INFINITY,
+        f64::NEG_INFINITY,
+    ];
+    for len in 0..=40 {
+        for (turn, step) in (0..8).flat_map(|turn| [1, 3, 7, 8, 11].map(|step| (turn, step))) {
+            let column: Vec<f64> = (0..len).map(|row| kinds[(row / step + turn) % 8]).collect();
+            let mask: Bitmap = (0..len).map(|row| row % 5 != turn % 5).collect();
+            for mask in [None, Some(&mask)] {
+                let chosen = |row: &usize| mask.is_none_or(|mask| mask.bits()[*row]);
+                let numbers = (0..len).filter(chosen).map(|row| column[row]);
+                let numbers = numbers.filter(|value| !value.is_nan());
+                let bits = |value: Option<f64>| value.map(f64::to_bits);
+                let (least, most) = (
+                    numbers.clone().min_by(f64::total_cmp),
+                    numbers.max_by(f64::total_cmp),
+                );
+                assert_eq!(bits(values::masked_float_min(&column, mask)), bits(least));
+                assert_eq!(bits(values::masked_float_max(&column, mask)), bits(most));
+            }
         }
     }
 }

@@ -1,5 +1,6 @@
 mod ExtremesLemmas
 mod FirstLemmas
+pub mod FloatsLemmas
 pub mod OnesLemmas
 mod SumsLemmas
 mod TypesLemmas

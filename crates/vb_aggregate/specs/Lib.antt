@@ -1,4 +1,5 @@
 pub mod Extremes
+pub mod Floats
 pub mod Sums
 pub mod Wraps
 pub use Rattle.vb_bits.specs.Kept

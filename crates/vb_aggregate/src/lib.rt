@@ -6,6 +6,9 @@
 #![tactic(auto)]
 
 mod extreme;
+mod float_extreme;
+mod float_sum;
+mod float_summand;
 mod fold;
 mod sum;
 mod summand;
@@ -13,6 +16,9 @@ mod walk;
 mod wide_summand;
 
 pub use extreme::{masked_max, masked_min};
+pub use float_extreme::{masked_float_max, masked_float_min};
+pub use float_sum::masked_float_sum;
+pub use float_summand::FloatSummand;
 pub use sum::{masked_checked_sum, masked_sum, masked_wrapping_sum};
 pub use summand::Summand;
 pub use wide_summand::WideSummand;

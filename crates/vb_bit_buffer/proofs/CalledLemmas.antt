@@ -24,7 +24,7 @@ use Rattle.vb_bits.proofs.WindowLemmas.{digits-clear}
 use Rattle.vb_bit_buffer.specs.Called.{places_of, ones_of}
 use Rattle.vb_pack.specs.Asked.{span}
 use Rattle.vb_walk.specs.Walks.{places_in, others, AreAll, IsOther}
-use Rattle.vb_walk.specs.declared.other.OtherWord.{OtherWord}
+use Rattle.vb_walk.specs.declared.other_word.OtherWord.{OtherWord}
 use Rattle.vb_walk.proofs.OnesLemmas.{lowest_off}
 use Rattle.vb_walk.proofs.PlacesLemmas.{places_in_none, places_in_cons, places_in_empty}
 use Rattle.vb_walk.proofs.PlacesLemmas.{places_in_first, same_places_in, places-digits}

@@ -8,6 +8,7 @@ ghost use Rattle.vb_mem.specs.Collected.{OfItems};
 ghost use Rattle.vb_bits.specs.Bits.{bits};
 ghost use Rattle.vb_bits.specs.Digits.{digits};
 
+use crate::lengthen::push_word_unchecked;
 use std::alloc::Allocator;
 use vb_core::{BufferError, Result};
 use vb_mem::{BufferMut, ByteBufferMut};
@@ -86,6 +87,10 @@ fn push_digits<A: Allocator + Clone>(
     ensures alignment { bytes.new.alignment ≡ bytes.old.alignment }
     ensures refused { IsOkUnless result BufferError.OutOfMemory }
 {
+    if count == 64 && bytes.capacity() - bytes.len() >= 8 {
+        push_word_unchecked(bytes, word);
+        return Ok(());
+    }
     bytes.extend_from_slice(&word.to_le_bytes()[..count.div_ceil(8)])?;
     Ok(())
 }

@@ -1,6 +1,9 @@
-//! Appends the bytes of a slice so that the capacity does not change if it is large enough. No
-//! contract promises this of the buffer's own call.
-ghost use Rattle.std.specs.Prelude.{◌≡◌, ◌≤◌, length, OnOk};
+//! Appends bytes so that the capacity does not change if it is large enough. No contract promises
+//! this of the buffer's own call.
+ghost use Rattle.std.specs.Prelude.{◌≡◌, ◌+◌, ◌*◌, ◌≤◌, length, OnOk};
+ghost use Rattle.std.specs.Int.{w64, to_le_bytes};
+ghost use Rattle.vb_bits.specs.Digits.{digits};
+ghost use Rattle.vb_bits.specs.Writes.{Writes, extension};
 ghost use Rattle.vb_mem.specs.Makes.{NeedsRoom};
 ghost use Rattle.vb_mem.specs.OpenBuffer.{Lengthens, HasRoom};
 
@@ -30,8 +33,30 @@ pub(crate) fn push_slice<A: Allocator + Clone>(
         return bytes.extend_from_slice(added);
     }
     bytes.reserve(added.len())?;
-    replace_with(bytes, added, with_slice);
+    push_slice_unchecked(bytes, added);
     Ok(())
+}
+
+/// Appends the 64 digits of a word after whole bytes, as eight bytes. The caller must prove that
+/// there is capacity for them. Does not allocate, and the capacity does not change.
+pub fn push_word_unchecked<A: Allocator + Clone>(bytes: &mut ByteBufferMut<A>, word: u64)
+    requires { HasRoom bytes.old 8 }
+    ensures added { Lengthens (to_le_bytes w64 word) bytes.old bytes.new }
+    ensures len { length bytes.new.list ≡ length bytes.old.list + 8 }
+    ensures bits { Writes (extension bytes.old.list bytes.new.list) bytes.new.list
+        (8 * length bytes.old.list) (digits word 0 64) }
+    ensures stays { bytes.new.room ≡ bytes.old.room }
+{
+    push_slice_unchecked(bytes, &word.to_le_bytes());
+}
+
+/// Appends copies of the bytes of a slice, for which there must be capacity.
+fn push_slice_unchecked<A: Allocator + Clone>(bytes: &mut ByteBufferMut<A>, added: &[u8])
+    requires { HasRoom bytes.old (length added.now) }
+    ensures added { Lengthens added.now bytes.old bytes.new }
+    ensures stays { bytes.new.room ≡ bytes.old.room }
+{
+    replace_with(bytes, added, with_slice);
 }
 
 /// Returns the bytes followed by the bytes of a slice; there must be capacity for them. The buffer

@@ -22,6 +22,7 @@ pub use edit::{combine, copy, fill, negate, write_bit};
 pub use grow::{push_bit, push_bit_unchecked, push_bits, reserve_exactly_to, reserve_to};
 pub use indices::{from_indices, from_indices_shared};
 pub use iter::{from_iter, next_word};
+pub use lengthen::push_word_unchecked;
 pub use make::{full, unaligned};
 pub use shown::write_bits;
 pub use window::push_window;

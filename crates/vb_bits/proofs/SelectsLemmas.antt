@@ -56,7 +56,8 @@ pub Selects-digits_inside : (w a k n p : ℕ) → Selects (digits w a k) n (Some
 Selects-digits_inside w a k n p s = omega (arith, s.0, length-digits w a k)
 
 -- the n-th of the indices is the one that n selects
-Selects-places : (l : List Bool) (n : ℕ) → n < count l → Selects l n (Some (get_or (places l) n 0))
+pub Selects-places : (l : List Bool) (n : ℕ) → n < count l
+    → Selects l n (Some (get_or (places l) n 0))
 Selects-places [] n h = absurd (omega arith)
 Selects-places (true ∷ l) zero h =
     let first : get_or (places (true ∷ l)) 0 0 ≡ 0 =

@@ -15,25 +15,26 @@ const BLOCK_WORDS: usize = 64;
 /// The caller must prove that both windows are in bounds, and that `l + len` and `r + len` fit in a
 /// `usize`.
 ///
-/// It compares the bits up to a word boundary of `left` as one number, and the last 64 bits as
-/// another. It compares the words between in blocks of 512 bytes, which start at a cache line of
-/// `left` if `left` starts at one. It reads no block after the first one that differs.
+/// It compares at most 64 bits as one number. Of more it compares the bits up to a word boundary of
+/// `left` as one number, and the last 64 bits as another, and the words between in blocks of 512
+/// bytes, which start at a cache line of `left` if `left` starts at one. It reads no block after
+/// the first one that differs.
 pub fn equal_bits(left: &[u8], l: usize, right: &[u8], r: usize, len: usize) -> bool
     requires left { InBytes left.now l len }
     requires right { InBytes right.now r len }
     ensures { IsTrue result ↔ (bits left.now l len ≡ bits right.now r len) }
 {
-    if len < 64 {
+    if len <= 64 {
         equal_few(left, l, right, r, len)
     } else {
         equal_many(left, l, right, r, len)
     }
 }
 
-/// [`equal_bits`] of at least 64 bits.
+/// [`equal_bits`] of more than 64 bits.
 #[inline(never)]
 fn equal_many(left: &[u8], l: usize, right: &[u8], r: usize, len: usize) -> bool
-    requires many { 64 ≤ len }
+    requires many { 64 < len }
     requires left { InBytes left.now l len }
     requires right { InBytes right.now r len }
     ensures { IsTrue result ↔ (bits left.now l len ≡ bits right.now r len) }

@@ -26,7 +26,7 @@ mod zip;
 
 pub use bit::{get_bit, get_bit_unchecked, set_bit_to, set_bit_unchecked, unset_bit_unchecked};
 pub use bytes::{chunk_at, word_at, write_word};
-pub use copy::copy_bits;
+pub use copy::{copy_bits, write_digits};
 pub use equal::equal_bits;
 pub use fill::fill_bits;
 pub use into::zip_into;
@@ -38,4 +38,5 @@ pub use read::{full_word, read_bits, read_u64_le, read_word};
 pub use select::{select_in_byte, select_in_word};
 pub use window::window_fits;
 pub use word::{digit, low_digits};
+pub use write::write_in_byte;
 pub use zip::{BitOp, zip_words};

@@ -6,8 +6,12 @@ ghost use Rattle.vb_bits.specs.Writes.{Writes};
 use crate::bytes::{byte_mask, word_at, write_four, write_two, write_word};
 use crate::word::with_digits;
 
-/// Writes the `count` lowest digits of `word` to the bits from bit `at` on, which are in one byte.
-pub(crate) fn write_in_byte(bytes: &mut [u8], at: usize, count: usize, word: u64)
+/// Writes the `count` lowest digits of `word` to the bits of `bytes` from bit `at` on, and leaves
+/// every other bit of `bytes` unchanged. The caller must prove that the window is within one byte
+/// and in bounds.
+///
+/// It reads that byte alone, and none if `count` is 0.
+pub fn write_in_byte(bytes: &mut [u8], at: usize, count: usize, word: u64)
     requires in_byte { at % 8 + count ≤ 8 }
     requires inside { at + count ≤ 8 * length bytes.old }
     ensures { Writes bytes.old bytes.new at (digits word 0 count) }

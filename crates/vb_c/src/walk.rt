@@ -1,5 +1,5 @@
 //! Indices and runs of set bits, written to the caller's memory.
-ghost use Rattle.std.specs.Prelude.{◌≡◌, ◌^◌, ◌≤◌, map};
+ghost use Rattle.std.specs.Prelude.{◌≡◌, ◌^◌, ◌≤◌, length, map};
 ghost use Rattle.vb_bits.specs.Bits.{bits, places};
 ghost use Rattle.vb_bits.specs.InBytes.{InBytes};
 ghost use Rattle.vb_bits.specs.Runs.{runs};
@@ -21,7 +21,7 @@ pub struct Run {
 
 /// Writes the indices of the set bits among the `len` bits from bit `offset` on, in ascending
 /// order, to the front of `out`, up to its length. Returns the number of indices written. Stops
-/// reading once `out` is full.
+/// reading once `out` is full; faster if `out` has an item for each bit.
 #[unsafe(no_mangle)]
 pub extern "C" fn vb_set_indices(
     out: &mut [usize],
@@ -35,6 +35,9 @@ pub extern "C" fn vb_set_indices(
     if out.is_empty() {
         return 0;
     }
+    if out.len() >= len {
+        return all_indices(out, bytes, offset, len);
+    }
     let mut written = 0;
     for place in BitIndexIterator::new(bytes, offset, len) {
         out[written] = place;
@@ -42,6 +45,21 @@ pub extern "C" fn vb_set_indices(
         if written == out.len() {
             break;
         }
+    }
+    written
+}
+
+/// [`vb_set_indices`] if `out` has an item for each bit, without a test whether it is full.
+#[inline(always)]
+fn all_indices(out: &mut [usize], bytes: &[u8], offset: usize, len: usize) -> usize
+    requires window { InBytes bytes.now offset len }
+    requires room { len ≤ length out.old }
+    ensures { Fills (places (bits bytes.now offset len)) out.old out.new result }
+{
+    let mut written = 0;
+    for place in BitIndexIterator::new(bytes, offset, len) {
+        out[written] = place;
+        written += 1;
     }
     written
 }
@@ -61,6 +79,9 @@ pub extern "C" fn vb_set_indices_u32(
     if out.is_empty() {
         return 0;
     }
+    if out.len() >= len {
+        return all_indices_u32(out, bytes, offset, len);
+    }
     let mut written = 0;
     for place in BitIndexIterator::new(bytes, offset, len) {
         out[written] = place as u32;
@@ -68,6 +89,22 @@ pub extern "C" fn vb_set_indices_u32(
         if written == out.len() {
             break;
         }
+    }
+    written
+}
+
+/// [`vb_set_indices_u32`] if `out` has an item for each bit, without a test whether it is full.
+#[inline(always)]
+fn all_indices_u32(out: &mut [u32], bytes: &[u8], offset: usize, len: usize) -> usize
+    requires window { InBytes bytes.now offset len }
+    requires named { len ≤ 2 ^ 32 }
+    requires room { len ≤ length out.old }
+    ensures { Fills (places (bits bytes.now offset len)) out.old out.new result }
+{
+    let mut written = 0;
+    for place in BitIndexIterator::new(bytes, offset, len) {
+        out[written] = place as u32;
+        written += 1;
     }
     written
 }

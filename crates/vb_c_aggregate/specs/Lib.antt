@@ -2,6 +2,7 @@ pub mod Optional
 pub mod Selected
 pub mod Wide
 pub use Rattle.vb_aggregate.specs.Extremes
+pub use Rattle.vb_aggregate.specs.Floats
 pub use Rattle.vb_aggregate.specs.Sums
 pub use Rattle.vb_aggregate.specs.Wraps
 pub use Rattle.vb_bits.specs.Bits

@@ -5,6 +5,7 @@ ghost use Rattle.vb_c_aggregate.specs.Optional.{optional_u8, optional_u16};
 ghost use Rattle.vb_c_aggregate.specs.Optional.{optional_u32, optional_u64};
 ghost use Rattle.vb_c_aggregate.specs.Optional.{optional_i8, optional_i16};
 ghost use Rattle.vb_c_aggregate.specs.Optional.{optional_i32, optional_i64};
+ghost use Rattle.vb_c_aggregate.specs.Optional.{optional_f32, optional_f64};
 
 /// An `Option<u8>`, as it crosses to C.
 #[repr(C)]
@@ -170,6 +171,48 @@ impl From<Option<i64>> for OptionalI64 {
         OptionalI64 {
             has_value: option.is_some(),
             value: option.unwrap_or(0),
+        }
+    }
+}
+
+/// An `Option<f32>`, as it crosses to C.
+#[repr(C)]
+#[derive(Clone, Copy)]
+pub struct OptionalF32 {
+    /// Whether there is a value.
+    pub has_value: bool,
+    /// The value; it says something only where `has_value` is true.
+    pub value: f32,
+}
+
+impl From<Option<f32>> for OptionalF32 {
+    ghost from_gives = { λ option result. optional_f32 result ≡ option };
+
+    fn from(option: Option<f32>) -> Self {
+        OptionalF32 {
+            has_value: option.is_some(),
+            value: option.unwrap_or(0.0),
+        }
+    }
+}
+
+/// An `Option<f64>`, as it crosses to C.
+#[repr(C)]
+#[derive(Clone, Copy)]
+pub struct OptionalF64 {
+    /// Whether there is a value.
+    pub has_value: bool,
+    /// The value; it says something only where `has_value` is true.
+    pub value: f64,
+}
+
+impl From<Option<f64>> for OptionalF64 {
+    ghost from_gives = { λ option result. optional_f64 result ≡ option };
+
+    fn from(option: Option<f64>) -> Self {
+        OptionalF64 {
+            has_value: option.is_some(),
+            value: option.unwrap_or(0.0),
         }
     }
 }

@@ -1,10 +1,12 @@
 //! Aggregates of the values whose bit of a mask is true, by a window of bytes.
 ghost use Rattle.std.specs.Prelude.{◌≡◌, length};
+ghost use Rattle.vb_aggregate.specs.Floats.{upwards, downwards};
 ghost use Rattle.vb_aggregate.specs.Sums.{IsValueOf};
 ghost use Rattle.vb_bits.specs.InBytes.{InBytes};
 ghost use Rattle.vb_c_aggregate.specs.Selected.{sum_of, LeastOf, GreatestOf};
+ghost use Rattle.vb_c_aggregate.specs.Selected.{float_sum_of, FirstOf};
 
-use vb_aggregate::{Summand, WideSummand};
+use vb_aggregate::{FloatSummand, Summand, WideSummand};
 use vb_view::BitBufferView;
 
 /// The sum of the values whose bit of `mask` from bit `m` on is true, exactly.
@@ -50,4 +52,31 @@ pub(crate) fn greatest<T: Summand>(values: &[T], mask: &[u8], m: usize) -> Optio
 {
     let mask = BitBufferView::new_with_offset(mask, values.len(), m);
     vb_aggregate::masked_max(values, mask)
+}
+
+/// The sum of the floats whose bit of `mask` from bit `m` on is true, one after the other.
+pub(crate) fn float_sum<T: FloatSummand>(values: &[T], mask: &[u8], m: usize) -> T
+    requires { InBytes mask.now m (length values.now) }
+    ensures { T.float result ≡ float_sum_of T.format T.float values.now mask.now m }
+{
+    let mask = BitBufferView::new_with_offset(mask, values.len(), m);
+    vb_aggregate::masked_float_sum(values, mask)
+}
+
+/// The least number among them, where there is one.
+pub(crate) fn least_number<T: FloatSummand>(values: &[T], mask: &[u8], m: usize) -> Option<T>
+    requires { InBytes mask.now m (length values.now) }
+    ensures { FirstOf upwards T.float values.now mask.now m result }
+{
+    let mask = BitBufferView::new_with_offset(mask, values.len(), m);
+    vb_aggregate::masked_float_min(values, mask)
+}
+
+/// The greatest number among them, where there is one.
+pub(crate) fn greatest_number<T: FloatSummand>(values: &[T], mask: &[u8], m: usize) -> Option<T>
+    requires { InBytes mask.now m (length values.now) }
+    ensures { FirstOf downwards T.float values.now mask.now m result }
+{
+    let mask = BitBufferView::new_with_offset(mask, values.len(), m);
+    vb_aggregate::masked_float_max(values, mask)
 }

@@ -12,7 +12,7 @@ use Rattle.vb_bits.specs.Writes.{Writes}
 use Rattle.vb_bits.proofs.BitsLemmas.{length-bits}
 use Rattle.vb_c_core.proofs.PartLemmas.{part, Writes_in_part}
 use Rattle.vb_c_core.specs.Validity.{validity_of}
-use Rattle.vb_kleene.specs.Kleene.{truths, truth, is_truth}
+use Rattle.vb_kleene.specs.Kleene.{truths, nullable, is_truth}
 use Rattle.vb_c_gather.specs.Columns.{WritesColumn, column_at}
 
 -- a column is that of the view and the validity built from it
@@ -40,10 +40,10 @@ columns_combined {l} {r} {x} {y} {b} {c} {d} {e} {t} {v} op left right trues val
 length-column : (b : List ℕ) (o : ℕ) (all : Bool) (w : List ℕ) (v n : ℕ)
     → length (column_at b o all w v n) ≡ n
 length-column b o true w v n =
-    length-zip2 truth (bits b o n) _ (sym (length-replicate (length (bits b o n)) true))
+    length-zip2 nullable (bits b o n) _ (sym (length-replicate (length (bits b o n)) true))
     ∙ length-bits b o n
 length-column b o false w v n =
-    length-zip2 truth (bits b o n) (bits w v n) (length-bits b o n ∙ sym (length-bits w v n))
+    length-zip2 nullable (bits b o n) (bits w v n) (length-bits b o n ∙ sym (length-bits w v n))
     ∙ length-bits b o n
 
 -- and of a combination of two

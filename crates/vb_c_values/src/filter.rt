@@ -1,15 +1,16 @@
 // Written in part by tools/write-lists from tools/families/filter.txt.
 //! Values that a mask selects.
-ghost use Rattle.std.specs.Prelude.{◌≡◌, length};
+ghost use Rattle.std.specs.Prelude.{◌≡◌, ◌^◌, ◌<◌, ◌≤◌, length};
 ghost use Rattle.vb_bits.specs.Bits.{bits, count};
+ghost use Rattle.vb_bits.specs.Digits.{digits};
 ghost use Rattle.vb_c_core.specs.Fits.{DoneIf, KeptFits};
 ghost use Rattle.vb_c_values.specs.Filtered.{Filters};
 
 use crate::wide::Wide;
-use vb_bits::window_fits;
+use vb_bits::{read_word, window_fits};
 use vb_core::Element;
 use vb_count::count_ones_wide;
-use vb_filter::filter_elements_into;
+use vb_filter::{filter_elements_into, filter_word_into};
 use vb_view::BitBufferView;
 
 /// Writes the values whose bit of `mask`, from bit `m` on, is true, in order, to the front of
@@ -183,6 +184,9 @@ fn filter_values<T: Element>(out: &mut [T], values: &[T], mask: &[u8], m: usize)
     requires { KeptFits mask.now m (length values.now) (length out.old) }
     ensures { Filters (bits mask.now m (length values.now)) values.now out.old out.new result }
 {
+    if values.len() <= 64 {
+        return filter_word_into(out, values, read_word(mask, m, values.len()));
+    }
     let kept = count_ones_wide(mask, m, values.len());
     filter_to_front(out, kept, values, mask, m)
 }
@@ -204,11 +208,29 @@ fn try_filter_values<T: Element>(
     if !window_fits(mask, m, values.len()) {
         return false;
     }
+    if values.len() <= 64 {
+        return try_filter_word(out, values, read_word(mask, m, values.len()), written);
+    }
     let kept = count_ones_wide(mask, m, values.len());
     if out.len() < kept {
         return false;
     }
     *written = filter_to_front(out, kept, values, mask, m);
+    true
+}
+
+/// Does [`try_filter_values`] by a mask that is the word `keep`.
+fn try_filter_word<T: Element>(out: &mut [T], values: &[T], keep: u64, written: &mut usize) -> bool
+    requires few { length values.now ≤ 64 }
+    requires clear { keep < 2 ^ length values.now }
+    ensures { DoneIf (count (digits keep 0 (length values.now)) ≤ length out.old)
+        (Filters (digits keep 0 (length values.now)) values.now out.old out.new written.new)
+        ((out.new ≡ out.old) × (written.new ≡ written.old)) result }
+{
+    if out.len() < keep.count_ones() as usize {
+        return false;
+    }
+    *written = filter_word_into(out, values, keep);
     true
 }
 

@@ -1,7 +1,7 @@
 -- Eight truth values, and words built from eights.
-use Rattle.std.proofs.Common.{◌≡◌, ℕ, inl, inr, ◌+◌, ◌-◌, ◌*◌, ◌/◌, ◌%◌, ◌^◌, ◌<◌, ◌≤◌, Bool, true}
+use Rattle.std.proofs.Common.{◌≡◌, ℕ, inl, inr, ◌+◌, ◌-◌, ◌*◌, ◌%◌, ◌^◌, ◌<◌, ◌≤◌, Bool, true}
 use Rattle.std.proofs.Common.{false, ◌||◌, List, length, map, take, drop, get_or, eqb, refl, sym}
-use Rattle.std.proofs.Common.{ap, ◌∙◌, arith, subst, zero-add}
+use Rattle.std.proofs.Common.{ap, ◌∙◌, arith, zero-add}
 use Rattle.std.specs.Prelude.{bit_or}
 use mir.Val.{bool_byte}
 use Rattle.std.proofs.Math.Nat.{mod-le, mul-lt-mul_of_pos_right}
@@ -11,14 +11,9 @@ use Rattle.std.proofs.lemmas.List.{length-map, length-take-le, same_lists}
 use Rattle.std.proofs.lemmas.List.{get_or-map, get_or-take, get_or-drop, get_or_default}
 use Rattle.std.proofs.lemmas.Nat.{or_lt, pow-add}
 use Rattle.vb_bits.specs.Digits.{has_bit, digits}
-use Rattle.vb_bits.specs.Writes.{Writes}
 use Rattle.vb_bits.proofs.DigitsLemmas.{at-digits, has_bit-or, length-digits}
-use Rattle.vb_bits.proofs.ShiftLemmas.{shl_low, shl_high, bit_at_cut, digits_shr}
+use Rattle.vb_bits.proofs.ShiftLemmas.{shl_low, shl_high, bit_at_cut}
 use Rattle.vb_pack.proofs.WordsLemmas.{has_bit_above}
-
--- the bits after the first ones
-pub digits_behind : (w s n : ℕ) → digits (w / 2 ^ s) 0 n ≡ digits w (0 + s) n
-digits_behind w s n = digits_shr w s n ∙ ap (λ x. digits w x n) (sym (zero-add s))
 
 -- truth values written as bytes of 1 and 0, and compared with 1
 pub bytes_back : (bytes : List ℕ) (l : List Bool) (n : ℕ) → length bytes ≡ n → length l ≡ n
@@ -97,8 +92,3 @@ joined_below p e s small few =
     let scaled : e * 2 ^ s < 2 ^ 8 * 2 ^ s = mul-lt-mul_of_pos_right few (omega (arith, one)) in
     or_lt (s + 8) p (e * 2 ^ s % 2 ^ 64) (omega (arith, more))
     (omega (arith, mod-le (e * 2 ^ s) (2 ^ 64)))
-
--- the same write at the same position
-pub Writes_moved : (b d : List ℕ) (o p : ℕ) (m : List Bool) → o ≡ p → Writes b d o m
-    → Writes b d p m
-Writes_moved b d o p m e h = subst (λ a. Writes b d a m) e h

@@ -1,3 +1,4 @@
+mod BehindLemmas
 pub mod FewLemmas
 pub mod LaneLemmas
 pub mod TruthLemmas

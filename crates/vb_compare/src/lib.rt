@@ -7,7 +7,6 @@
 
 mod compare;
 mod comparison;
-mod digits;
 mod few;
 mod lanes;
 mod test;

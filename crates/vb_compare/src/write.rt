@@ -5,9 +5,9 @@ ghost use Rattle.vb_compare.specs.Digits.{digits};
 ghost use Rattle.vb_compare.specs.InBytes.{InBytes};
 ghost use Rattle.vb_compare.specs.Writes.{Writes};
 
-use crate::digits::{store_word, write_digits, write_in_byte};
 use crate::few::{eight, last_values, word_from};
 use crate::truths::Truths;
+use vb_bits::{write_digits, write_in_byte, write_word};
 
 /// Writes the truth values of `source` to the bits of `out` from bit `offset` on. No other bit
 /// changes.
@@ -87,18 +87,23 @@ fn write_words<S: Truths>(out: &mut [u8], offset: usize, source: &S, from: usize
     }
 }
 
-/// Does [`write_truths`] for the last `n`, fewer than 64 of at least 64.
+/// Does [`write_truths`] for the last `n`, fewer than 64 of at least 64, whose first bit must be
+/// the first of a byte.
+///
+/// It passes on only the bytes from that one on, so that none is read that was just written: a load
+/// of such bytes waits for their store.
 #[inline(always)]
 fn write_rest<S: Truths>(out: &mut [u8], offset: usize, source: &S, n: usize)
     requires few { n < 64 }
     requires enough { 64 ≤ length (S.truths source.now) }
+    requires whole { (offset + (length (S.truths source.now) - n)) % 8 ≡ 0 }
     requires window { InBytes out.old offset (length (S.truths source.now)) }
     ensures { Writes out.old out.new (offset + (length (S.truths source.now) - n))
         (drop (length (S.truths source.now) - n) (S.truths source.now)) }
 {
     if n != 0 {
-        let len = source.len();
-        write_digits(out, offset + (len - n), n, rest_digits(source, n));
+        let first = (offset + (source.len() - n)) / 8;
+        write_digits(&mut out[first..], 0, n, rest_digits(source, n));
     }
 }
 
@@ -117,4 +122,16 @@ fn rest_digits<S: Truths>(source: &S, n: usize) -> u64
     } else {
         source.word(source.len() - 64) >> (64 - n)
     }
+}
+
+/// Writes the bytes of `word` from byte `at` on.
+///
+/// Not inlined: when the results of a comparison are stored right away, the compiler stores each
+/// lane of its vector separately, which is slower at x86-64-v3.
+#[inline(never)]
+fn store_word(out: &mut [u8], at: usize, word: u64)
+    requires { at + 8 ≤ length out.old }
+    ensures { Writes out.old out.new (8 * at) (digits word 0 64) }
+{
+    write_word(out, at, word);
 }

@@ -3,6 +3,7 @@ pub mod AdderLemmas
 pub mod LanesLemmas
 pub mod RestLemmas
 pub mod LooksLemmas
+pub mod UnitsLemmas
 pub use Rattle.vb_bits.proofs.BitsLemmas
 pub use Rattle.vb_bits.proofs.BytesLemmas
 pub use Rattle.vb_bits.proofs.DigitsLemmas

@@ -1,5 +1,5 @@
 -- Looks at a window, one after another.
-use Rattle.std.proofs.Common.{◌≡◌, ℕ, ◌+◌, ◌-◌, ◌<◌, ◌≤◌, ap, ◌∙◌, arith}
+use Rattle.std.proofs.Common.{◌≡◌, ℕ, ◌+◌, ◌<◌, ◌≤◌, ap, ◌∙◌, arith}
 use Rattle.vb_count.specs.Looks.{looks}
 
 -- equal offsets and lengths have equal looks

@@ -28,23 +28,31 @@ looks o n =
     let t = (n - h) % 8 in
     min h 1 + m / 64 + m % 64 / 8 + m % 8 + min t 1
 
+-- the number of bits of a word
+abbrev pub word_bits : ℕ
+word_bits = 64
+
+-- the number of bits of a chunk
+abbrev pub chunk_bits : ℕ
+chunk_bits = 512
+
 -- the looks of n bits from a whole byte on without chunks: words, bytes and a part of a byte
 abbrev pub rest_looks : ℕ → ℕ
-rest_looks n = n / 64 + n % 64 / 8 + min (n % 8) 1
+rest_looks n = n / word_bits + n % word_bits / 8 + min (n % 8) 1
 
--- n bits from bit a on that one look reads: the 512 of a chunk, the 64 of a word, or at most eight
--- of one byte
+-- n bits from bit a on that one look reads: those of a chunk or of a word, or at most eight of one
+-- byte
 pub record IsLook (a n : ℕ) : Type 0 where
   pub some : 0 < n
-  pub unit : 8 < n → (n ≡ 64) ⊎ (n ≡ 512)
+  pub unit : 8 < n → (n ≡ word_bits) ⊎ (n ≡ chunk_bits)
   pub whole : 8 < n → a % 8 ≡ 0
   pub in_byte : n ≤ 8 → a % 8 + n ≤ 8
 
 -- n of m bits at a whole byte that one look reads: those of a chunk, a word or a byte, or all
 pub record IsWholeLook (m n : ℕ) : Type 0 where
-  pub chunk : 512 ≤ m → n ≡ 512
-  pub word : m < 512 → 64 ≤ m → n ≡ 64
-  pub byte : m < 64 → n ≡ min m 8
+  pub chunk : chunk_bits ≤ m → n ≡ chunk_bits
+  pub word : m < chunk_bits → word_bits ≤ m → n ≡ word_bits
+  pub byte : m < word_bits → n ≡ min m 8
 
 -- a search of the values l, which start at bit o, from index a to the back: if it finds a true
 -- value, its looks are at most those of a count of the bits from index a up to that value, included

@@ -15,6 +15,7 @@ use crate::glance::{Glance, Plain, Wide};
 use crate::lane_sum::LaneSum;
 use crate::rest::add_rest;
 use crate::word::byte_part;
+use vb_bits::read_bits;
 
 /// From this number of chunks of a wide source on, adders count. With vectors of 32 bytes they are
 /// faster than counts of words, and already from 32 chunks on; with vectors of 16 bytes they are
@@ -31,7 +32,9 @@ pub fn count_ones(bytes: &[u8], offset: usize, len: usize) -> usize
     requires window { InBytes bytes.now offset len }
     ensures { result ≡ count (bits bytes.now offset len) }
 {
-    if len <= 512 {
+    if len <= 64 {
+        count_few(bytes, offset, len)
+    } else if len <= 512 {
         count_short(&mut Plain::new(bytes), offset, len)
     } else {
         count_of_many(bytes, offset, len)
@@ -52,6 +55,16 @@ pub fn count_ones_wide(bytes: &[u8], offset: usize, len: usize) -> usize
     } else {
         count_long(&mut Wide::new(Plain::new(bytes)), offset, len)
     }
+}
+
+/// [`count_ones`] of at most 64 bits, as one number.
+#[inline(always)]
+fn count_few(bytes: &[u8], offset: usize, len: usize) -> usize
+    requires few { len ≤ 64 }
+    requires inside { offset + len ≤ 8 * length bytes.now }
+    ensures { result ≡ count (bits bytes.now offset len) }
+{
+    read_bits(bytes, offset, len).count_ones() as usize
 }
 
 /// [`count_ones`] of more than 512 bits, as a call, so that a shorter window needs no source in

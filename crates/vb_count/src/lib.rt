@@ -18,6 +18,7 @@ mod looks;
 mod ones;
 mod rest;
 mod sums;
+mod unit;
 mod word;
 
 pub use chunk::chunk_ones;
@@ -26,4 +27,5 @@ pub use ghost_count::GhostCount;
 pub use glance::{Glance, Plain, Tally, Wide};
 pub use lane_sum::LaneSum;
 pub use looks::{first_look, last_look, most_looks};
+pub use unit::Unit;
 pub use word::{byte_part, digit_ones, matching_word};

@@ -9,6 +9,7 @@ mod PackedDigits
 pub mod PendingLemmas
 mod PackedOnes
 mod PackedSteps
+mod RetainLemmas
 mod RunsLemmas
 mod SpreadDigits
 pub mod SpreadLemmas

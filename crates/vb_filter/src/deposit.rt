@@ -11,7 +11,7 @@ ghost use Rattle.vb_view.specs.View.{bits_of};
 
 use crate::pending::{push_digits, write_pending};
 use crate::spread::spread_digits;
-use vb_bits::{full_word, read_bits};
+use vb_bits::{full_word, read_bits, write_digits};
 use vb_view::{BitBufferView, view_word};
 
 /// Writes one bit for each bit of the mask to the bits of `out` from bit `offset` on: the bits of
@@ -22,8 +22,8 @@ use vb_view::{BitBufferView, view_word};
 /// `values` must have one bit for each set bit of the mask. `out` must have `offset` bits and one
 /// more for each bit of the mask, and `offset` plus the length of the mask must fit in a `usize`.
 ///
-/// Processes 64 bits of the mask at a time, and writes a word at a time. If none of 64 is true, it
-/// reads no values. Does not allocate.
+/// Processes 64 bits of the mask at a time, and writes a word at a time; at most 64 in all are one
+/// word. If none of 64 is true, it reads no values. Does not allocate.
 pub fn deposit_into(
     out: &mut [u8],
     offset: usize,
@@ -39,6 +39,33 @@ pub fn deposit_into(
     ensures others { kept_by (complement (bits_of mask.entry))
         (bits out.new offset (length (bits_of mask.entry)))
         ≡ replicate (count (complement (bits_of mask.entry))) false }
+{
+    if mask.len() <= 64 {
+        deposit_few(out, offset, values, mask);
+    } else {
+        deposit_many(out, offset, values, mask);
+    }
+}
+
+/// [`deposit_into`] of a mask of at most 64 bits, by one word.
+fn deposit_few(out: &mut [u8], offset: usize, values: BitBufferView<'_>, mask: BitBufferView<'_>)
+    requires few { length (bits_of mask) ≤ 64 }
+    requires same_count { length (bits_of values) ≡ count (bits_of mask) }
+    requires room { InBytes out.old offset (length (bits_of mask)) }
+    ensures { Writes out.old out.new offset
+        (spread_by (bits_of mask.entry) (bits_of values.entry)) }
+{
+    let total = mask.len();
+    let (word, _) = spread_digits_of(values, 0, mask, 0, total);
+    write_digits(out, offset, total, word);
+}
+
+/// [`deposit_into`] of any number of bits, a word at a time.
+fn deposit_many(out: &mut [u8], offset: usize, values: BitBufferView<'_>, mask: BitBufferView<'_>)
+    requires same_count { length (bits_of values) ≡ count (bits_of mask) }
+    requires room { InBytes out.old offset (length (bits_of mask)) }
+    ensures { Writes out.old out.new offset
+        (spread_by (bits_of mask.entry) (bits_of values.entry)) }
 {
     let total = mask.len();
     let whole = total / 64;

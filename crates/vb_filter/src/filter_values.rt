@@ -73,6 +73,24 @@ pub(crate) fn filter_words<T: Copy, W: PutWord<T>>(
     len + W::put_word(out, len, &values[64 * whole..64 * whole + n], keep)
 }
 
+/// Writes the values whose bit of `keep` is 1, the lowest bit first, to the front of `out`, and
+/// returns their number, as [`filter_values_into`] does by a mask of at most 64 bits. The other
+/// items of `out` are unchanged.
+///
+/// There must be at most 64 values, no 1 in `keep` after the bits of these, and one item of `out`
+/// for each 1. Does not allocate.
+#[inline]
+pub fn filter_word_into<T: Copy>(out: &mut [T], values: &[T], keep: u64) -> usize
+    requires few { length values.now ≤ 64 }
+    requires clear { keep < 2 ^ length values.now }
+    requires room { count_ones keep ≤ length out.old }
+    ensures count { result ≡ count_ones keep }
+    ensures kept { out.new
+        ≡ kept_by (digits keep 0 (length values.now)) values.now ++ drop result out.old }
+{
+    put_word(out, 0, values, keep)
+}
+
 /// Writes the values whose bit of `keep` is 1 after the first `len` items of `out`, and returns
 /// their number.
 #[inline(always)]

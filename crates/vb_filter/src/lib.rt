@@ -12,10 +12,12 @@ mod filter;
 mod filter_elements;
 mod filter_values;
 mod pending;
+mod retain;
 mod spread;
 mod spread_table;
 
 pub use deposit::deposit_into;
 pub use filter::{filter_into, filter_into_at};
 pub use filter_elements::filter_elements_into;
-pub use filter_values::filter_values_into;
+pub use filter_values::{filter_values_into, filter_word_into};
+pub use retain::retain_values;

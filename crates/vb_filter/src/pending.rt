@@ -6,7 +6,7 @@ ghost use Rattle.vb_bits.specs.InBytes.{InBytes};
 ghost use Rattle.vb_bits.specs.Writes.{Writes};
 ghost use Rattle.vb_filter.specs.Pending.{first_bits};
 
-use vb_bits::{copy_bits, write_word};
+use vb_bits::{write_digits, write_word};
 
 /// Appends the `n` lowest bits of `word` to the `len` bits written so far, and returns the word
 /// that is pending then. Writes the pending word once it is full.
@@ -37,5 +37,5 @@ pub(crate) fn write_pending(out: &mut [u8], pending: u64, len: usize)
     ensures { Writes out.old out.new (64 * (len / 64)) (digits pending 0 (len % 64)) }
 {
     let front = &mut out[..len.div_ceil(8)];
-    copy_bits(front, 64 * (len / 64), &pending.to_le_bytes(), 0, len % 64);
+    write_digits(front, 64 * (len / 64), len % 64, pending);
 }

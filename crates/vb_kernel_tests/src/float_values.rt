@@ -100,6 +100,12 @@ impl ByBits for f32 {
     }
 }
 
+/// The bits of float `kind`, counted on from the first one behind the last one.
+pub(crate) fn bits_of<T: ByBits>(kind: usize) -> u64 {
+    let kinds = T::BITS.len().max(1);
+    T::BITS.get(kind % kinds).copied().unwrap_or(0)
+}
+
 /// Where a float is in the order of all numbers: 0 for both zeros, below 0 where the sign is set.
 /// None for a NaN.
 pub(crate) type Rank = Option<i128>;

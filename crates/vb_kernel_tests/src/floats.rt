@@ -1,5 +1,5 @@
 //! Comparisons of floats beside those that are written out by the bits of IEEE 754.
-use crate::float_values::{ByBits, Rank, Ranks, rank};
+use crate::float_values::{ByBits, Rank, Ranks, bits_of, rank};
 use crate::written::{ALL, ROOM, STALE, are_written, holds};
 use std::alloc::Global;
 use std::process::Abort;
@@ -24,12 +24,6 @@ impl<T: ByBits> Floats<T> {
         }
         Floats { values, ranks }
     }
-}
-
-/// The bits of float `kind`, counted on from the first one behind the last one.
-fn bits_of<T: ByBits>(kind: usize) -> u64 {
-    let kinds = T::BITS.len().max(1);
-    T::BITS.get(kind % kinds).copied().unwrap_or(0)
 }
 
 /// Compares floats with others.

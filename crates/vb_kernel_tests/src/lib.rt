@@ -1,7 +1,8 @@
 //! Tests of the kernels, beside plain loops over single bits and values, at many offsets and
 //! lengths: counts, selects, searches, copies and combinations; walks and views; comparisons of
-//! whole numbers and of floats; sums and extremes under a mask, counts and sums by group. And of
-//! what all crates share: errors, alignments, elements, indices and iterators of known length.
+//! whole numbers and of floats; sums and extremes under a mask, counts and sums by group; unpacked
+//! bits and scattered values. And of what all crates share: errors, alignments, elements, indices
+//! and iterators of known length.
 #![tactic(auto)]
 
 #[cfg(test)]
@@ -26,6 +27,10 @@ mod elements;
 mod ends;
 #[cfg(test)]
 mod errors;
+#[cfg(test)]
+mod expanded;
+#[cfg(test)]
+mod float_sums;
 #[cfg(test)]
 mod float_values;
 #[cfg(test)]

@@ -9,12 +9,12 @@ use Rattle.std.proofs.lemmas.Simd.{length-zip2}
 use Rattle.vb_bits.specs.Bits.{complement}
 use Rattle.vb_bits.specs.Operators.{merged_by}
 use Rattle.vb_kleene.specs.Combined.{trues_by, valid_by}
-use Rattle.vb_kleene.specs.Kleene.{and_truths, or_truths, truth, truths, valid_list, is_truth}
+use Rattle.vb_kleene.specs.Kleene.{and_truths, or_truths, nullable, truths, valid_list, is_truth}
 
 -- ---- columns
 -- valid and true
 pub where_true : (values valid : List Bool)
-    → merged_by (λ a b. a && b) valid values ≡ map (is_truth true) (zip2 truth values valid)
+    → merged_by (λ a b. a && b) valid values ≡ map (is_truth true) (zip2 nullable values valid)
 unfolding merged_by
 where_true [] [] = refl
 where_true [] (k ∷ valid) = refl
@@ -24,7 +24,7 @@ where_true (x ∷ values) (false ∷ valid) = ap (λ l. false ∷ l) (where_true
 
 -- valid and false
 pub where_false : (values valid : List Bool)
-    → merged_by (λ a b. a && not b) valid values ≡ map (is_truth false) (zip2 truth values valid)
+    → merged_by (λ a b. a && not b) valid values ≡ map (is_truth false) (zip2 nullable values valid)
 unfolding merged_by
 where_false [] [] = refl
 where_false [] (k ∷ valid) = refl
@@ -34,12 +34,13 @@ where_false (x ∷ values) (false ∷ valid) = ap (λ l. false ∷ l) (where_fal
 
 -- the same if all are valid
 pub all_true : (values : List Bool)
-    → values ≡ map (is_truth true) (zip2 truth values (replicate (length values) true))
+    → values ≡ map (is_truth true) (zip2 nullable values (replicate (length values) true))
 all_true [] = refl
 all_true (x ∷ values) = ap (λ l. x ∷ l) (all_true values)
 
 pub all_false : (values : List Bool)
-    → complement values ≡ map (is_truth false) (zip2 truth values (replicate (length values) true))
+    → complement values
+    ≡ map (is_truth false) (zip2 nullable values (replicate (length values) true))
 all_false [] = refl
 all_false (x ∷ values) = ap (λ l. not x ∷ l) (all_false values)
 
@@ -53,7 +54,7 @@ long_validity f (Some x) n h = h x refl
 pub length-truths : {X : Type 0} (f : X → List Bool) (l : List Bool) (v : Option X)
     → ForSome v (λ x. length (f x) ≡ length l) → length (truths l (option_map f v)) ≡ length l
 length-truths f l v h =
-    length-zip2 truth l (valid_list (length l) (option_map f v))
+    length-zip2 nullable l (valid_list (length l) (option_map f v))
     (sym (long_validity f v (length l) h))
 
 -- ---- `and` and `or`

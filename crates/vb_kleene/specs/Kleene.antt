@@ -21,8 +21,8 @@ or_truths None (Some false) = None
 or_truths None None = None
 
 -- a truth value: the value if it is valid, else null
-abbrev pub truth : Bool → Bool → Option Bool
-truth value valid = cond valid (Some value) None
+abbrev pub nullable : Bool → Bool → Option Bool
+nullable value valid = cond valid (Some value) None
 
 -- the validity of n values; without one all are valid
 abbrev pub valid_list : ℕ → Option (List Bool) → List Bool
@@ -31,7 +31,7 @@ valid_list n (Some validity) = validity
 
 -- the truth values of a column
 abbrev pub truths : List Bool → Option (List Bool) → List (Option Bool)
-truths values validity = zip2 truth values (valid_list (length values) validity)
+truths values validity = zip2 nullable values (valid_list (length values) validity)
 
 -- whether a truth value is `which`, and not null
 abbrev pub is_truth : Bool → Option Bool → Bool

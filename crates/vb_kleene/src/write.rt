@@ -9,7 +9,7 @@ ghost use Rattle.vb_kleene.specs.Writes.{Writes};
 use crate::column::Column;
 use crate::combine::{block, word};
 use std::simd::prelude::*;
-use vb_bits::{Merge, copy_bits, write_word};
+use vb_bits::{Merge, copy_bits, write_digits, write_word};
 
 /// The number of blocks of 256 truth values that are computed before they are copied to a window
 /// that doesn't begin with a byte: enough that the call of the copy costs little, and few enough
@@ -35,6 +35,10 @@ pub(crate) fn write_combined<T: Merge, F: Merge>(
         (valid_by T.bit F.bit (column left.now) (column right.now)) }
 {
     let len = left.len();
+    if len <= 64 {
+        write_part::<T, F>(trues, t, valid, v, left, right, 0, len);
+        return;
+    }
     write_blocks::<T, F>(trues, t, valid, v, left, right, len / 256);
     for k in 4 * (len / 256)..len / 64 {
         write_part::<T, F>(trues, t, valid, v, left, right, 64 * k, 64);
@@ -174,13 +178,16 @@ fn write_part<T: Merge, F: Merge>(
         (valid_by T.bit F.bit (column left.now) (column right.now)) at (at + n)) }
 {
     let (true_word, valid_word) = word::<T, F>(left, right, at, n);
-    write_digits(trues, t + at, n, true_word);
-    write_digits(valid, v + at, n, valid_word);
+    write_results(trues, t + at, n, true_word);
+    write_results(valid, v + at, n, valid_word);
 }
 
 /// Writes the `n` lowest bits of `word` to the bits from bit `at` on.
+///
+/// 64 bits from the first bit of a byte on are stored without a load and a mask, which would take a
+/// tenth of the instructions for 64 truth values.
 #[inline(always)]
-fn write_digits(out: &mut [u8], at: usize, n: usize, word: u64)
+fn write_results(out: &mut [u8], at: usize, n: usize, word: u64)
     requires in_word { n ≤ 64 }
     requires window { InBytes out.old at n }
     ensures { Writes out.old out.new at (digits word 0 n) }
@@ -188,7 +195,7 @@ fn write_digits(out: &mut [u8], at: usize, n: usize, word: u64)
     if n == 64 && at % 8 == 0 {
         write_word(out, at / 8, word);
     } else {
-        copy_bits(out, at, &word.to_le_bytes(), 0, n);
+        write_digits(out, at, n, word);
     }
 }
 

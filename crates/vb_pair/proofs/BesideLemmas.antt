@@ -1,13 +1,12 @@
 -- Units of bytes read alongside each other, and the looks at them.
 use Rattle.std.proofs.Common.{◌≡◌, ℕ, ◌+◌, ◌-◌, ◌*◌, ◌/◌, ◌%◌, ◌<◌, ◌≤◌, Bool, false, List, []}
-use Rattle.std.proofs.Common.{◌∷◌, length, get_or, take, drop, min, inl, inr, refl, sym, subst, ap}
+use Rattle.std.proofs.Common.{◌∷◌, get_or, min, inl, inr, refl, sym, subst, ap}
 use Rattle.std.proofs.Common.{◌∙◌, arith, zero-add}
-use Rattle.std.specs.Prelude.{slice_range}
-use Rattle.std.proofs.lemmas.List.{get_or-drop, get_or-take}
 use Rattle.std.proofs.lemmas.Bool.{cases_lt}
 use Rattle.vb_bits.specs.Bits.{bit_of, bits, count}
 use Rattle.vb_bits.specs.Operators.{merged_by}
 use Rattle.vb_count.specs.Looks.{looks, CountedBytes, LooksExactly}
+use Rattle.vb_count.proofs.UnitsLemmas.{units_none, units_more}
 use Rattle.vb_pair.specs.Beside.{IsHeld, bits_held, part_looks, looks_beside}
 use Rattle.vb_pair.specs.Merged.{merged_ones}
 use Rattle.vb_bits.proofs.BitsLemmas.{same_bits, at-bits}
@@ -98,33 +97,7 @@ merged_ones_of_unit f a b xs ys y i j k x n o p left right held from next within
       merged_ones_split f a b o p t n (o + t) (p + t) e refl refl (omega arith),
     )
 
--- a whole unit of k bytes
-pub merged_ones_of_whole : (f : Bool → Bool → Bool) (a b xs ys : List ℕ) (y l p j k : ℕ)
-    → bits xs 0 (8 * k) ≡ bits a (8 * l) (8 * k) → bits ys 0 (8 * k) ≡ bits b (8 * j) (8 * k)
-    → IsHeld b p y → 8 * j ≡ p + bits_held p
-    → merged_ones f xs 0 (y ∷ []) (p % 8) (min (8 * k) (bits_held p))
-    + merged_ones f xs (0 + min (8 * k) (bits_held p)) ys 0 (8 * k - bits_held p)
-    ≡ merged_ones f a (8 * l) b p (8 * k)
-merged_ones_of_whole f a b xs ys y l p j k left right held next =
-    merged_ones_of_unit f a b xs ys y l j k 0 (8 * k) (8 * l) p left (λ h. right) held
-    (omega arith) next (omega arith)
-
 -- ---- the held byte
--- after whole bytes: the last of k bytes read from byte j on
-pub held_behind_whole : (b ys : List ℕ) (y p j k n : ℕ) → y ≡ get_or ys (length ys - 1) 0
-    → ys ≡ slice_range b j (j + k) → length ys ≡ k → 0 < k → 8 * j ≡ p + bits_held p
-    → n ≡ p + 8 * k → IsHeld b n y
-held_behind_whole b ys y p j k n last read long some next end = record {
-  held = λ h.
-      let place : length ys - 1 ≡ k - 1 = omega arith in
-      let whole : j + k - j ≡ k = omega arith in
-      let byte : j + (k - 1) ≡ n / 8 = omega arith in
-      last ∙ ap (λ i. get_or ys i 0) place ∙ ap (λ l. get_or l (k - 1) 0) read
-      ∙ ap (λ m. get_or (take m (drop j b)) (k - 1) 0) whole
-      ∙ get_or-take k (drop j b) (k - 1) 0 (omega arith) ∙ get_or-drop j b (k - 1) 0
-      ∙ ap (λ i. get_or b i 0) byte;
-}
-
 -- after n bits: the byte that was read if they continue in it, else the previous one
 pub held_behind_part : (b : List ℕ) (y z p j n : ℕ) → IsHeld b p y
     → (0 < n - bits_held p → z ≡ get_or b j 0) → (n - bits_held p ≡ 0 → z ≡ y)
@@ -146,40 +119,49 @@ is_held_in {b} {c} {p} {q} {y} same place held =
     subst (λ x. IsHeld x q y) same (subst (λ x. IsHeld c x y) place held)
 
 -- ---- units in a row
--- the first k units have n bits: the number of set ones, and the looks at them; after them y is
--- held
-pub record UnitsCounted (f : Bool → Bool → Bool) (o p k n ones y : ℕ)
+-- the first k units of w bytes: the number of set bits, and the looks at them; after them y is held
+pub record UnitsCounted (f : Bool → Bool → Bool) (w o p k ones y : ℕ)
     (left left_now right right_now : CountedBytes) : Type 0 where
-  pub value : ones ≡ merged_ones f left.bytes o right.bytes p n
+  pub value : ones ≡ merged_ones f left.bytes o right.bytes p (8 * (w * k))
   pub looks : LooksExactly k left left_now
   pub beside : LooksExactly k right right_now
-  pub held : IsHeld right.bytes (p + n) y
+  pub held : IsHeld right.bytes (p + 8 * (w * k)) y
 
 -- no unit
-pub units_none : (f : Bool → Bool → Bool) (o p y : ℕ) (left right : CountedBytes)
-    → IsHeld right.bytes p y → UnitsCounted f o p 0 0 0 y left left right right
-units_none f o p y left right held = record {
-  value = sym (merged_ones_none f left.bytes right.bytes o p);
-  looks = record { same = refl; looks = omega arith };
-  beside = record { same = refl; looks = omega arith };
-  held = let end : p ≡ p + 0 = omega arith in subst (λ q. IsHeld right.bytes q y) end held;
-}
+pub counted_none : (f : Bool → Bool → Bool) (w o p y : ℕ) (left right : CountedBytes)
+    → IsHeld right.bytes p y → UnitsCounted f w o p 0 0 y left left right right
+counted_none f w o p y left right held =
+    let none = units_none w in
+    let end : p ≡ p + 8 * (w * 0) = omega (arith, none) in
+    record {
+      value = sym (ap (merged_ones f left.bytes o right.bytes p) none
+          ∙ merged_ones_none f left.bytes right.bytes o p);
+      looks = record { same = refl; looks = omega arith };
+      beside = record { same = refl; looks = omega arith };
+      held = is_held_in refl end held;
+    }
 
-module _ {f : Bool → Bool → Bool} {o p k n ones y : ℕ} {left mid right amid : CountedBytes}
-    (so_far : UnitsCounted f o p k n ones y left mid right amid) where
+module _ {f : Bool → Bool → Bool} {w o p k ones y : ℕ} {left mid right amid : CountedBytes}
+    (so_far : UnitsCounted f w o p k ones y left mid right amid) where
   -- at most the number of bits
-  pub units-le : ones ≤ n
-  units-le = omega (arith, so_far.value, merged_ones-le f left.bytes right.bytes o p n)
+  pub counted-le : ones ≤ 8 * (w * k)
+  counted-le = omega (
+    arith,
+    so_far.value,
+    merged_ones-le f left.bytes right.bytes o p (8 * (w * k)),
+  )
 
-  -- one more unit, of u bits, of which x are set
-  pub units_more : {new anew : CountedBytes} → (at from u m x z : ℕ)
-      → x ≡ merged_ones f mid.bytes at amid.bytes from u → LooksExactly 1 mid new
-      → LooksExactly 1 amid anew → IsHeld amid.bytes (from + u) z
-      → at ≡ o + n → from ≡ p + n → m ≡ n + u
-      → UnitsCounted f o p (k + 1) m (ones + x) z left new right anew
-  units_more at from u m x z value looks beside held place other end =
-      let a = left.bytes in let b = right.bytes in
-      let behind : from + u ≡ p + m = omega arith in
+  -- one more unit, of which x bits are set
+  pub counted_more : {new anew : CountedBytes} → (at from x z : ℕ)
+      → x ≡ merged_ones f mid.bytes at amid.bytes from (8 * w) → LooksExactly 1 mid new
+      → LooksExactly 1 amid anew → IsHeld amid.bytes (from + 8 * w) z
+      → at ≡ o + 8 * (w * k) → from ≡ p + 8 * (w * k)
+      → UnitsCounted f w o p (k + 1) (ones + x) z left new right anew
+  counted_more at from x z value looks beside held place other =
+      let a = left.bytes in let b = right.bytes in let u : ℕ = 8 * w in
+      let n : ℕ = 8 * (w * k) in let m : ℕ = 8 * (w * (k + 1)) in
+      let end : m ≡ n + u = units_more w k in
+      let behind : from + u ≡ p + m = omega (arith, end) in
       record {
         value = omega (
           arith,

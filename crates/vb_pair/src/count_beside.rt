@@ -13,7 +13,7 @@ ghost use Rattle.vb_pair.specs.Merged.{merged_ones};
 
 use crate::count_merged::{count_short, few_ones};
 use vb_bits::Merge;
-use vb_count::Glance;
+use vb_count::{Glance, Unit};
 
 /// [`count_merged`](crate::count_merged::count_merged) of two sources.
 pub(crate) fn count_beside<M: Merge, L: Glance, R: Glance>(
@@ -42,19 +42,19 @@ pub(crate) fn count_beside<M: Merge, L: Glance, R: Glance>(
     let (at, from) = ((l + head) / 8, r + head);
     let bytes = (len - head) / 8;
     let (chunks, words) = (bytes / 64, bytes % 64 / 8);
-    let by_chunks = count_chunks::<M, L, R>(left, at, right, from, held, chunks);
+    let by_chunks = count_units::<[u8; 64], M, L, R>(left, at, right, from, held, chunks);
     let (at, from) = (at + 64 * chunks, from + 512 * chunks);
-    let by_words = count_words::<M, L, R>(left, at, right, from, held, words);
+    let by_words = count_units::<[u8; 8], M, L, R>(left, at, right, from, held, words);
     let (at, from) = (at + 8 * words, from + 64 * words);
-    let by_bytes = count_bytes::<M, L, R>(left, at, right, from, held, bytes % 8);
+    let by_bytes = count_units::<u8, M, L, R>(left, at, right, from, held, bytes % 8);
     let done = head + 8 * bytes;
     let last = count_part::<M, L, R>(left, l + done, right, r + done, held, len - done);
     first + by_chunks + by_words + by_bytes + last
 }
 
-/// Counts `n` chunks from byte `l` and bit `r` on. Before, the byte of bit `r` is held if that
-/// isn't its first bit; afterwards the byte of the first bit after the chunks is held likewise.
-fn count_chunks<M: Merge, L: Glance, R: Glance>(
+/// Counts `n` units from byte `l` and bit `r` on. Before, the byte of bit `r` is held if that isn't
+/// its first bit; afterwards the byte of the first bit after the units is held likewise.
+fn count_units<U: Unit, M: Merge, L: Glance, R: Glance>(
     left: &mut L,
     l: usize,
     right: &mut R,
@@ -62,142 +62,46 @@ fn count_chunks<M: Merge, L: Glance, R: Glance>(
     held: &mut u8,
     n: usize,
 ) -> usize
-    requires left { InBytes (L.seen left.old).bytes (8 * l) (512 * n) }
-    requires right { InBytes (R.seen right.old).bytes r (512 * n) }
+    requires left { InBytes (L.seen left.old).bytes (8 * l) (8 * (U.SIZE * n)) }
+    requires right { InBytes (R.seen right.old).bytes r (8 * (U.SIZE * n)) }
     requires held { IsHeld (R.seen right.old).bytes r held.old }
     ensures value { result ≡ merged_ones (M.bit)
-        (L.seen left.old).bytes (8 * l) (R.seen right.old).bytes r (512 * n) }
-    ensures few { result ≤ 512 * n }
+        (L.seen left.old).bytes (8 * l) (R.seen right.old).bytes r (8 * (U.SIZE * n)) }
+    ensures few { result ≤ 8 * (U.SIZE * n) }
     ensures looks { LooksExactly n (L.seen left.old) (L.seen left.new) }
     ensures beside { LooksExactly n (R.seen right.old) (R.seen right.new) }
-    ensures held { IsHeld (R.seen right.old).bytes (r + 512 * n) held.new }
+    ensures held { IsHeld (R.seen right.old).bytes (r + 8 * (U.SIZE * n)) held.new }
 {
     let mut ones = 0;
     for k in 0..n {
-        ones += count_chunk::<M, L, R>(left, l + 64 * k, right, r + 512 * k, held);
+        let at = U::SIZE * k;
+        ones += count_unit::<U, M, L, R>(left, l + at, right, r + 8 * at, held);
     }
     ones
 }
 
-/// Counts the chunk at byte `l`, combined with the one at bit `r`.
-fn count_chunk<M: Merge, L: Glance, R: Glance>(
+/// Counts the unit at byte `l`, combined with the one at bit `r`.
+fn count_unit<U: Unit, M: Merge, L: Glance, R: Glance>(
     left: &mut L,
     l: usize,
     right: &mut R,
     r: usize,
     held: &mut u8,
 ) -> usize
-    requires left { l + 64 ≤ length (L.seen left.old).bytes }
-    requires right { r + 512 ≤ 8 * length (R.seen right.old).bytes }
+    requires left { l + U.SIZE ≤ length (L.seen left.old).bytes }
+    requires right { r + 8 * U.SIZE ≤ 8 * length (R.seen right.old).bytes }
     requires held { IsHeld (R.seen right.old).bytes r held.old }
     ensures value { result ≡ merged_ones (M.bit)
-        (L.seen left.old).bytes (8 * l) (R.seen right.old).bytes r 512 }
-    ensures few { result ≤ 512 }
+        (L.seen left.old).bytes (8 * l) (R.seen right.old).bytes r (8 * U.SIZE) }
+    ensures few { result ≤ 8 * U.SIZE }
     ensures looks { LooksExactly 1 (L.seen left.old) (L.seen left.new) }
     ensures beside { LooksExactly 1 (R.seen right.old) (R.seen right.new) }
-    ensures held { IsHeld (R.seen right.old).bytes (r + 512) held.new }
+    ensures held { IsHeld (R.seen right.old).bytes (r + 8 * U.SIZE) held.new }
 {
-    let unit = left.chunk(l);
-    let other = right.chunk(r.div_ceil(8));
-    unit_ones::<M>(&unit, 0, held, r % 8, &other, 512)
-}
-
-/// Counts `n` words from byte `l` and bit `r` on.
-fn count_words<M: Merge, L: Glance, R: Glance>(
-    left: &mut L,
-    l: usize,
-    right: &mut R,
-    r: usize,
-    held: &mut u8,
-    n: usize,
-) -> usize
-    requires left { InBytes (L.seen left.old).bytes (8 * l) (64 * n) }
-    requires right { InBytes (R.seen right.old).bytes r (64 * n) }
-    requires held { IsHeld (R.seen right.old).bytes r held.old }
-    ensures value { result ≡ merged_ones (M.bit)
-        (L.seen left.old).bytes (8 * l) (R.seen right.old).bytes r (64 * n) }
-    ensures few { result ≤ 64 * n }
-    ensures looks { LooksExactly n (L.seen left.old) (L.seen left.new) }
-    ensures beside { LooksExactly n (R.seen right.old) (R.seen right.new) }
-    ensures held { IsHeld (R.seen right.old).bytes (r + 64 * n) held.new }
-{
-    let mut ones = 0;
-    for k in 0..n {
-        ones += count_word::<M, L, R>(left, l + 8 * k, right, r + 64 * k, held);
-    }
-    ones
-}
-
-/// Counts the word at byte `l`, combined with the one at bit `r`.
-fn count_word<M: Merge, L: Glance, R: Glance>(
-    left: &mut L,
-    l: usize,
-    right: &mut R,
-    r: usize,
-    held: &mut u8,
-) -> usize
-    requires left { l + 8 ≤ length (L.seen left.old).bytes }
-    requires right { r + 64 ≤ 8 * length (R.seen right.old).bytes }
-    requires held { IsHeld (R.seen right.old).bytes r held.old }
-    ensures value { result ≡ merged_ones (M.bit)
-        (L.seen left.old).bytes (8 * l) (R.seen right.old).bytes r 64 }
-    ensures few { result ≤ 64 }
-    ensures looks { LooksExactly 1 (L.seen left.old) (L.seen left.new) }
-    ensures beside { LooksExactly 1 (R.seen right.old) (R.seen right.new) }
-    ensures held { IsHeld (R.seen right.old).bytes (r + 64) held.new }
-{
-    let unit = left.word(l).to_le_bytes();
-    let other = right.word(r.div_ceil(8)).to_le_bytes();
-    unit_ones::<M>(&unit, 0, held, r % 8, &other, 64)
-}
-
-/// Counts `n` bytes from byte `l` and bit `r` on.
-fn count_bytes<M: Merge, L: Glance, R: Glance>(
-    left: &mut L,
-    l: usize,
-    right: &mut R,
-    r: usize,
-    held: &mut u8,
-    n: usize,
-) -> usize
-    requires left { InBytes (L.seen left.old).bytes (8 * l) (8 * n) }
-    requires right { InBytes (R.seen right.old).bytes r (8 * n) }
-    requires held { IsHeld (R.seen right.old).bytes r held.old }
-    ensures value { result ≡ merged_ones (M.bit)
-        (L.seen left.old).bytes (8 * l) (R.seen right.old).bytes r (8 * n) }
-    ensures few { result ≤ 8 * n }
-    ensures looks { LooksExactly n (L.seen left.old) (L.seen left.new) }
-    ensures beside { LooksExactly n (R.seen right.old) (R.seen right.new) }
-    ensures held { IsHeld (R.seen right.old).bytes (r + 8 * n) held.new }
-{
-    let mut ones = 0;
-    for k in 0..n {
-        ones += count_byte::<M, L, R>(left, l + 1 * k, right, r + 8 * k, held);
-    }
-    ones
-}
-
-/// Counts the byte at byte `l`, combined with the one at bit `r`.
-fn count_byte<M: Merge, L: Glance, R: Glance>(
-    left: &mut L,
-    l: usize,
-    right: &mut R,
-    r: usize,
-    held: &mut u8,
-) -> usize
-    requires left { l + 1 ≤ length (L.seen left.old).bytes }
-    requires right { r + 8 ≤ 8 * length (R.seen right.old).bytes }
-    requires held { IsHeld (R.seen right.old).bytes r held.old }
-    ensures value { result ≡ merged_ones (M.bit)
-        (L.seen left.old).bytes (8 * l) (R.seen right.old).bytes r 8 }
-    ensures few { result ≤ 8 }
-    ensures looks { LooksExactly 1 (L.seen left.old) (L.seen left.new) }
-    ensures beside { LooksExactly 1 (R.seen right.old) (R.seen right.new) }
-    ensures held { IsHeld (R.seen right.old).bytes (r + 8) held.new }
-{
-    let unit = [left.byte(l)];
-    let other = [right.byte(r.div_ceil(8))];
-    unit_ones::<M>(&unit, 0, held, r % 8, &other, 8)
+    let unit = U::read(left, l);
+    let next = U::read(right, r.div_ceil(8));
+    let other = next.as_bytes();
+    unit_ones::<M>(unit.as_bytes(), 0, held, r % 8, other, 8 * U::SIZE)
 }
 
 /// Counts at most eight bits within one byte of `left`.
@@ -252,9 +156,9 @@ pub(crate) fn count_look<M: Merge, L: Glance, R: Glance>(
     if n <= 8 {
         count_part::<M, L, R>(left, l, right, r, held, n)
     } else if n == 64 {
-        count_word::<M, L, R>(left, l / 8, right, r, held)
+        count_unit::<[u8; 8], M, L, R>(left, l / 8, right, r, held)
     } else {
-        count_chunk::<M, L, R>(left, l / 8, right, r, held)
+        count_unit::<[u8; 64], M, L, R>(left, l / 8, right, r, held)
     }
 }
 

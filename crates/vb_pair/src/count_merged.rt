@@ -22,7 +22,9 @@ pub(crate) fn count_merged<M: Merge>(
     requires right { InBytes right.now r len }
     ensures { result ≡ merged_ones (M.bit) left.now l right.now r len }
 {
-    if len <= 512 {
+    if len <= 64 {
+        few_ones::<M>(left, l, right, r, len)
+    } else if len <= 512 {
         count_short::<M>(left, l, right, r, len)
     } else {
         count_long::<M>(left, l, right, r, len)

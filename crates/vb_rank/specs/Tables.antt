@@ -5,6 +5,7 @@ use Rattle.std.specs.Int.{div_ceil}
 use Rattle.std.specs.Int.Digits.{digits_of}
 use Rattle.std.specs.List.{range_with_len}
 use Rattle.vb_bits.specs.Bits.{count}
+use Rattle.vb_rank.specs.declared.size.TheConstants.{BLOCK_BITS}
 
 -- entries, and the number of probes that they have had
 pub record CountedEntries : Type 0 where
@@ -23,11 +24,11 @@ pub record ProbesAtMost (n : ℕ) (before after : CountedEntries) : Type 0 where
 
 -- the number of blocks of 512 bits that n bits have, the last one perhaps in part
 abbrev pub blocks : ℕ → ℕ
-blocks n = div_ceil n 512
+blocks n = div_ceil n BLOCK_BITS
 
 -- for each block, the number of true values before it
 unfoldable pub block_counts : List Bool → List ℕ
-block_counts l = map (λ j. count (take (512 * j) l)) (range_with_len 0 (blocks (length l)))
+block_counts l = map (λ j. count (take (BLOCK_BITS * j) l)) (range_with_len 0 (blocks (length l)))
 
 -- the entries are the counts before the blocks of the list
 abbrev pub IsTableOf : CountedEntries → List Bool → Type 0

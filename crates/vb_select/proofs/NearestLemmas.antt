@@ -14,7 +14,7 @@ use Rattle.vb_bits.specs.Nearest.{IsNext}
 use Rattle.vb_count.specs.Hits.{hits}
 use Rattle.vb_select.specs.Matches.{ShowsBefore}
 use Rattle.vb_walk.specs.Walks.{others, AreAll, IsOther}
-use Rattle.vb_walk.specs.declared.other.OtherWord.{OtherWord}
+use Rattle.vb_walk.specs.declared.other_word.OtherWord.{OtherWord}
 use Rattle.vb_bits.proofs.BitsLemmas.{length-bits, at-bits, at-complement, count-cons}
 use Rattle.vb_bits.proofs.BitsLemmas.{count-complement, count-take-lt}
 use Rattle.vb_bits.proofs.DigitsLemmas.{at-digits, has_bit-bit_not}

@@ -5,10 +5,10 @@ ghost use Rattle.vb_count.specs.Hits.{hits};
 ghost use Rattle.vb_select.specs.Searches.{Searched};
 
 use crate::search::{Search, find_in_units};
-use crate::unit::Unit;
+use crate::unit::Searchable;
 use std::ops::ControlFlow;
 use std::simd::prelude::*;
-use vb_count::{Glance, Plain, chunk_ones};
+use vb_count::{Plain, chunk_ones};
 
 /// Returns the index of the `n`-th bit of the chunk that is `value`.
 ///
@@ -35,20 +35,10 @@ pub(crate) fn find_in_chunk(chunk: &[u8; 64], n: usize, value: bool) -> ControlF
         n,
         value,
     };
-    find_in_units::<u64, Plain>(&mut Plain::new(chunk), search, 8)
+    find_in_units::<[u8; 8], Plain>(&mut Plain::new(chunk), search, 8)
 }
 
-impl Unit for [u8; 64] {
-    ghost SIZE = { 64 };
-
-    ghost bytes = { λ chunk. chunk };
-
-    const SIZE: usize = 64;
-
-    fn read<G: Glance>(src: &mut G, at: usize) -> [u8; 64] {
-        src.chunk(at)
-    }
-
+impl Searchable for [u8; 64] {
     // It counts the words as they are, without negating each of them.
     fn count(self, value: bool) -> usize {
         let ones = chunk_ones(&self);

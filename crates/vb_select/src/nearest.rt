@@ -5,7 +5,7 @@ ghost use Rattle.vb_count.specs.Hits.{hits};
 ghost use Rattle.vb_count.specs.Looks.{LooksExactly, IsLook};
 ghost use Rattle.vb_select.specs.Searches.{SelectsNearest, rank_of};
 
-use crate::unit::Unit;
+use crate::unit::Searchable;
 use vb_bits::select_in_byte;
 use vb_count::{Glance, byte_part};
 
@@ -50,7 +50,7 @@ pub(crate) fn nearest_in_look<G: Glance>(
     if len <= 8 {
         nearest_in_byte(src, at, len, value, which)
     } else if len == 64 {
-        nearest_in_unit::<u64, G>(src, at / 8, value, which)
+        nearest_in_unit::<[u8; 8], G>(src, at / 8, value, which)
     } else {
         nearest_in_unit::<[u8; 64], G>(src, at / 8, value, which)
     }
@@ -58,7 +58,7 @@ pub(crate) fn nearest_in_look<G: Glance>(
 
 /// [`nearest_in_look`] of the unit from byte `at` on.
 #[inline(always)]
-fn nearest_in_unit<U: Unit, G: Glance>(
+fn nearest_in_unit<U: Searchable, G: Glance>(
     src: &mut G,
     at: usize,
     value: bool,

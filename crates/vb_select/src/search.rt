@@ -4,7 +4,7 @@ ghost use Rattle.vb_select.specs.Searches.{IsWithin, SearchAnswers};
 ghost use Rattle.vb_count.specs.Looks.{rest_looks};
 ghost use Rattle.vb_count.specs.Looks.{LooksExactly, LooksAtMost};
 
-use crate::unit::Unit;
+use crate::unit::Searchable;
 use std::ops::ControlFlow;
 use vb_bits::select_in_byte;
 use vb_count::{Glance, byte_part};
@@ -36,7 +36,7 @@ pub(crate) fn find_in_rest<G: Glance>(
 {
     let bytes_at = search.from + len / 64 * 64;
     let tail_at = search.from + len / 8 * 8;
-    search.n = find_in_units::<u64, G>(src, search, len / 64)?;
+    search.n = find_in_units::<[u8; 8], G>(src, search, len / 64)?;
     search.from = bytes_at;
     search.n = find_in_units::<u8, G>(src, search, len % 64 / 8)?;
     search.from = tail_at;
@@ -69,7 +69,7 @@ pub(crate) fn find_in_part<G: Glance>(
 
 /// Searches this number of units, one by one.
 #[inline(always)]
-pub(crate) fn find_in_units<U: Unit, G: Glance>(
+pub(crate) fn find_in_units<U: Searchable, G: Glance>(
     src: &mut G,
     search: Search,
     units: usize,

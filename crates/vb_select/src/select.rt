@@ -7,9 +7,11 @@ ghost use Rattle.vb_count.specs.Hits.{hits};
 ghost use Rattle.vb_select.specs.Searches.{Searched, IsWithin, SearchAnswers};
 
 use crate::chunk::find_in_chunk;
+use crate::matches::read_matches;
 use crate::parts::Parts;
 use crate::search::{Search, find_in_part, find_in_rest, find_in_units};
 use std::ops::ControlFlow;
+use vb_bits::select_in_word;
 use vb_count::{Glance, Plain, Wide, add_chunks};
 
 /// Runs of fewer chunks are searched directly by their words, which takes no longer than counting
@@ -82,7 +84,11 @@ pub fn bit_select(bytes: &[u8], offset: usize, len: usize, n: usize) -> Option<u
     ensures place { Selects (bits bytes.now offset len) n result }
     ensures each { InvertsCount (bits bytes.now offset len) n result }
 {
-    bit_select_by(&mut Plain::new(bytes), offset, len, n)
+    if len <= 64 {
+        select_few(bytes, offset, len, n, true)
+    } else {
+        bit_select_by(&mut Plain::new(bytes), offset, len, n)
+    }
 }
 
 /// Returns the index of the `n`-th unset bit, counted from 0, of the `len` bits from bit `offset`
@@ -96,7 +102,11 @@ pub fn bit_select_unset(bytes: &[u8], offset: usize, len: usize, n: usize) -> Op
     ensures place { Selects (complement (bits bytes.now offset len)) n result }
     ensures each { InvertsCount (complement (bits bytes.now offset len)) n result }
 {
-    bit_select_unset_by(&mut Plain::new(bytes), offset, len, n)
+    if len <= 64 {
+        select_few(bytes, offset, len, n, false)
+    } else {
+        bit_select_unset_by(&mut Plain::new(bytes), offset, len, n)
+    }
 }
 
 /// [`bit_select`] for vectors of 32 bytes and more: at x86-64-v3 it passes long windows faster,
@@ -106,7 +116,11 @@ pub fn bit_select_wide(bytes: &[u8], offset: usize, len: usize, n: usize) -> Opt
     ensures place { Selects (bits bytes.now offset len) n result }
     ensures each { InvertsCount (bits bytes.now offset len) n result }
 {
-    bit_select_by(&mut Wide::new(Plain::new(bytes)), offset, len, n)
+    if len <= 64 {
+        select_few(bytes, offset, len, n, true)
+    } else {
+        bit_select_by(&mut Wide::new(Plain::new(bytes)), offset, len, n)
+    }
 }
 
 /// [`bit_select_unset`] for vectors of 32 bytes and more: at x86-64-v3 it passes long windows
@@ -116,7 +130,27 @@ pub fn bit_select_unset_wide(bytes: &[u8], offset: usize, len: usize, n: usize) 
     ensures place { Selects (complement (bits bytes.now offset len)) n result }
     ensures each { InvertsCount (complement (bits bytes.now offset len)) n result }
 {
-    bit_select_unset_by(&mut Wide::new(Plain::new(bytes)), offset, len, n)
+    if len <= 64 {
+        select_few(bytes, offset, len, n, false)
+    } else {
+        bit_select_unset_by(&mut Wide::new(Plain::new(bytes)), offset, len, n)
+    }
+}
+
+/// Returns the index of the `n`-th bit that is `value`, of at most 64 bits, by one word.
+#[inline(always)]
+fn select_few(bytes: &[u8], offset: usize, len: usize, n: usize, value: bool) -> Option<usize>
+    requires few { len ≤ 64 }
+    requires inside { offset + len ≤ 8 * length bytes.now }
+    ensures place { Selects (hits value (bits bytes.now offset len)) n result }
+    ensures each { InvertsCount (hits value (bits bytes.now offset len)) n result }
+{
+    let word = read_matches(bytes, offset, len, value);
+    if n < word.count_ones() as usize {
+        Some(select_in_word(word, n))
+    } else {
+        None
+    }
 }
 
 /// Returns the index of the `n`-th set bit, counted from 0, of the `len` bits of `src` from bit

@@ -1,52 +1,26 @@
-//! The units that one look reads: a byte, a word of eight bytes or a chunk of 64.
-ghost use Rattle.std.specs.Prelude.{◌≡◌, ℕ, ◌+◌, ◌*◌, ◌<◌, ◌≤◌, List, [], ◌∷◌, Some, length};
-ghost use Rattle.std.specs.Prelude.{slice_range};
-ghost use Rattle.std.specs.Int.{w64, to_le_bytes};
+//! Counts and selects within the bytes that one look reads.
+ghost use Rattle.std.specs.Prelude.{◌≡◌, ◌*◌, ◌<◌, Some};
 ghost use Rattle.vb_bits.specs.Bits.{bits, count, Selects};
 ghost use Rattle.vb_count.specs.Hits.{hits};
-ghost use Rattle.vb_count.specs.Looks.{LooksExactly};
 
-use vb_bits::{select_in_byte, select_in_word};
-use vb_count::{Glance, byte_part, matching_word};
+use vb_bits::{select_in_byte, select_in_word, word_at};
+use vb_count::{Unit, byte_part, matching_word};
 
-/// Bytes that one look reads. They are then counted and searched without another look.
+/// A unit that is counted and searched without another look.
 ///
 /// `value` says which bits are meant, the set or the unset ones.
-pub(crate) trait Unit: Copy {
-    ghost SIZE: { ℕ };
-
-    ghost bytes: { Self → List ℕ };
-
-    /// The number of bytes.
-    const SIZE: usize;
-
-    /// Returns the bytes of the source from byte `at` on, by one look.
-    fn read<G: Glance>(src: &mut G, at: usize) -> Self
-        requires { at + SIZE ≤ length (G.seen src.old).bytes }
-        ensures value { bytes result ≡ slice_range (G.seen src.old).bytes at (at + SIZE) }
-        ensures look { LooksExactly 1 (G.seen src.old) (G.seen src.new) };
-
+pub(crate) trait Searchable: Unit {
     /// Returns the number of bits that are `value`.
     fn count(self, value: bool) -> usize
-        ensures { result ≡ count (hits value (bits (bytes self) 0 (8 * SIZE))) };
+        ensures { result ≡ count (hits value (bits (Self.bytes self) 0 (8 * Self.SIZE))) };
 
     /// Returns the index of the `n`-th bit that is `value`.
     fn select(self, n: usize, value: bool) -> usize
-        requires { n < count (hits value (bits (bytes self) 0 (8 * SIZE))) }
-        ensures { Selects (hits value (bits (bytes self) 0 (8 * SIZE))) n (Some result) };
+        requires { n < count (hits value (bits (Self.bytes self) 0 (8 * Self.SIZE))) }
+        ensures { Selects (hits value (bits (Self.bytes self) 0 (8 * Self.SIZE))) n (Some result) };
 }
 
-impl Unit for u8 {
-    ghost SIZE = { 1 };
-
-    ghost bytes = { λ byte. byte ∷ [] };
-
-    const SIZE: usize = 1;
-
-    fn read<G: Glance>(src: &mut G, at: usize) -> u8 {
-        src.byte(at)
-    }
-
+impl Searchable for u8 {
     fn count(self, value: bool) -> usize {
         byte_part(self, 0, 8, value).count_ones() as usize
     }
@@ -56,22 +30,12 @@ impl Unit for u8 {
     }
 }
 
-impl Unit for u64 {
-    ghost SIZE = { 8 };
-
-    ghost bytes = { to_le_bytes w64 };
-
-    const SIZE: usize = 8;
-
-    fn read<G: Glance>(src: &mut G, at: usize) -> u64 {
-        src.word(at)
-    }
-
+impl Searchable for [u8; 8] {
     fn count(self, value: bool) -> usize {
-        matching_word(self, value).count_ones() as usize
+        matching_word(word_at(&self, 0), value).count_ones() as usize
     }
 
     fn select(self, n: usize, value: bool) -> usize {
-        select_in_word(matching_word(self, value), n)
+        select_in_word(matching_word(word_at(&self, 0), value), n)
     }
 }

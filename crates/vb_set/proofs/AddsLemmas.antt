@@ -83,6 +83,18 @@ AddsBits-append xs ys a b c same one two =
       byte_len = omega (arith, two.byte_len, one.byte_len, one.len, same, both);
     }
 
+-- capacity is reserved, and then bits are appended
+pub AddsBits-reserved : (xs : List Bool) (a b c : OpenSet) → b ≡ record a { room = b.room }
+    → AddsBits xs b c → AddsBits xs a c
+AddsBits-reserved xs a b c same adds =
+    let moved = subst (λ s. AddsBits xs s c) same adds in
+    record {
+      bits = moved.bits;
+      len = moved.len;
+      bytes = moved.bytes;
+      byte_len = moved.byte_len;
+    }
+
 -- ---- items of lists and of iterators
 -- the first items of a list, and the part after them
 pub take-longer : (l : List Bool) (k e : ℕ)

@@ -1,3 +1,4 @@
+pub mod Appender
 pub mod Lends
 pub mod OpenSet
 pub use Rattle.vb_bit_buffer.specs.Gives

@@ -6,9 +6,11 @@
 //! indices are in bits; an offset plus a length always fits in `usize`.
 #![tactic(auto)]
 
+mod bit_appender;
 mod bit_buffer_mut;
 mod try_into_mut;
 
+pub use bit_appender::BitAppender;
 pub use bit_buffer_mut::BitBufferMut;
 pub use try_into_mut::TryIntoMut;
 pub use vb_bit_buffer::{BitBuffer, ToBitBuffer};

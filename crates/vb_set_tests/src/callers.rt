@@ -1,9 +1,10 @@
 //! Callers of loans and of appends. What a test asserts runs; that a caller can follow what is
 //! written through a view, and what is added within the room, is proved here.
-ghost use Rattle.std.specs.Prelude.{◌≡◌, ◌+◌, ◌<◌, ◌≤◌, length, slice_set, true, false, IsOk};
+ghost use Rattle.std.specs.Prelude.{◌≡◌, ℕ, ◌+◌, ◌<◌, ◌≤◌, [], ◌∷◌, length, slice_set, take};
+ghost use Rattle.std.specs.Prelude.{true, false, IsOk, OnOk, OnErr};
 ghost use Rattle.vb_set.specs.Bits.{bits, count};
 ghost use Rattle.vb_set.specs.Edits.{with_fill};
-ghost use Rattle.vb_set.specs.OpenSet.{KeepsLayout};
+ghost use Rattle.vb_set.specs.OpenSet.{AddsBits, KeepsLayout};
 
 use std::alloc::Allocator;
 use vb_set::{BitBuffer, BitBufferMut, BitBufferMutView, Result};
@@ -48,4 +49,35 @@ pub(crate) fn append_within_room<A: Allocator + Clone>(
     ensures stays { set.new.room ≡ set.old.room }
 {
     set.append_buffer(block)
+}
+
+/// Adds two bits by an appender. If the second fails, the set has the first.
+pub(crate) fn append_two<A: Allocator + Clone>(
+    set: &mut BitBufferMut<A>,
+    first: bool,
+    second: bool,
+) -> Result<()>
+    ensures ok { OnOk result (AddsBits (first ∷ second ∷ []) set.old set.new) }
+    ensures in_room { length set.old.bits + 2 ≤ set.old.room → IsOk result }
+{
+    let mut appender = set.appender();
+    appender.append(first)?;
+    appender.append(second)?;
+    drop(appender);
+    Ok(())
+}
+
+/// Adds truth values by an appender. On error the set has the first of them.
+pub(crate) fn append_each<A: Allocator + Clone>(
+    set: &mut BitBufferMut<A>,
+    bools: &[bool],
+) -> Result<()>
+    ensures ok { OnOk result (AddsBits bools.now set.old set.new) }
+    ensures err { OnErr result ((n : ℕ) × AddsBits (take n bools.now) set.old set.new) }
+{
+    let mut appender = set.appender();
+    for bit in bools {
+        appender.append(*bit)?;
+    }
+    Ok(())
 }

@@ -10,6 +10,8 @@ pub mod alternate;
 #[cfg(test)]
 mod appended;
 #[cfg(test)]
+mod appender;
+#[cfg(test)]
 mod called;
 #[cfg(test)]
 mod callers;

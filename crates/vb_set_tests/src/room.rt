@@ -5,7 +5,7 @@ use crate::compared::equal;
 use crate::made::window;
 use std::alloc::{Allocator, Global};
 use std::process::Abort;
-use vb_set::{BitBuffer, BitBufferMut, Result};
+use vb_set::{BitBuffer, BitBufferMut, BitBufferView, Result};
 use vb_testing::{Handle, Refusing};
 
 /// A call that adds bits.
@@ -18,6 +18,7 @@ enum Call {
     Resize,
     Iterator,
     Trusted,
+    Appender,
 }
 
 const CALLS: &[Call] = &[
@@ -29,6 +30,7 @@ const CALLS: &[Call] = &[
     Call::Resize,
     Call::Iterator,
     Call::Trusted,
+    Call::Appender,
 ];
 
 impl Call {
@@ -49,8 +51,21 @@ impl Call {
             Call::Resize => set.resize(set.len().saturating_add(bits.len()), true),
             Call::Iterator => set.extend(bits.iter()),
             Call::Trusted => set.extend_trusted(bits.iter()),
+            Call::Appender => append_each(set, bits),
         }
     }
+}
+
+/// Adds the bits of a view one by one.
+fn append_each<A: Allocator + Clone>(
+    set: &mut BitBufferMut<A>,
+    bits: BitBufferView<'_>,
+) -> Result<()> {
+    let mut appender = set.appender();
+    for bit in bits.iter() {
+        appender.append(bit)?;
+    }
+    Ok(())
 }
 
 /// True values, of which a call may add as many as it adds bits.
@@ -159,7 +174,7 @@ fn bits_added_a_few_at_a_time_ask_seldom(rt: HostRuntime) {
             heap.refuse(0);
             grow(&rt, &heap, call, &added, *times);
             let wanted = match call {
-                Call::Iterator => *by_words,
+                Call::Iterator | Call::Appender => *by_words,
                 _ => *at_once,
             };
             equal(&rt, (heap.asked(), heap.asked_bytes()), wanted);

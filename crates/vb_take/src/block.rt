@@ -39,8 +39,9 @@ fn narrow<I: BitIndex>(index: I) -> u32
 /// `valid` is 0. Returns `Err(k)` for the first `k` whose bit of `valid` is 1 and whose index isn't
 /// below the length.
 ///
-/// If all indices are below the length, that takes one test, which also tests the positions that
-/// don't count. Else each index is lowered to the last bit first.
+/// If no position counts, it reads nothing. If all indices are below the length, that takes one
+/// test, which also tests the positions that don't count. Else each index is lowered to the last
+/// bit first.
 #[inline(always)]
 pub(crate) fn take_block(
     bits: BitBufferView<'_>,
@@ -51,6 +52,9 @@ pub(crate) fn take_block(
     requires few { length (bits_of bits) + 8 < 2 ^ 32 }
     ensures { TakesBlock (bits_of bits.entry) block.now valid result }
 {
+    if valid == 0 {
+        return Ok(0);
+    }
     let len = bits.len() as u32;
     let past = valid & !within_word(block, len);
     if past != 0 {

@@ -10,7 +10,7 @@ use Rattle.vb_bits.specs.Bits.{bit_of, bits, places}
 use Rattle.vb_bits.specs.Digits.{has_bit}
 use Rattle.vb_bits.proofs.WindowLemmas.{digits-clear}
 use Rattle.vb_walk.specs.declared.cursor.Cursor.{Cursor}
-use Rattle.vb_walk.specs.declared.other.OtherWord.{OtherWord}
+use Rattle.vb_walk.specs.declared.other_word.OtherWord.{OtherWord}
 use Rattle.vb_walk.specs.Walks.{bits_ahead, stop, at_word, pending_bit, places_in, places_left}
 use Rattle.vb_walk.specs.Walks.{AreAll}
 use Rattle.vb_walk.specs.Walks.{IsOther, IsAtRest, IsCursor, IsRefilled, IsSkipped}

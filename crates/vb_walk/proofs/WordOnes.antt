@@ -27,7 +27,7 @@ ones_none n =
     places_in_empty (has_bit 0) 0 n (λ i lo hi. ap (λ x. eqb x 1) (bit_at-zero i))
 
 module _ (n w : ℕ) (some : 0 < w) (clear : w < 2 ^ n) (few : n ≤ 64) where
-  word_fits : w < 2 ^ 64
+  pub word_fits : w < 2 ^ 64
   word_fits = let more : 2 ^ n ≤ 2 ^ 64 = pow_mono few in omega arith
 
   -- the lowest one, and those of the word without it

@@ -8,7 +8,7 @@ use Rattle.vb_bits.specs.Bits.{bit_of}
 use Rattle.vb_bits.specs.Digits.{has_bit}
 use Rattle.vb_walk.specs.declared.cursor.Cursor.{Cursor}
 use Rattle.vb_bits.specs.Runs.{runs, shift_run}
-use Rattle.vb_walk.specs.declared.other.OtherWord.{OtherWord}
+use Rattle.vb_walk.specs.declared.other_word.OtherWord.{OtherWord}
 use Rattle.vb_walk.specs.declared.slices.TakenRun.{TakenRun}
 
 -- ---- words with a digit that isn't v

@@ -15,7 +15,7 @@ ghost use Rattle.vb_walk.specs.Walks.{
   IsSkipped,
 };
 
-use crate::other::{OtherWord, first_other};
+use crate::other_word::{OtherWord, first_other};
 use vb_bits::read_bits;
 
 /// The current word of the window of bits from bit `offset` on, and the bits after it.

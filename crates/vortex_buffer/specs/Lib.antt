@@ -52,6 +52,7 @@ pub use Rattle.vb_pack.specs.WordBits
 pub use Rattle.vb_rank.specs.Tables
 pub use Rattle.vb_ranked.specs.Counted
 pub use Rattle.vb_ranked.specs.Many
+pub use Rattle.vb_set.specs.Appender
 pub use Rattle.vb_set.specs.Lends
 pub use Rattle.vb_set.specs.OpenSet
 pub use Rattle.vb_take.specs.ItemsTaken

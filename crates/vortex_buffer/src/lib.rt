@@ -135,6 +135,7 @@ pub use vb_rank::select_unset_by;
 pub use vb_rank::table_of;
 pub use vb_ranked::Ranked;
 pub use vb_ranked::RankedBuffer;
+pub use vb_set::BitAppender;
 pub use vb_set::BitBuffer;
 pub use vb_set::BitBufferMut;
 pub use vb_set::ToBitBuffer;

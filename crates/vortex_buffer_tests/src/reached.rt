@@ -2,6 +2,7 @@
 //! missing.
 pub use vortex_buffer::AlignedBuf;
 pub use vortex_buffer::Alignment;
+pub use vortex_buffer::BitAppender;
 pub use vortex_buffer::BitBuffer;
 pub use vortex_buffer::BitBufferMeta;
 pub use vortex_buffer::BitBufferMut;

@@ -82,9 +82,9 @@ const ROWS: &[Row] = &[
     ("masked_max", 65, |n| _ = values::masked_max(&vec![1isize; n], left(n))),
     ("masked_max without a mask", NEVER, |n| _ = values::masked_max(&vec![1; n], None::<Bits>)),
     ("masked_min of wide numbers", NEVER, |n| _ = values::masked_min(&vec![1u128; n], left(n))),
-    ("masked_float_sum", NEVER, |n| _ = values::masked_float_sum(&vec![1.0; n], left(n))),
-    ("masked_float_min", NEVER, |n| _ = values::masked_float_min(&vec![1.0; n], left(n))),
-    ("masked_float_max", NEVER, |n| _ = values::masked_float_max(&vec![1.0; n], left(n))),
+    ("masked_float_sum", 65, |n| _ = values::masked_float_sum(&vec![1.0; n], left(n))),
+    ("masked_float_min", 65, |n| _ = values::masked_float_min(&vec![1.0; n], left(n))),
+    ("masked_float_max", 65, |n| _ = values::masked_float_max(&vec![1.0; n], left(n))),
     ("group_counts", 17, |n| values::group_counts(&mut [0], &indices(n), left(n))),
     ("group_sums", 17, |n| values::group_sums(&mut [0], &indices(n), &vec![1i8; n], left(n))),
     ("group_counts of wide codes", NEVER, |n| {
@@ -100,6 +100,7 @@ const ROWS: &[Row] = &[
         let bytes = vec![1u8; 2 * n + 1];
         _ = values::filter(bytes[1..].as_chunks::<2>().0, left(n));
     }),
+    ("retain of values", 65, |n| _ = values::retain(&mut [1u8; MOST][..n], left(n))),
     ("scatter of values", 65, |n| _ = left(n).scatter_into(&[1u8; MOST], &mut [2; MOST][..n])),
     ("take of values", 17, |n| _ = values::take(&vec![1i64; n], &indices(n))),
     ("take of wide values", NEVER, |n| _ = values::take(&vec![[1u64; 3]; n], &indices(n))),

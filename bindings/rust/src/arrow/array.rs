@@ -127,7 +127,9 @@ impl Array {
     }
 
     /// Returns which rows are valid. A valid row may still belong to a null row of a struct:
-    /// combine both validities with `and` to learn which rows are present.
+    /// combine both validities with `and` to learn which rows are present. If the column has a
+    /// dictionary, a valid row may name a null item:
+    /// [`dictionary_validity`](Array::dictionary_validity) returns which rows name valid ones.
     ///
     /// If the array says that it has no null (`null_count` is 0), its validity bits are ignored, as
     /// Arrow allows, and [`Export::from`](super::Export) exports both unchanged. If a producer's 0
@@ -163,7 +165,8 @@ impl Array {
     }
 
     /// Returns the number of null rows. It is the array's own number if that is 0 or these are all
-    /// of its rows; otherwise this counts the bits.
+    /// of its rows; otherwise this counts the bits. Rows that name a null item of a dictionary are
+    /// not counted.
     ///
     /// # Errors
     ///

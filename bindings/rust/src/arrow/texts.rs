@@ -1,6 +1,7 @@
 //! The bytes of texts and binary values, row by row.
 
 mod predicates;
+mod wanted;
 
 use alloc::vec::Vec;
 use core::fmt;

@@ -1,6 +1,7 @@
 //! Sums, minimum and maximum of values. Without a mask they are plain loops.
 
 use crate::aggregate::{Summand, WideSummand};
+use crate::float::Float;
 use crate::{Bits, portable};
 
 #[cfg(vortex_bits_native)]
@@ -63,6 +64,36 @@ pub fn masked_min<T: Summand>(values: &[T], mask: Option<Bits<'_>>) -> Option<T>
 pub fn masked_max<T: Summand>(values: &[T], mask: Option<Bits<'_>>) -> Option<T> {
     aggregate!(values, mask, T::masked_max, Option<T::Laid>, of_laid);
     portable::masked_max(values, mask)
+}
+
+#[inline]
+pub fn masked_float_sum<T: Float>(values: &[T], mask: Option<Bits<'_>>) -> T {
+    aggregate!(values, mask, |it| Some(T::masked_sum(it)), T, |sum| sum);
+    portable::masked_float_sum(values, mask)
+}
+
+#[inline]
+pub fn masked_float_min<T: Float>(values: &[T], mask: Option<Bits<'_>>) -> Option<T> {
+    aggregate!(
+        values,
+        mask,
+        |it| Some(T::masked_min(it)),
+        Option<T>,
+        |least| least
+    );
+    portable::masked_float_min(values, mask)
+}
+
+#[inline]
+pub fn masked_float_max<T: Float>(values: &[T], mask: Option<Bits<'_>>) -> Option<T> {
+    aggregate!(
+        values,
+        mask,
+        |it| Some(T::masked_max(it)),
+        Option<T>,
+        |greatest| greatest
+    );
+    portable::masked_float_max(values, mask)
 }
 
 #[cfg(vortex_bits_native)]

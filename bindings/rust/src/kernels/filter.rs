@@ -1,4 +1,4 @@
-//! Selects bits and values by a mask, and scatters values by one.
+//! Selects bits and values by a mask, also in place, and scatters values by one.
 
 use crate::written::Written;
 use crate::{Bits, Value, portable};
@@ -48,6 +48,31 @@ pub fn keep<T: Value>(out: &mut [T], values: &[T], mask: Bits<'_>) -> usize {
         };
     }
     portable::keep(out, values, mask)
+}
+
+/// There is one value per bit of the mask. Returns the number of selected values, which are then in
+/// front.
+#[inline]
+pub fn retain<T: Value>(values: &mut [T], mask: Bits<'_>) -> usize {
+    debug_assert_eq!(values.len(), mask.len());
+    #[cfg(vortex_bits_native)]
+    if let (Some(kernels), Some(laid)) = (kernels().filter(|_| !is_word(mask)), Laid::of::<T>()) {
+        macro_rules! by {
+            ($name:ident) => {
+                native!(@call kernels.$name, [] cast_mut values, start mask)
+            };
+        }
+        return match laid {
+            // Written by tools/write-lists from tools/families/retain.txt.
+            Laid::One => by!(retain_values_u8),
+            Laid::Two => by!(retain_values_u16),
+            Laid::Four => by!(retain_values_u32),
+            Laid::Eight => by!(retain_values_u64),
+            Laid::Sixteen => by!(retain_values_u128),
+            // To here.
+        };
+    }
+    portable::retain(values, mask)
 }
 
 /// There is one item per bit of the mask, and one value per set bit.

@@ -13,7 +13,7 @@ use crate::value::Laid;
 const FEW: usize = 16;
 
 /// Counts the selected rows of each group. A mask has one bit per code. Returns the first selected
-/// row whose code has no count, before anything is written; None if there is none.
+/// row whose code has no count, with the counts unchanged; None if there is none.
 #[inline]
 pub fn group_counts<I: BitIndex>(
     counts: &mut [u64],

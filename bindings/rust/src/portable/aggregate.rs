@@ -30,15 +30,50 @@ pub fn masked_float_sum<T: Float>(values: &[T], mask: Option<Bits<'_>>) -> T {
 }
 
 pub fn masked_float_min<T: Float>(values: &[T], mask: Option<Bits<'_>>) -> Option<T> {
-    let least = |key: T::Key, value: T| key.min(value.key(T::ABOVE));
-    let key = fold(values, mask, T::ABOVE, least);
+    let key = first_key(
+        values,
+        mask,
+        |value| value.key(T::ABOVE),
+        T::ABOVE,
+        Ord::min,
+    );
     (key != T::ABOVE).then(|| T::of_key(key))
 }
 
 pub fn masked_float_max<T: Float>(values: &[T], mask: Option<Bits<'_>>) -> Option<T> {
-    let greatest = |key: T::Key, value: T| key.max(value.key(T::BELOW));
-    let key = fold(values, mask, T::BELOW, greatest);
+    let key = first_key(
+        values,
+        mask,
+        |value| value.key(T::BELOW),
+        T::BELOW,
+        Ord::max,
+    );
     (key != T::BELOW).then(|| T::of_key(key))
+}
+
+/// Returns the first key of the selected values, or `nan` if it comes before them. `first` returns
+/// the first one of two keys.
+#[inline]
+fn first_key<T: Copy, K: Copy>(
+    values: &[T],
+    mask: Option<Bits<'_>>,
+    key: impl Fn(T) -> K + Copy,
+    nan: K,
+    first: impl Fn(K, K) -> K + Copy,
+) -> K {
+    let step = |best, value| first(best, key(value));
+    if mask.is_some() {
+        return fold(values, mask, nan, step);
+    }
+    // One after the other, each value would wait for the result of the last one.
+    let blocks = values.chunks_exact(8);
+    let rest = all(blocks.remainder(), nan, step);
+    let lanes = blocks.fold([nan; 8], |mut lanes, block| {
+        let lanes_and_values = lanes.iter_mut().zip(block);
+        lanes_and_values.for_each(|(lane, &value)| *lane = step(*lane, value));
+        lanes
+    });
+    lanes.into_iter().fold(rest, first)
 }
 
 /// Returns the first value, after `add` has added the others to it.

@@ -1,4 +1,5 @@
-//! Filters bits and values by a mask, and scatters them to the indices of a mask's set bits.
+//! Filters bits and values by a mask, values also in place, and scatters them to the indices of a
+//! mask's set bits.
 
 use super::word::{only_word, words};
 use crate::Bits;
@@ -74,12 +75,36 @@ fn write_kept<T: Copy>(out: &mut [T], values: &[T], mask: u64) -> usize {
     at
 }
 
+/// Moves the values that `mask` selects to the front, and returns their number. The values from
+/// that index on are unchanged. There is one value per bit of `mask`.
+#[inline]
+pub fn retain<T: Copy>(values: &mut [T], mask: Bits<'_>) -> usize {
+    let mut at = 0;
+    for (i, mask) in words(mask).enumerate() {
+        if mask == u64::MAX {
+            values.copy_within(64 * i..64 * i + 64, at);
+            at += 64;
+            continue;
+        }
+        let mut left = mask;
+        while left != 0 {
+            values[at] = values[64 * i + left.trailing_zeros() as usize];
+            at += 1;
+            left &= left - 1;
+        }
+    }
+    at
+}
+
 /// Returns the bits of `word` at the set bits of `mask`, moved together at the low end (`pext`).
 ///
 /// Round k moves the bits whose number of gaps below them has bit k set (Hacker's Delight, 7-4).
 fn compress(word: u64, mask: u64) -> u64 {
     if mask == u64::MAX || mask == 0 {
         return word & mask;
+    }
+    if mask.count_ones() <= FEW {
+        return one_by_one(word, mask);
     }
     let (mut word, mut mask, mut gaps) = (word & mask, mask, !mask << 1);
     for step in [1, 2, 4, 8, 16, 32] {
@@ -93,6 +118,20 @@ fn compress(word: u64, mask: u64) -> u64 {
         gaps &= !odd;
     }
     word
+}
+
+/// The most set bits of a mask for which a step for each is faster than the rounds.
+const FEW: u32 = 16;
+
+/// Returns the same as [`compress`] does, by a step for each set bit of the mask.
+fn one_by_one(word: u64, mask: u64) -> u64 {
+    let (mut kept, mut left, mut at) = (0, mask, 0);
+    while left != 0 {
+        kept |= (word >> left.trailing_zeros() & 1) << at;
+        at += 1;
+        left &= left - 1;
+    }
+    kept
 }
 
 /// Writes the bits of `source` to the indices of the set bits of `mask`, and false elsewhere.

@@ -5,17 +5,15 @@ use crate::group::GroupSummand;
 use crate::{BitIndex, Bits};
 
 /// Counts the selected rows of each group. A mask has one bit per code. Returns the first selected
-/// row whose code has no count, before anything is written; None if there is none.
+/// row whose code has no count, with the counts unchanged; None if there is none.
 pub fn group_counts<I: BitIndex>(
     counts: &mut [u64],
     codes: &[I],
     mask: Option<Bits<'_>>,
 ) -> Option<usize> {
-    let past = first_past(codes, mask, counts.len());
-    if past.is_none() {
-        add(counts, codes, codes, mask, |count, _| count.wrapping_add(1));
-    }
-    past
+    let plus = |count: u64, _| count.wrapping_add(1);
+    let minus = |count: u64, _| count.wrapping_sub(1);
+    add_or_undo(counts, (codes, codes), mask, plus, minus)
 }
 
 /// Adds the selected values to the sums of their groups. There is one value per code. Returns the
@@ -26,11 +24,59 @@ pub fn group_sums<V: GroupSummand, I: BitIndex>(
     values: &[V],
     mask: Option<Bits<'_>>,
 ) -> Option<usize> {
+    if let Some(minus) = V::MINUS {
+        return add_or_undo(sums, (codes, values), mask, V::plus, minus);
+    }
     let past = first_past(codes, mask, sums.len());
     if past.is_none() {
-        add(sums, codes, values, mask, V::plus);
+        add(sums, (codes, values), mask, V::plus);
     }
     past
+}
+
+/// Adds as [`add`] does. If a code has no total, `minus` then takes away what the rows before it
+/// have added.
+#[inline]
+fn add_or_undo<I: BitIndex, V: Copy, S: Copy>(
+    totals: &mut [S],
+    (codes, values): (&[I], &[V]),
+    mask: Option<Bits<'_>>,
+    plus: impl Fn(S, V) -> S,
+    minus: impl Fn(S, V) -> S,
+) -> Option<usize> {
+    let past = add(totals, (codes, values), mask, plus)?;
+    let mask = mask.map(|mask| mask.part(0, past));
+    add(totals, (&codes[..past], &values[..past]), mask, minus);
+    Some(past)
+}
+
+/// Adds each selected value to the total of its row's group, up to a code that has no total.
+/// Returns that row.
+#[inline]
+fn add<I: BitIndex, V: Copy, S: Copy>(
+    totals: &mut [S],
+    (codes, values): (&[I], &[V]),
+    mask: Option<Bits<'_>>,
+    plus: impl Fn(S, V) -> S,
+) -> Option<usize> {
+    let mut is_past = |code: I, value: V| {
+        let Some(total) = code.place().and_then(|place| totals.get_mut(place)) else {
+            return true;
+        };
+        *total = plus(*total, value);
+        false
+    };
+    let mut blocks = codes.chunks(64).zip(values.chunks(64)).enumerate();
+    blocks.find_map(|(i, (codes, values))| {
+        let selected = selected(mask, i, codes.len());
+        let past = if selected == low(codes.len()) {
+            let mut rows = codes.iter().zip(values);
+            rows.position(|(&code, &value)| is_past(code, value))
+        } else {
+            first_set(selected, |row| is_past(codes[row], values[row]))
+        };
+        past.map(|row| 64 * i + row)
+    })
 }
 
 /// Returns the first selected row whose code isn't below `groups`.
@@ -42,42 +88,23 @@ fn first_past<I: BitIndex>(codes: &[I], mask: Option<Bits<'_>>, groups: usize) -
         if !codes.iter().fold(false, |any, code| any | is_past(code)) {
             return None;
         }
-        let past = codes.iter().rev();
-        let past = past.fold(0, |word, code| word << 1 | u64::from(is_past(code)));
-        let past = past & selected(mask, i, codes.len());
-        (past != 0).then(|| 64 * i + past.trailing_zeros() as usize)
+        let past = first_set(selected(mask, i, codes.len()), |row| is_past(&codes[row]));
+        past.map(|row| 64 * i + row)
     })
 }
 
-/// Adds each selected value to the total of its row's group.
+/// Returns the first set bit of a word that passes the test.
 #[inline]
-fn add<I: BitIndex, V: Copy, S: Copy>(
-    totals: &mut [S],
-    codes: &[I],
-    values: &[V],
-    mask: Option<Bits<'_>>,
-    plus: impl Fn(S, V) -> S,
-) {
-    let mut add = |code: I, value: V| {
-        if let Some(total) = code.place().and_then(|place| totals.get_mut(place)) {
-            *total = plus(*total, value);
+fn first_set(word: u64, mut test: impl FnMut(usize) -> bool) -> Option<usize> {
+    let mut left = word;
+    while left != 0 {
+        let row = left.trailing_zeros() as usize;
+        if test(row) {
+            return Some(row);
         }
-    };
-    for (i, (codes, values)) in codes.chunks(64).zip(values.chunks(64)).enumerate() {
-        let mut left = selected(mask, i, codes.len());
-        if left == low(codes.len()) {
-            codes
-                .iter()
-                .zip(values)
-                .for_each(|(&code, &value)| add(code, value));
-            continue;
-        }
-        while left != 0 {
-            let row = left.trailing_zeros() as usize;
-            add(codes[row], values[row]);
-            left &= left - 1;
-        }
+        left &= left - 1;
     }
+    None
 }
 
 /// Returns the bits of the `len` rows from row `64 * i` on.

@@ -203,3 +203,78 @@ fn fields_have_dictionaries() {
     let wanted = indices.with_dictionary(Field::new("items", "l").unwrap());
     assert_eq!(rows.unwrap().field(), &wanted.unwrap());
 }
+
+/// Rows whose indices and items are null by chance, in parts that begin anywhere in a byte.
+#[test]
+fn a_row_is_valid_if_its_index_and_its_item_are() {
+    let null = |row: usize, of: usize| row * 7 % 11 % of == 0;
+    for (of_rows, of_items) in [(3, 2), (3, 12), (12, 2), (12, 12)] {
+        let valid = |len: usize, of: usize| -> Option<Bitmap> {
+            (of < 12).then(|| (0..len).map(|row| !null(row, of)).collect())
+        };
+        let items = Export::values(vec![0u16; 90], valid(90, of_items)).read_back();
+        let items = || Export::from(items.slice(5..88));
+        let is_item = |item: usize| of_items == 12 || !null(item + 5, of_items);
+        let is_index = |row: usize| of_rows == 12 || !null(row, of_rows);
+        let item = |row: usize| row * 31 % 83;
+        let index = |row| {
+            if is_index(row) {
+                i16::try_from(item(row)).unwrap()
+            } else {
+                -9
+            }
+        };
+        let rows = Export::values((0..300).map(index).collect::<Vec<_>>(), valid(300, of_rows));
+        let rows = rows.with_dictionary(items()).unwrap().read_back();
+        for part in [0..300, 0..0, 13..200, 64..129, 3..4] {
+            let column = rows.slice(part.clone());
+            let got = column.dictionary_validity().unwrap();
+            assert_eq!(got.is_none(), of_rows == 12 && of_items == 12);
+            let wanted: Bitmap = part
+                .map(|row| is_index(row) && is_item(item(row)))
+                .collect();
+            assert_eq!(
+                Validity::new(got.as_ref().map(Bitmap::bits), column.len()),
+                Validity::from(wanted.bits())
+            );
+            assert_eq!(column.dictionary_values::<u16>().unwrap().1, got);
+        }
+    }
+}
+
+#[test]
+fn an_item_with_a_dictionary_is_valid_if_its_own_item_is() {
+    let words = Export::texts_or_nulls([Some("a"), None]);
+    let items = Export::values(vec![1u8, 0, 1, 0], Some([true, true, true, false].into()));
+    let items = items.with_dictionary(words).unwrap();
+    let rows = Export::values(vec![0i32, 1, 2, 3, 1], None).with_dictionary(items);
+    let valid = rows.unwrap().read_back().dictionary_validity().unwrap();
+    assert_eq!(valid, Some([false, true, false, false, true].into()));
+}
+
+#[test]
+fn validities_of_a_dictionary_are_refused_as_its_values_are() {
+    let said = |array: &Array| array.dictionary_validity().unwrap_err().to_string();
+    let lost = "column \"d\": index 9 at position 1 names none of 3 values";
+    assert_eq!(said(&malformed(0b111)), lost);
+    assert_eq!(
+        malformed(0b001).dictionary_validity().unwrap(),
+        Some([true, false, false].into())
+    );
+    let plain = Export::values([1u8], None).named("p").read_back();
+    assert_eq!(
+        said(&plain),
+        "column \"p\": format \"C\" isn't that of a column with a dictionary"
+    );
+    let words = Export::texts(["a"], None);
+    let items = Export::values(vec![0u8, 1], None);
+    // SAFETY: this crate reads it alone, and tests the indices.
+    let items = unsafe { items.with_dictionary_unchecked(words).unwrap() };
+    let rows = Export::values([0u8], None)
+        .named("d")
+        .with_dictionary(items);
+    assert_eq!(
+        said(&rows.unwrap().into_array()),
+        "column \"d.dictionary\": index 1 at position 1 names none of 1 values"
+    );
+}

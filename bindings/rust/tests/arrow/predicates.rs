@@ -6,7 +6,7 @@ use vortex_bits::arrow::{Array, ArrowError, Export, StreamError, Texts};
 use vortex_bits::{Bits, values};
 
 use crate::made::{Maker, rounds};
-use crate::raw::{Count, import};
+use crate::raw::{self, Buffer, Count, import, import_as};
 
 /// Texts by chance, of each type, at some offset.
 fn some(maker: &mut Maker) -> Array {
@@ -75,6 +75,52 @@ fn rows_that_pass_are_those_of_plain_calls() {
         passed += equal.count_ones();
     }
     assert!(passed > 1000, "{passed}");
+}
+
+/// Bytes of few kinds, often with an end of eight zeros or a start that others have: what a search
+/// by the first bytes or by the length alone would take for each other.
+fn bytes(maker: &mut Maker) -> Vec<u8> {
+    let mut bytes = [&b""[..], b"https://", b"longer than sixteen "][maker.below(3)].to_vec();
+    for _ in 0..maker.one_of(&[0, 0, 1, 1, 2, 3, 7, 8, 9, 62]) {
+        bytes.push(maker.one_of(&[0, 0, b'a', 0xFF]));
+    }
+    bytes.resize(bytes.len() + maker.one_of(&[0, 0, 0, 1, 8]), 0);
+    bytes
+}
+
+/// Binary values of these bytes.
+fn binary(rows: &[Vec<u8>], valid: &Bitmap) -> Array {
+    let (mut end, mut ends) = (0i32, vec![0; 4]);
+    for row in rows {
+        end += i32::try_from(row.len()).unwrap();
+        ends.extend_from_slice(&end.to_ne_bytes());
+    }
+    let valid = valid.bits().bytes();
+    let buffers = [valid, &ends, &rows.concat()].map(|it| Some(Buffer::new(it, 0)));
+    let len = i64::try_from(rows.len()).unwrap();
+    let array = raw::Array::new(len, buffers.into(), &Count::default());
+    import_as(array, "z").unwrap()
+}
+
+#[test]
+fn rows_in_a_set_are_those_of_a_loop_over_it() {
+    let mut maker = Maker::new(23, false);
+    let (mut passed, mut all) = (0, 0);
+    for _ in 0..rounds(300) {
+        let rows: Vec<Vec<u8>> = (0..maker.below(90)).map(|_| bytes(&mut maker)).collect();
+        let mut set: Vec<Vec<u8>> = (0..maker.below(20)).map(|_| bytes(&mut maker)).collect();
+        if let Some(row) = rows.first() {
+            set.extend([row.clone(), row.clone()]);
+        }
+        let valid: Bitmap = rows.iter().map(|_| maker.below(8) > 0).collect();
+        let wanted = rows.iter().map(|row| set.iter().any(|it| it == row));
+        let wanted = wanted.collect::<Bitmap>() & &valid;
+        let found = binary(&rows, &valid).texts().unwrap().is_in(&set);
+        assert_eq!(found, wanted, "{rows:?} {set:?}");
+        passed += wanted.count_ones();
+        all += wanted.len();
+    }
+    assert!(passed > all / 20 && passed < all / 2, "{passed} of {all}");
 }
 
 #[test]

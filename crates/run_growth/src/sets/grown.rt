@@ -61,6 +61,7 @@ fn repeated(alloc: Global, bytes: &[u8], row: &str, case: Case) -> Result<usize>
 fn grow(set: &mut BitBufferMut, bits: BitBufferView<'_>, row: &str) -> Result<()> {
     match row {
         "append" => by_bits(set, bits.len()),
+        "appender" => by_appender(set, bits.len()),
         "append_n" => by_runs(set, bits.len()),
         "append_view" => by_views(set, bits),
         "append_whole_view" => Ok(set.append_view(bits)?),
@@ -74,6 +75,14 @@ fn grow(set: &mut BitBufferMut, bits: BitBufferView<'_>, row: &str) -> Result<()
 fn by_bits(set: &mut BitBufferMut, len: usize) -> Result<()> {
     for i in 0..len {
         set.append(i % 3 == 0)?;
+    }
+    Ok(())
+}
+
+fn by_appender(set: &mut BitBufferMut, len: usize) -> Result<()> {
+    let mut appender = set.appender();
+    for i in 0..len {
+        appender.append(i % 3 == 0)?;
     }
     Ok(())
 }

@@ -77,6 +77,7 @@ fn shorten(set: &mut BitBufferMut, row: &str) {
 fn add(set: &mut BitBufferMut, few: BitBufferView<'_>, row: &str) -> Result<()> {
     match row {
         "append" => set.append(few.len() % 2 == 0)?,
+        "appender" => append_one(set, few.len() % 2 == 0)?,
         "append_n" => set.append_n(true, 100)?,
         "append_view" => set.append_view(few)?,
         "append_bits" => set.append_bits(few.inner(), few.offset(), few.len())?,
@@ -87,5 +88,12 @@ fn add(set: &mut BitBufferMut, few: BitBufferView<'_>, row: &str) -> Result<()> 
         "resize" => set.resize(set.len().saturating_add(100), true)?,
         _ => bail!("no row of this name"),
     }
+    Ok(())
+}
+
+/// Adds a bit by an appender of its own.
+fn append_one(set: &mut BitBufferMut, v: bool) -> Result<()> {
+    let mut appender = set.appender();
+    appender.append(v)?;
     Ok(())
 }

@@ -47,6 +47,15 @@ fn sets_are_edited(rt: &impl Abort, alloc: Global) -> Result<()> {
     assert_eq!(rt; rows.value(1), true);
     drop(rows);
 
+    let mut rows = BitBufferMut::new_set(alloc, 2)?;
+    let mut appender = rows.appender();
+    for i in 0..100 {
+        appender.append(i % 3 == 0)?;
+    }
+    drop(appender);
+    assert_eq!(rt; (rows.len(), rows.as_view().true_count()), (102, 36));
+    drop(rows);
+
     let rows = BitBufferMut::new_set(alloc, 4)?;
     let shared = rows.freeze()?;
     assert_eq!(rt; shared.true_count(), 4);

@@ -4,10 +4,13 @@ ghost use Rattle.std.specs.Prelude.{◌↔◌, length, max, replicate, take, tru
 ghost use Rattle.std.specs.Int.{div_ceil};
 ghost use Rattle.vb_bits.specs.Bits.{bits};
 ghost use Rattle.vb_bits.specs.InBytes.{InBytes};
+ghost use Rattle.vb_set.specs.Appender.{target_of, HasAdded};
 ghost use Rattle.vb_set.specs.OpenSet.{AddsBits, KeepsStart, NeedsBits};
+ghost use Rattle.vb_view.specs.MutView.{IsSameReference};
 ghost use Rattle.vb_view.specs.View.{bits_of};
 
 use super::BitBufferMut;
+use crate::bit_appender::BitAppender;
 use std::alloc::Allocator;
 use vb_bit_buffer::BitBuffer;
 use vb_bit_bytes::{
@@ -129,6 +132,27 @@ impl<A: Allocator + Clone> BitBufferMut<A> {
         let end = self.offset + self.len;
         push_bit_unchecked(&mut self.buffer, end, v);
         self.len += 1;
+    }
+
+    /// Returns an appender, which borrows the set, appends single bits, and writes them by words.
+    /// Takes constant time and does not allocate. When the appender is dropped, the set has all
+    /// bits that were appended, also where a later one failed.
+    ///
+    /// ```rust
+    /// let mut rows = BitBufferMut::new_set(alloc, 2)?;
+    /// let mut appender = rows.appender();
+    /// for i in 0..100 {
+    ///     appender.append(i % 3 == 0)?;
+    /// }
+    /// drop(appender);
+    /// assert_eq!(rt; (rows.len(), rows.as_view().true_count()), (102, 36));
+    /// ```
+    #[inline(always)]
+    pub fn appender(&mut self) -> BitAppender<'_, A>
+        ensures lends { IsSameReference (target_of result) self.entry }
+        ensures none { HasAdded self.old [] result }
+    {
+        BitAppender::new(self)
     }
 
     /// Appends a true bit: [`append`](Self::append) with `true`.

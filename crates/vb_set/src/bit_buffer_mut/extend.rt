@@ -1,6 +1,6 @@
 //! Truth values of slices and iterators appended at the end.
-ghost use Rattle.std.specs.Prelude.{◌≡◌, ◌⊎◌, ⊤, ℕ, ◌+◌, ◌*◌, ◌^◌, ◌<◌, ◌≤◌, Bool, List};
-ghost use Rattle.std.specs.Prelude.{length, take, IsOk, OnOk, OnErr, MatchResult};
+ghost use Rattle.std.specs.Prelude.{◌≡◌, ◌⊎◌, ⊤, ℕ, ◌+◌, ◌-◌, ◌*◌, ◌%◌, ◌^◌, ◌<◌, ◌≤◌, Bool, List};
+ghost use Rattle.std.specs.Prelude.{◌↔◌, length, min, take, IsOk, IsTrue, OnOk, OnErr, MatchResult};
 ghost use Rattle.std.specs.Iterator.{Drains, ExtendsWithItems, HoldsAlong, IsFiniteIterable};
 ghost use Rattle.vb_bit_bytes.specs.Given.{GivesPastBehind};
 ghost use Rattle.vb_bits.specs.Digits.{digits};
@@ -8,7 +8,7 @@ ghost use Rattle.vb_set.specs.OpenSet.{AddsBits, KeepsStart, NeedsBits};
 
 use super::BitBufferMut;
 use std::alloc::Allocator;
-use vb_bit_bytes::next_word;
+use vb_bit_bytes::{next_word, push_word_unchecked};
 use vb_core::{BufferError, Result, TrustedLen};
 use vb_pack::pack_bools;
 
@@ -114,7 +114,7 @@ impl<A: Allocator + Clone> BitBufferMut<A> {
 
     /// Appends the `count` lowest digits of a word. On error it appends as many as there is
     /// capacity for.
-    fn append_word(&mut self, word: u64, count: usize) -> Result<()>
+    pub(crate) fn append_word(&mut self, word: u64, count: usize) -> Result<()>
         requires in_word { count ≤ 64 }
         ensures ok { OnOk result (AddsBits (digits word 0 count) self.old self.new) }
         ensures err { OnErr result ((n : ℕ)
@@ -127,11 +127,67 @@ impl<A: Allocator + Clone> BitBufferMut<A> {
             ⊎ ((e ≡ BufferError.TooManyBits)
             × (2 ^ 64 ≤ self.old.offset + length self.old.bits + count))) }
     {
+        if count == 64 && self.ends_with_bytes() && self.capacity() - self.len >= 64 {
+            self.append_whole_word(word);
+            return Ok(());
+        }
         let bytes = word.to_le_bytes();
         let answer = self.append_bits(&bytes, 0, count);
         if answer.is_err() {
             self.append_bits(&bytes, 0, self.capacity() - self.len())?;
         }
         answer
+    }
+
+    /// Appends the `count` lowest digits of a word, as whole bytes where the bits end with the
+    /// bytes. The caller must prove that there is capacity for them. Does not allocate, and the
+    /// capacity does not change.
+    pub(crate) fn append_word_unchecked(&mut self, word: u64, count: usize)
+        requires in_word { count ≤ 64 }
+        requires room { length self.old.bits + count ≤ self.old.room }
+        ensures adds { AddsBits (digits word 0 count) self.old self.new }
+        ensures grows { KeepsStart self.old self.new }
+        ensures stays { self.new.room ≡ self.old.room }
+    {
+        if count == 64 && self.ends_with_bytes() {
+            return self.append_whole_word(word);
+        }
+        match self.append_bits(&word.to_le_bytes(), 0, count) {
+            Ok(()) => (),
+            Err(_) => unreachable!(),
+        }
+    }
+
+    /// Returns whether the last bit is the last one of the bytes.
+    fn ends_with_bytes(&self) -> bool
+        ensures { IsTrue result
+            ↔ (self.now.offset + length self.now.bits ≡ 8 * length self.now.bytes) }
+    {
+        let end = self.offset + self.len;
+        end % 8 == 0 && end / 8 == self.buffer.len()
+    }
+
+    /// Appends the 64 digits of a word as eight bytes. The bits must end with the bytes, and there
+    /// must be capacity for them.
+    fn append_whole_word(&mut self, word: u64)
+        requires whole { self.old.offset + length self.old.bits ≡ 8 * length self.old.bytes }
+        requires room { length self.old.bits + 64 ≤ self.old.room }
+        ensures adds { AddsBits (digits word 0 64) self.old self.new }
+        ensures grows { KeepsStart self.old self.new }
+        ensures stays { self.new.room ≡ self.old.room }
+    {
+        push_word_unchecked(&mut self.buffer, word);
+        self.len += 64;
+    }
+
+    /// Returns how many bits can be appended without an allocation, and up to a multiple of 64 bits
+    /// from the start of the bytes.
+    pub(crate) fn room_in_word(&self) -> usize
+        ensures room { result ≡ min (64 - (self.now.offset + length self.now.bits) % 64)
+            (self.now.room - length self.now.bits) }
+        ensures fits { self.now.offset + length self.now.bits + result < 2 ^ 64 }
+    {
+        let end = self.offset + self.len;
+        (64 - end % 64).min(self.capacity() - self.len)
     }
 }

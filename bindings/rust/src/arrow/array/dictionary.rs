@@ -7,7 +7,7 @@ use crate::arrow::error::ArrowError;
 use crate::arrow::export::Export;
 use crate::arrow::layout::{Kind, Layout};
 use crate::arrow::primitive::Primitive;
-use crate::{BitIndex, Bitmap, TakeValuesError, Value, values};
+use crate::{BitIndex, Bitmap, TakeError, TakeValuesError, Validity, Value, values};
 
 /// Values and their validity.
 type Column<T> = (Vec<T>, Option<Bitmap>);
@@ -65,6 +65,34 @@ impl Array {
     pub fn dictionary_values<T: Primitive + Value>(&self) -> Result<Column<T>, ArrowError> {
         let items = self.items_of_indices()?;
         by_index!(self.values_taken::<T, _>(&items))
+    }
+
+    /// Returns which rows of a column with a dictionary are valid: those whose index and item are.
+    /// It reads no values. [`validity`](Array::validity) covers the indices alone. If the items have
+    /// a dictionary too, an item is valid if it is a valid row of that. Returns `None` if there are
+    /// no validity bits: all rows are valid then.
+    ///
+    /// ```
+    /// use vortex_bits::Bitmap;
+    /// use vortex_bits::arrow::Export;
+    ///
+    /// let words = Export::texts_or_nulls([Some("no"), None, Some("yes")]);
+    /// let rows = Export::values(vec![2i8, 1, -7, 0], Some([true, true, false, true].into()));
+    /// let rows = rows.with_dictionary(words)?.into_array();
+    /// assert_eq!(Bitmap::from(rows.validity()?), Bitmap::from([true, true, false, true]));
+    /// assert_eq!(rows.dictionary_validity()?, Some([true, false, false, true].into()));
+    /// # Ok::<(), vortex_bits::arrow::ArrowError>(())
+    /// ```
+    ///
+    /// # Errors
+    ///
+    /// - Returns [`ArrowError::Type`] if the column has no dictionary, or the items have no validity
+    ///   bits by their type.
+    /// - Returns [`ArrowError::Unaligned`] if the buffer of the indices isn't aligned for them.
+    /// - Returns [`ArrowError::Take`] with the first valid index that names no item.
+    pub fn dictionary_validity(&self) -> Result<Option<Bitmap>, ArrowError> {
+        let items = self.items_of_indices()?;
+        by_index!(self.validity_taken::<_>(&items))
     }
 
     /// Decodes a column with a dictionary of texts: returns the text of each row in new memory, or
@@ -198,6 +226,29 @@ impl Array {
         Ok((taken, valid))
     }
 
+    fn validity_taken<I>(&self, items: &Array) -> Result<Option<Bitmap>, ArrowError>
+    where
+        I: Primitive + BitIndex,
+    {
+        let (indices, valid) = (self.values::<I>()?, self.validity()?);
+        let in_items = |error| self.in_items(error);
+        let own_items = match items.dictionary() {
+            Some(_) => items.dictionary_validity().map_err(in_items)?,
+            None => None,
+        };
+        let valid_items = match &own_items {
+            Some(valid) => Validity::from(valid.bits()),
+            None => items.validity().map_err(in_items)?,
+        };
+        let taken = valid_items.try_take_valid(indices, valid);
+        taken.map_err(|error| match error {
+            TakeError::Index {
+                position, index, ..
+            } => self.lost(position, index, items.len),
+            error => error.into(),
+        })
+    }
+
     fn texts_taken<I: Primitive + BitIndex>(&self, items: &Array) -> Result<Export, ArrowError> {
         let taken = Export::texts_taken_valid(items, self.values::<I>()?, self.validity()?);
         taken.map_err(|error| self.of_items(error))
@@ -207,10 +258,19 @@ impl Array {
     /// indices.
     #[cold]
     fn of_items(&self, error: ArrowError) -> ArrowError {
-        match (error, &self.node.field.name) {
-            (ArrowError::Take { error, .. }, _) => self.not_taken(error),
-            (error, name) if name.is_empty() => error.under("dictionary"),
-            (error, name) => error.under("dictionary").under(name),
+        match error {
+            ArrowError::Take { error, .. } => self.not_taken(error),
+            error => self.in_items(error),
+        }
+    }
+
+    /// Returns an error of the items, with the column's name before theirs.
+    #[cold]
+    fn in_items(&self, error: ArrowError) -> ArrowError {
+        let error = error.under("dictionary");
+        match self.node.field.name.as_str() {
+            "" => error,
+            name => error.under(name),
         }
     }
 }

@@ -26,9 +26,9 @@ impl Export {
     /// let indices = rows.values()?;
     /// let taken = values::take_valid::<f64, i8>(items.values()?, indices, valid);
     /// assert_eq!(taken, [12.0, 12.0, 0.0, 9.5]);
-    /// // The validity covers the items' nulls too, and `dictionary_values` returns both at once.
-    /// assert!(items.validity()?.take_valid(indices, valid) == valid.bits().map(Into::into));
-    /// assert_eq!(rows.dictionary_values::<f64>()?.0, taken);
+    /// // `dictionary_values` returns the same, and the rows' validity with the items' nulls.
+    /// let valid_rows = items.validity()?.take_valid(indices, valid);
+    /// assert_eq!(rows.dictionary_values::<f64>()?, (taken, valid_rows));
     ///
     /// let lost = Export::values(vec![1i8, 2], None).with_dictionary(prices()).unwrap_err();
     /// assert_eq!(lost.to_string(), "index 2 at position 1 names none of 2 values");

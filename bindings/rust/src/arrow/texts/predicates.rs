@@ -1,7 +1,6 @@
 //! Predicates over texts: bitmaps of the rows that pass.
 
-use alloc::vec::Vec;
-
+use super::wanted::Wanted;
 use super::{Rows, Texts, viewed};
 use crate::{Bitmap, portable};
 
@@ -102,7 +101,7 @@ impl Texts<'_> {
     }
 
     /// Returns a bitmap of the rows that are one of the texts, as `in ('a', 'c')`. It sorts the
-    /// texts once and then does a binary search for each row.
+    /// texts once and then does a binary search for each row that is as long as one of them.
     ///
     /// ```
     /// use vortex_bits::Bitmap;
@@ -114,9 +113,8 @@ impl Texts<'_> {
     /// ```
     #[must_use]
     pub fn is_in(&self, texts: impl IntoIterator<Item = impl AsRef<[u8]>>) -> Bitmap {
-        let mut texts: Vec<_> = texts.into_iter().collect();
-        texts.sort_unstable_by(|one, other| one.as_ref().cmp(other.as_ref()));
-        self.test(|row| texts.binary_search_by(|it| it.as_ref().cmp(row)).is_ok())
+        let wanted = Wanted::new(texts);
+        self.test(|row| wanted.has(row))
     }
 
     /// Returns a bitmap of the valid rows that pass the test. It may call the test for null rows

@@ -8,7 +8,7 @@ use Rattle.vb_compare.proofs.write.write_head.Goals as goal
 pub returns-then-n-ne0 : goal.returns-then-n-ne0
 returns-then-n-ne0 g c =
     let l : List Bool = g.S.Truths.truths c.args.source.now in
-    subst (Writes c.args.out.now c.write_in_byte.new.out c.args.offset)
+    subst (Writes c.args.out.now c.write_in_byte.new.bytes c.args.offset)
     (front_digits c.first_digits.result 0 c.args.n 8 l c.first_digits.ensures (omega arith))
     c.write_in_byte.ensures
 

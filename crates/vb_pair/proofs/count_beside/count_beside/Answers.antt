@@ -15,26 +15,28 @@ returns-clause-value g c =
     let bytes : ℕ = (len - head) / 8 in
     let done : ℕ = head + 8 * bytes in
     let k : ℕ = bytes / 64 in let w : ℕ = bytes % 64 / 8 in
+    let chunk_bits : ℕ = 8 * (64 * k) in let word_bits : ℕ = 8 * (8 * w) in
+    let byte_bits : ℕ = 8 * (1 * (bytes % 8)) in
     let at1 : ℕ = (l + head) / 8 in let from1 : ℕ = r + head in
     let at2 : ℕ = at1 + 64 * k in let from2 : ℕ = from1 + 512 * k in
     let at3 : ℕ = at2 + 8 * w in let from3 : ℕ = from2 + 64 * w in
     let l1 = c.count_part-first.ensures.looks.same in
     let r0 = c.next_byte.ensures.looks.same in
     let r1 = c.count_part-first.ensures.beside.same ∙ r0 in
-    let l2 = c.count_chunks-by_chunks.ensures.looks.same ∙ l1 in
-    let r2 = c.count_chunks-by_chunks.ensures.beside.same ∙ r1 in
-    let l3 = c.count_words-by_words.ensures.looks.same ∙ l2 in
-    let r3 = c.count_words-by_words.ensures.beside.same ∙ r2 in
-    let l4 = c.count_bytes-by_bytes.ensures.looks.same ∙ l3 in
-    let r4 = c.count_bytes-by_bytes.ensures.beside.same ∙ r3 in
+    let l2 = c.count_units-by_chunks.ensures.looks.same ∙ l1 in
+    let r2 = c.count_units-by_chunks.ensures.beside.same ∙ r1 in
+    let l3 = c.count_units-by_words.ensures.looks.same ∙ l2 in
+    let r3 = c.count_units-by_words.ensures.beside.same ∙ r2 in
+    let l4 = c.count_units-by_bytes.ensures.looks.same ∙ l3 in
+    let r4 = c.count_units-by_bytes.ensures.beside.same ∙ r3 in
     let first = c.count_part-first.ensures.value
     ∙ ap (λ x. merged_ones f a l x r head) r0 in
-    let by_chunks = c.count_chunks-by_chunks.ensures.value
-    ∙ merged_ones_same f a b _ _ (8 * at1) from1 (512 * k) l1 r1 in
-    let by_words = c.count_words-by_words.ensures.value
-    ∙ merged_ones_same f a b _ _ (8 * at2) from2 (64 * w) l2 r2 in
-    let by_bytes = c.count_bytes-by_bytes.ensures.value
-    ∙ merged_ones_same f a b _ _ (8 * at3) from3 (8 * (bytes % 8)) l3 r3 in
+    let by_chunks = c.count_units-by_chunks.ensures.value
+    ∙ merged_ones_same f a b _ _ (8 * at1) from1 chunk_bits l1 r1 in
+    let by_words = c.count_units-by_words.ensures.value
+    ∙ merged_ones_same f a b _ _ (8 * at2) from2 word_bits l2 r2 in
+    let by_bytes = c.count_units-by_bytes.ensures.value
+    ∙ merged_ones_same f a b _ _ (8 * at3) from3 byte_bits l3 r3 in
     let last = c.count_part-last.ensures.value
     ∙ merged_ones_same f a b _ _ (l + done) (r + done) (len - done) l4 r4 in
     omega (
@@ -44,12 +46,12 @@ returns-clause-value g c =
       by_words,
       by_bytes,
       last,
-      merged_ones_split f a b l r head (head + 512 * k) (8 * at1) from1 (512 * k)
+      merged_ones_split f a b l r head (head + 512 * k) (8 * at1) from1 chunk_bits
           (omega arith) (omega arith) (omega arith),
       merged_ones_split f a b l r (head + 512 * k) (head + 512 * k + 64 * w) (8 * at2) from2
-          (64 * w) (omega arith) (omega arith) (omega arith),
+          word_bits (omega arith) (omega arith) (omega arith),
       merged_ones_split f a b l r (head + 512 * k + 64 * w) done (8 * at3) from3
-          (8 * (bytes % 8)) (omega arith) (omega arith) (omega arith),
+          byte_bits (omega arith) (omega arith) (omega arith),
       merged_ones_split f a b l r done len (l + done) (r + done) (len - done)
           (omega arith) (omega arith) (omega arith),
     )

@@ -1,5 +1,4 @@
-use Rattle.std.proofs.Common.{◌+◌, ◌-◌, ◌*◌, ◌/◌, ◌%◌, ℕ, List, ap, arith, ◌≡◌}
-use Rattle.vb_pair.specs.Merged.{merged_ones}
+use Rattle.std.proofs.Common.{◌+◌, ◌-◌, ◌*◌, ◌/◌, ◌%◌, ℕ, List, arith}
 use Rattle.vb_pair.proofs.MergedLemmas.{merged_ones-le, merged_ones_split}
 use Rattle.vb_pair.proofs.count_merged.count_long.Goals as goal
 

@@ -1,4 +1,4 @@
-use Rattle.std.proofs.Common.{◌+◌, ◌*◌, ◌/◌, ◌%◌, ℕ, List, arith}
+use Rattle.std.proofs.Common.{◌+◌, ◌*◌, ◌/◌, ◌%◌, ℕ, arith}
 use Rattle.vb_pair.proofs.MergedLemmas.{merged_ones-le, merged_ones_none, merged_ones_split}
 use Rattle.vb_pair.proofs.count_merged.count_short.Goals as goal
 

@@ -1,4 +1,4 @@
-use Rattle.std.proofs.Common.{List, ℕ, ap, arith, ◌∙◌, ◌*◌, ◌+◌}
+use Rattle.std.proofs.Common.{List, ℕ, ap, arith, ◌∙◌, ◌*◌}
 use Rattle.vb_bits.specs.Bits.{bits, count}
 use Rattle.vb_bits.specs.Digits.{lane_bits}
 use Rattle.vb_bits.specs.Operators.{merged_by}

@@ -4,8 +4,7 @@ use Rattle.std.specs.Prelude.{IsTrue}
 use Rattle.vb_bits.specs.Bits.{bits, at}
 use Rattle.vb_bits.specs.Operators.{merged_by}
 use Rattle.vb_count.specs.Looks.{looks}
-use Rattle.vb_pair.specs.Beside.{part_looks, looks_beside}
-use Rattle.vb_pair.specs.Merged.{merged_ones}
+use Rattle.vb_pair.specs.Beside.{part_looks}
 use Rattle.vb_count.proofs.LooksLemmas.{looks_same, looks_some, looks_first, looks_on, looks_had}
 use Rattle.vb_count.proofs.LooksLemmas.{looks_most}
 use Rattle.vb_pair.proofs.BesideLemmas.{merged_ones_same, is_held_in}

@@ -5,8 +5,8 @@ use Rattle.vb_count.specs.Hits.{hits}
 use Rattle.vb_select.specs.Searches.{Searched}
 use Rattle.vb_select.proofs.SearchesLemmas.{Searched_inside}
 use Rattle.vb_count.proofs.HitsLemmas.{count_unit_more}
-use Rattle.vb_select.proofs.UnitsLemmas.{units_none, units_more, units_within, bits_of_unit}
-use Rattle.vb_select.proofs.UnitsLemmas.{found_in_unit}
+use Rattle.vb_count.proofs.UnitsLemmas.{units_none, units_more, units_within}
+use Rattle.vb_select.proofs.UnitsLemmas.{bits_of_unit, found_in_unit}
 use Rattle.vb_select.proofs.search.find_in_units.Given.{Over}
 use Rattle.vb_select.proofs.search.find_in_units.Goals as goal
 use Rattle.vb_select.proofs.search.find_in_units.Goals.{After-struct_known-then-left-here-1}

@@ -25,7 +25,7 @@ returns-else-is_err-clause-ok g c =
 pub returns-in_ok-append_bits-clause-err : goal.returns-in_ok-append_bits-clause-err
 returns-in_ok-append_bits-clause-err g c =
     let b : List ℕ = c.to_le_bytes-bytes.result in
-    let n : ℕ = c.capacity.result - c.len.result in
+    let n : ℕ = c.capacity-then-is_err.result - c.len.result in
     let word : bits b 0 c.args.count ≡ digits c.args.word 0 c.args.count =
     ap (λ x. bits x 0 c.args.count) c.to_le_bytes-bytes.ensures
     ∙ bits-to_le_bytes c.args.word 0 c.args.count (omega arith) in

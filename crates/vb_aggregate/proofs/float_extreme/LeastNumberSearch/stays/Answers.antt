@@ -1,0 +1,19 @@
+use Rattle.std.proofs.Common.{◌<◌, length, sym, ◌∙◌, arith}
+use Rattle.vb_aggregate.proofs.FloatsLemmas.{found_more, found_none}
+use Rattle.vb_aggregate.specs.Floats.{upwards}
+use Rattle.vb_aggregate.proofs.float_extreme.LeastNumberSearch.stays.Goals as goal
+
+pub loop-value-preserved : goal.loop-value-preserved
+loop-value-preserved g c =
+    let i = c.loop-value.value-index in
+    let x = c.value-item.result in
+    let inside : i < length c.args.values.now = omega arith in
+    found_more upwards g.T.FloatSummand.float c.args.values.now c.args.state i
+    c.loop-value.is_below x c.is_below-is_below.result inside
+    c.value-item.is c.is_below-is_below.ensures c.loop-value.invariant
+
+pub returns : goal.returns
+returns g c =
+    found_none upwards g.T.FloatSummand.float c.args.values.now c.args.state
+    c.loop-value.value-index c.loop-value.is_below (omega arith)
+    (sym c.is_nan.ensures ∙ c.if-is_nan.false) c.loop-value.invariant

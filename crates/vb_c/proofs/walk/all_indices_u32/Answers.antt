@@ -1,0 +1,25 @@
+use Rattle.std.proofs.Common.{length, ◌+◌, ◌<◌, ◌++◌, ◌∷◌, [], sym, ap, ◌∙◌, arith}
+use Rattle.std.proofs.lemmas.List.Elements.{All-rest}
+use Rattle.std.proofs.lemmas.List.{append_assoc, length-append, length-set}
+use Rattle.vb_bits.proofs.FillsLemmas.{set_next}
+use Rattle.vb_c.proofs.walk.all_indices_u32.Goals as goal
+
+pub loop-place-preserved : goal.loop-place-preserved
+loop-place-preserved c =
+    let inv = c.loop-place.invariant in
+    let n = c.loop-place.written in
+    let front = c.loop-place.yielded in
+    let len = length-set c.loop-place.out n c.in-Some.place ∙ inv.len in
+    record {
+      can_next = tt;
+      is_finite = tt;
+      below = All-rest (λ i. i < c.args.len) c.in-Some.place c.next.new.self _
+          c.in-Some.ensures.steps inv.below;
+      whole = append_assoc front (c.in-Some.place ∷ []) c.next.new.self
+          ∙ ap (λ l. front ++ l) (sym c.in-Some.ensures.steps) ∙ inv.whole;
+      count = omega (arith, inv.count, length-append front (c.in-Some.place ∷ []));
+      room = omega (arith, inv.room, ap length c.in-Some.ensures.steps);
+      len = len;
+      items = set_next front c.args.out.now c.loop-place.out c.in-Some.place n inv.count
+          (omega (arith, inv.room, ap length c.in-Some.ensures.steps)) inv.items;
+    }
