@@ -125,6 +125,9 @@ struct aggregate {
             "exact sums are of whole numbers of 8, 16, 32 or 64 bits");
         if constexpr (is_index<value>()) {
             return call_by<aggregated_by<sizeof(value), std::is_signed_v<value>>>(values, mask, call);
+        } else if constexpr (std::is_arithmetic_v<value>) {
+            // Of the right type, so that what a program does with it is no second error.
+            return of_whole(std::array<std::int64_t, 0>{}, mask, call);
         }
     }
 
@@ -140,9 +143,7 @@ struct aggregate {
         } else if constexpr (is_index<value>()) {
             return of_whole(values, mask, call);
         } else if constexpr (std::is_arithmetic_v<value>) {
-            // Of the right type, so that what a program does with it is no second error.
-            return call(aggregated_by<8, true>(), static_cast<const std::int64_t *>(nullptr),
-                values.size(), mask.bytes_, mask.size_, mask.offset_);
+            return of_whole(std::array<std::int64_t, 0>{}, mask, call);
         }
     }
 

@@ -139,7 +139,7 @@ void compare(const Values &values, vb_comparison op, Number number, bits_mut out
         const auto bound = detail::bound_of<as>(+number);
         const bool is_less = op == VB_LESS || op == VB_LESS_OR_EQUAL;
         if (!bound.is_number && (bound.is_none || op == VB_EQUAL || op == VB_NOT_EQUAL)) {
-            return out.fill(op == VB_NOT_EQUAL || (bound.is_none && is_less));
+            return out.fill(op == VB_NOT_EQUAL || is_less);
         }
         const std::uint8_t beside = is_less ? VB_LESS : VB_GREATER_OR_EQUAL;
         by::number(out.bytes_, out.size_, out.offset_, reinterpret_cast<const as *>(values.data()),
