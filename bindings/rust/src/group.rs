@@ -111,7 +111,8 @@ pub(crate) mod sealed {
 
 /// Adds to each count the number of rows that `mask` selects and whose code is the index of the
 /// count: the size of each group of a dictionary column. If the mask is None, all rows are
-/// selected. The codes of other rows may be any number. A count wraps around at 2^64.
+/// selected. Rows that it doesn't select, such as nulls, may have any number as their code. A count
+/// wraps around at 2^64.
 ///
 /// ```
 /// use vortex_bits::{Bits, values};
@@ -161,7 +162,8 @@ pub fn try_group_counts<I: BitIndex>(
 }
 
 /// Adds each value that `mask` selects to the sum at the index of its row's code. If the mask is
-/// None, all rows are selected. The codes and values of other rows are ignored.
+/// None, all rows are selected. Rows that it doesn't select may have any number as their code and
+/// their value.
 ///
 /// Sums have 64 bits. Those of whole numbers wrap around at the end of their type. Those of floats
 /// are added in the order of the rows, each rounded as IEEE 754 says; an `f32` is first widened.

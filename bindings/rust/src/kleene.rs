@@ -91,7 +91,8 @@ pub fn or_kleene_into<'a, 'b>(
 ///
 /// A `where` clause needs three-valued logic only if it has a `not`. Without one you get the same
 /// rows if you first `&` each column of truth values with its validity, and then combine the
-/// columns by `&` and `|`.
+/// columns by `&` and `|`. To `not` a result, negate which are true and keep which are valid; at
+/// the end of the clause, `&` both.
 ///
 /// ```
 /// use vortex_bits::{Bits, Comparison, values};
@@ -104,8 +105,12 @@ pub fn or_kleene_into<'a, 'b>(
 ///
 /// let (both, valid) = values::and_kleene(&grown, ages_valid, &small, heights_valid);
 /// assert_eq!(both.set_indices().collect::<Vec<_>>(), [0]);
-/// assert_eq!(valid.unwrap().unset_indices().collect::<Vec<_>>(), [1]);
+/// assert_eq!(valid.as_ref().unwrap().unset_indices().collect::<Vec<_>>(), [1]);
 /// assert_eq!(both, (grown & ages_valid) & (small & heights_valid));
+///
+/// // `where not (age > 17 and height < 190)`: the null is not among these.
+/// let others = !both & valid;
+/// assert_eq!(others.set_indices().collect::<Vec<_>>(), [2, 3, 4]);
 /// ```
 ///
 /// # Panics

@@ -195,12 +195,12 @@ impl Array {
 impl Export {
     /// Returns the rows of arrays, one array after the other, with the name, type, flags and
     /// metadata of a field, such as that of the stream whose batches they are. Without arrays there
-    /// are no rows.
+    /// are no rows. If the arrays have several dictionaries, the joined one may have an item twice:
+    /// rows with different indices may then be equal.
     ///
     /// It copies the rows as [`Array::filter`] does. Arrays that share a dictionary continue to
     /// share it. Otherwise the items of all dictionaries are put one after the other too, and the
-    /// indices are adjusted. Items may then be equal, and are in no order, whatever the field's
-    /// flags say.
+    /// indices are adjusted. The items are then in no order, whatever the field's flags say.
     ///
     /// ```
     /// use vortex_bits::arrow::{Export, Field};
