@@ -15,25 +15,16 @@ pub(crate) mod sealed {
     use crate::native::{Kernels, Masked};
 
     /// What a type of floats provides.
-    pub trait Float: Copy {
-        /// The key of NaN, in a search for the minimum: above those of all numbers.
-        const ABOVE: Self::Key;
-
-        /// The key of NaN, in a search for the maximum: below those of all numbers.
-        const BELOW: Self::Key;
-
-        /// The integers that order numbers.
-        type Key: Ord + Copy;
+    pub trait Float: Copy + PartialOrd {
+        const INFINITY: Self;
+        const NEG_INFINITY: Self;
+        const NEG_ZERO: Self;
 
         /// Returns the sum of both, rounded.
         fn plus(self, other: Self) -> Self;
 
-        /// Returns an integer in the order of the numbers, with that of -0.0 below that of 0.0, and
-        /// `nan` for NaN.
-        fn key(self, nan: Self::Key) -> Self::Key;
-
-        /// Returns the number with that key.
-        fn of_key(key: Self::Key) -> Self;
+        /// Returns whether both have the same bits.
+        fn is(self, other: Self) -> bool;
 
         /// Returns the C function that sums.
         #[cfg(vortex_bits_native)]
@@ -41,14 +32,13 @@ pub(crate) mod sealed {
     }
 
     macro_rules! floats {
-        ($($float:ident $key:ident: $sum:ident;)*) => {$(
+        ($($float:ident: $sum:ident;)*) => {$(
             impl super::Float for $float {}
 
             impl Float for $float {
-                const ABOVE: $key = $key::MAX;
-                const BELOW: $key = $key::MIN;
-
-                type Key = $key;
+                const INFINITY: $float = $float::INFINITY;
+                const NEG_INFINITY: $float = $float::NEG_INFINITY;
+                const NEG_ZERO: $float = -0.0;
 
                 #[inline]
                 fn plus(self, other: $float) -> $float {
@@ -56,17 +46,8 @@ pub(crate) mod sealed {
                 }
 
                 #[inline]
-                fn key(self, nan: $key) -> $key {
-                    // Numbers below 0 have their sign bit and, below it, their size.
-                    let bits = $key::from_ne_bytes(self.to_ne_bytes());
-                    let ordered = bits ^ (bits >> ($key::BITS - 1) & $key::MAX);
-                    if self.is_nan() { nan } else { ordered }
-                }
-
-                #[inline]
-                fn of_key(key: $key) -> $float {
-                    let bits = key ^ (key >> ($key::BITS - 1) & $key::MAX);
-                    <$float>::from_ne_bytes(bits.to_ne_bytes())
+                fn is(self, other: $float) -> bool {
+                    self.to_bits() == other.to_bits()
                 }
 
                 #[cfg(vortex_bits_native)]
@@ -80,8 +61,8 @@ pub(crate) mod sealed {
 
     floats! {
         // Written by tools/write-lists from tools/families/masked_floats.txt.
-        f32 i32: masked_sum_f32;
-        f64 i64: masked_sum_f64;
+        f32: masked_sum_f32;
+        f64: masked_sum_f64;
         // To here.
     }
 }

@@ -30,50 +30,48 @@ pub fn masked_float_sum<T: Float>(values: &[T], mask: Option<Bits<'_>>) -> T {
 }
 
 pub fn masked_float_min<T: Float>(values: &[T], mask: Option<Bits<'_>>) -> Option<T> {
-    let key = first_key(
-        values,
-        mask,
-        |value| value.key(T::ABOVE),
-        T::ABOVE,
-        Ord::min,
-    );
-    (key != T::ABOVE).then(|| T::of_key(key))
+    let lesser = |best: T, value: T| if value < best { value } else { best };
+    extreme(values, mask, [T::INFINITY, T::NEG_ZERO], lesser)
 }
 
 pub fn masked_float_max<T: Float>(values: &[T], mask: Option<Bits<'_>>) -> Option<T> {
-    let key = first_key(
-        values,
-        mask,
-        |value| value.key(T::BELOW),
-        T::BELOW,
-        Ord::max,
-    );
-    (key != T::BELOW).then(|| T::of_key(key))
+    let greater = |best: T, value: T| if value > best { value } else { best };
+    extreme(values, mask, [T::NEG_INFINITY, T::ZERO], greater)
 }
 
-/// Returns the first key of the selected values, or `nan` if it comes before them. `first` returns
-/// the first one of two keys.
+/// Returns the best of the selected numbers; None if there are none. `better` returns the better
+/// one of a number and a value: the number if they are equal or the value is NaN. No number is
+/// worse than `worst`, and `zero` is the better one of both zeros.
 #[inline]
-fn first_key<T: Copy, K: Copy>(
+fn extreme<T: Float>(
     values: &[T],
     mask: Option<Bits<'_>>,
-    key: impl Fn(T) -> K + Copy,
-    nan: K,
-    first: impl Fn(K, K) -> K + Copy,
-) -> K {
-    let step = |best, value| first(best, key(value));
-    if mask.is_some() {
-        return fold(values, mask, nan, step);
+    [worst, zero]: [T; 2],
+    better: impl Fn(T, T) -> T + Copy,
+) -> Option<T> {
+    let best = match mask {
+        Some(_) => fold(values, mask, worst, better),
+        None => in_lanes(values, worst, better),
+    };
+    let is_there = |number: T| fold(values, mask, false, |any, value| any | value.is(number));
+    if best == zero && is_there(zero) {
+        return Some(zero);
     }
-    // One after the other, each value would wait for the result of the last one.
-    let blocks = values.chunks_exact(8);
-    let rest = all(blocks.remainder(), nan, step);
-    let lanes = blocks.fold([nan; 8], |mut lanes, block| {
-        let lanes_and_values = lanes.iter_mut().zip(block);
-        lanes_and_values.for_each(|(lane, &value)| *lane = step(*lane, value));
-        lanes
-    });
-    lanes.into_iter().fold(rest, first)
+    (best != worst || is_there(worst)).then_some(best)
+}
+
+/// Returns the same as [`all`] if `add` may be called in any order, and with `start` more often.
+/// There are eight results until the end, so that no value waits for the last one's.
+#[inline]
+fn in_lanes<T: Copy>(values: &[T], start: T, add: impl Fn(T, T) -> T + Copy) -> T {
+    let mut lanes = [start; 8];
+    let blocks = values.chunks_exact(lanes.len());
+    let rest = all(blocks.remainder(), start, add);
+    for block in blocks {
+        let both = lanes.iter_mut().zip(block);
+        both.for_each(|(lane, &value)| *lane = add(*lane, value));
+    }
+    lanes.into_iter().fold(rest, add)
 }
 
 /// Returns the first value, after `add` has added the others to it.
