@@ -4,14 +4,15 @@ ghost use Rattle.vb_c_core.specs.Fits.{DoneIf};
 ghost use Rattle.vb_c_core.specs.Validity.{HasValidity, validity_of};
 ghost use Rattle.vb_c_group.specs.Grouped.{CountsGroups, SumsGroups};
 
+use vb_aggregate::Summand;
 use vb_bits::window_fits;
 use vb_c_core::Taken;
-use vb_group::{GroupCode, Widen, group_counts, group_sums};
+use vb_group::{Widen, group_counts, group_sums};
 use vb_view::BitBufferView;
 
 /// Counts the selected rows of each group. Returns the first selected row whose code has no count,
 /// if there is one.
-pub(crate) fn count<C: GroupCode>(
+pub(crate) fn count<C: Summand>(
     counts: &mut [u64],
     codes: &[C],
     all_selected: bool,
@@ -32,7 +33,7 @@ pub(crate) fn count<C: GroupCode>(
 
 /// Returns whether the mask, unless it is ignored, has a bit for each code. If so, does [`count`]
 /// and writes its result to `past`; else leaves `counts` and `past` unchanged.
-pub(crate) fn try_count<C: GroupCode>(
+pub(crate) fn try_count<C: Summand>(
     counts: &mut [u64],
     codes: &[C],
     all_selected: bool,
@@ -54,7 +55,7 @@ pub(crate) fn try_count<C: GroupCode>(
 
 /// Adds the selected values to the sums of their groups. Returns the first selected row whose code
 /// has no sum, if there is one.
-pub(crate) fn sum<C: GroupCode, V: Widen>(
+pub(crate) fn sum<C: Summand, V: Widen>(
     sums: &mut [V::Wide],
     codes: &[C],
     values: &[V],
@@ -79,7 +80,7 @@ pub(crate) fn sum<C: GroupCode, V: Widen>(
 /// Returns whether there is a value for each code, and the mask, unless it is ignored, has a bit
 /// for each. If so, does [`sum`] and writes its result to `past`; else leaves `sums` and `past`
 /// unchanged.
-pub(crate) fn try_sum<C: GroupCode, V: Widen>(
+pub(crate) fn try_sum<C: Summand, V: Widen>(
     sums: &mut [V::Wide],
     codes: &[C],
     values: &[V],

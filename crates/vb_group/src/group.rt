@@ -7,9 +7,9 @@ ghost use Rattle.vb_view.specs.View.{bits_of};
 
 use crate::addition::{Count, Sum};
 use crate::check::first_past;
-use crate::code::GroupCode;
 use crate::rows::add_selected;
 use crate::widen::Widen;
+use vb_aggregate::Summand;
 use vb_view::BitBufferView;
 
 /// Adds to each count the number of selected rows whose code is its index: to `counts[c]` those
@@ -18,7 +18,7 @@ use vb_view::BitBufferView;
 /// Without a `mask` each row is selected; a `mask` must have one bit for each code. Returns
 /// `Err(row)` for the first selected row whose code is negative or not below the number of counts;
 /// the counts are then unchanged.
-pub fn group_counts<C: GroupCode>(
+pub fn group_counts<C: Summand>(
     counts: &mut [u64],
     codes: &[C],
     mask: Option<BitBufferView<'_>>,
@@ -48,7 +48,7 @@ pub fn group_counts<C: GroupCode>(
 /// There must be one value for each code. Without a `mask` each row is selected; a `mask` must have
 /// one bit for each code. Returns `Err(row)` for the first selected row whose code is negative or
 /// not below the number of sums; the sums are then unchanged.
-pub fn group_sums<C: GroupCode, V: Widen>(
+pub fn group_sums<C: Summand, V: Widen>(
     sums: &mut [V::Wide],
     codes: &[C],
     values: &[V],

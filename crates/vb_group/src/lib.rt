@@ -7,11 +7,9 @@
 
 mod addition;
 mod check;
-mod code;
 mod group;
 mod rows;
 mod widen;
 
-pub use code::GroupCode;
 pub use group::{group_counts, group_sums};
 pub use widen::Widen;

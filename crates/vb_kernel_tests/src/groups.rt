@@ -3,9 +3,10 @@ use crate::compared::{equal, holds};
 use crate::plain_loop::{LONG, first};
 use std::alloc::Global;
 use std::process::Abort;
+use vb_aggregate::Summand;
 use vb_bits::{get_bit, window_fits};
 use vb_core::Element;
-use vb_group::{GroupCode, group_counts, group_sums};
+use vb_group::{group_counts, group_sums};
 use vb_view::BitBufferView;
 
 /// The number of groups.
@@ -39,7 +40,7 @@ fn is_selected(mask: Option<(&[u8], usize)>, row: usize) -> bool {
 }
 
 /// One row after the other.
-fn found_by_loop<C: GroupCode>(codes: &[C], values: &[i32], mask: Option<(&[u8], usize)>) -> Found {
+fn found_by_loop<C: Summand>(codes: &[C], values: &[i32], mask: Option<(&[u8], usize)>) -> Found {
     let mut found = BEFORE;
     for (row, (code, value)) in codes.iter().zip(values).enumerate() {
         if !is_selected(mask, row) {
@@ -59,7 +60,7 @@ fn found_by_loop<C: GroupCode>(codes: &[C], values: &[i32], mask: Option<(&[u8],
 }
 
 /// Both calls.
-fn both_calls<C: GroupCode>(
+fn both_calls<C: Summand>(
     rt: &impl Abort,
     codes: &[C],
     values: &[i32],
@@ -104,7 +105,7 @@ fn code<C: Element>(number: u64) -> C {
 }
 
 /// The calls for one window of each kind of mask, and without one.
-fn at_offset<C: GroupCode>(rt: &impl Abort, codes: &[C], values: &[i32], offset: usize) {
+fn at_offset<C: Summand>(rt: &impl Abort, codes: &[C], values: &[i32], offset: usize) {
     for kind in 0..7 {
         let mut bytes = [0u8; ROOM];
         for k in 0..ROOM {
@@ -118,8 +119,9 @@ fn at_offset<C: GroupCode>(rt: &impl Abort, codes: &[C], values: &[i32], offset:
     equal(rt, both_calls(rt, codes, values, None), wanted);
 }
 
-/// Codes of groups alone, and some of none: at the first row, in the middle, and at the last one.
-fn beside_a_loop<C: GroupCode>(rt: &impl Abort, alloc: Global) {
+/// Codes of groups alone, and one of none: at the first or the last row, or at those of a word of
+/// the mask.
+fn beside_a_loop<C: Summand>(rt: &impl Abort, alloc: Global) {
     let mut codes = Vec::new(alloc);
     let mut values = Vec::new(alloc);
     for row in 0..1027u32 {
@@ -129,7 +131,7 @@ fn beside_a_loop<C: GroupCode>(rt: &impl Abort, alloc: Global) {
             .push(i32::MAX.wrapping_sub_unsigned(row))
             .expect(rt, "room");
     }
-    for bad in [None, Some(0), Some(64), Some(100), Some(199)] {
+    for bad in [None, Some(0), Some(63), Some(64), Some(199)] {
         let kept = bad.and_then(|row: usize| codes.get(row).copied());
         set(&mut codes, bad, code::<C>(0x8080_8080_8080_8087));
         for len in 0..=200usize {
