@@ -72,6 +72,9 @@ fn all_of_word<C: Summand>(codes: &[C], keep: u64, groups: usize) -> bool
     ensures { IsTrue result → All (λ code. IsGroup groups (C.number code))
         (kept_by (digits keep 0 (length codes.now)) codes.now) }
 {
+    if keep == 0 {
+        return true;
+    }
     (keep.count_ones() >= MANY && all(codes, groups)) || all_ones(codes, keep, groups)
 }
 

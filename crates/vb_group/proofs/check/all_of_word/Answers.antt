@@ -1,5 +1,6 @@
-use Rattle.std.proofs.Common.{IsTrue, length, leb-true, subst, sym, ◌∙◌, arith}
+use Rattle.std.proofs.Common.{IsTrue, length, leb-true, ap, subst, sym, ◌∙◌, arith}
 use Rattle.std.specs.Prelude.{count_ones}
+use Rattle.vb_aggregate.proofs.OnesLemmas.{kept_zero}
 use Rattle.vb_bits.specs.Digits.{digits}
 use Rattle.vb_group.proofs.ChecksLemmas.{kept_of_all}
 use Rattle.vb_group.proofs.check.all_of_word.Goals as goal
@@ -15,3 +16,8 @@ returns-then-all g c = λ good. elim c.if-keep-ge-MANY.branch [
       let many = leb-true 16 (count_ones c.args.keep) (sym w.value-is ∙ c.if-all.true) in
       absurd (omega (arith, w.if-keep-ge-MANY.false, many))
 ]
+
+pub returns-then-keep-eq0 : goal.returns-then-keep-eq0
+returns-then-keep-eq0 g c = λ good k d inside.
+    let none = kept_zero c.args.keep c.args.codes.now c.if-keep-eq0.true c.requires.clear in
+    absurd (omega (arith, inside, ap length none))
