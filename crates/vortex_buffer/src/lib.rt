@@ -58,7 +58,6 @@ pub use vb_gather::try_and_kleene;
 pub use vb_gather::try_compared;
 pub use vb_gather::try_compared_with;
 pub use vb_gather::try_or_kleene;
-pub use vb_group::GroupCode;
 pub use vb_group::Widen;
 pub use vb_group::group_counts;
 pub use vb_group::group_sums;

@@ -34,7 +34,6 @@ pub use vortex_buffer::Filter;
 pub use vortex_buffer::FloatSummand;
 pub use vortex_buffer::GhostCount;
 pub use vortex_buffer::Glance;
-pub use vortex_buffer::GroupCode;
 pub use vortex_buffer::Iter;
 pub use vortex_buffer::PaddedChunkIterator;
 pub use vortex_buffer::Plain;
