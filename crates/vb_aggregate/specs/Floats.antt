@@ -11,10 +11,11 @@ use lib.Ieee.{add}
 abbrev pub float_sum : Format → List Float → Float
 float_sum format floats = fold (add format) float_zero floats
 
--- an order of numbers, with -0.0 below 0.0: from the least one up, and from the greatest one down
+-- the order of numbers from the least one up, with -0.0 below 0.0
 abbrev pub upwards : Float → Float → Ordering
 upwards a b = total_cmp a b
 
+-- the order of numbers from the greatest one down, with 0.0 above -0.0
 abbrev pub downwards : Float → Float → Ordering
 downwards a b = total_cmp b a
 
