@@ -27,7 +27,7 @@ share=0
 left=0
 all=0
 # The approximate time of the first proof of a crate, in seconds.
-seconds_a_crate=75
+seconds_a_crate=50
 # The number of crates that the running part needs, how many of them are done, and how many were
 # done when it began.
 crates_all=0
