@@ -134,11 +134,8 @@ pub struct Index {
 
 impl Index {
     pub fn new(parts: &[Rows]) -> Index {
-        let words = parts
-            .iter()
-            .map(|it| it.id.len())
-            .sum::<usize>()
-            .div_ceil(64);
+        let rows: usize = parts.iter().map(|it| it.id.len()).sum();
+        let words = rows.div_ceil(64);
         let (mut cities, mut flag) = (vec![vec![0; words]; CITIES], vec![0; words]);
         let mut place = 0;
         for part in parts {
@@ -179,8 +176,9 @@ pub fn aggregates<S: AddAssign + Default + From<T>, T: Primitive + PartialOrd>(
 ) -> Aggregates<S, T> {
     let of = |(part, kept): (&Rows, &Packed)| {
         let (mut sum, mut least, mut greatest) = (S::default(), None, None);
+        let column = column(part);
         for row in 0..part.id.len() {
-            if let Some(it) = column(part).get(row).filter(|_| kept.get(row)) {
+            if let Some(it) = column.get(row).filter(|_| kept.get(row)) {
                 sum += S::from(it);
                 least = least.filter(|least| *least <= it).or(Some(it));
                 greatest = greatest.filter(|most| *most >= it).or(Some(it));
