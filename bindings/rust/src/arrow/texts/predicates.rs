@@ -96,7 +96,7 @@ impl Texts<'_> {
     pub fn contains(&self, part: impl AsRef<[u8]>) -> Bitmap {
         match part.as_ref() {
             [] => self.test(|_| true),
-            [first, rest @ ..] => self.test(|row| has(row, *first, rest)),
+            [first, rest @ ..] => self.test(|row| row.len() > rest.len() && has(row, *first, rest)),
         }
     }
 
