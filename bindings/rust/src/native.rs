@@ -45,8 +45,6 @@ pub type OptionalI8 = Optional<i8>;
 pub type OptionalI16 = Optional<i16>;
 pub type OptionalI32 = Optional<i32>;
 pub type OptionalI64 = Optional<i64>;
-pub type OptionalF32 = Optional<f32>;
-pub type OptionalF64 = Optional<f64>;
 // To here.
 
 macro_rules! kernels {
