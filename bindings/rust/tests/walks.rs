@@ -16,7 +16,7 @@ fn least(mut call: impl FnMut()) -> Duration {
 
 #[test]
 fn places_without_room_are_not_looked_for() {
-    let mut bytes = vec![0; 1 << 19];
+    let mut bytes = vec![0; 1 << 22];
     bytes[0] = 0b1_0101;
     let bits = Bits::from_bytes(&bytes);
     let [three, four] = [3, 4].map(|room| {
@@ -33,7 +33,7 @@ fn places_without_room_are_not_looked_for() {
 
 #[test]
 fn items_beyond_the_first_ones_are_not_looked_for() {
-    let mut bytes = vec![0; 1 << 19];
+    let mut bytes = vec![0; 1 << 22];
     bytes[..8].fill(0b0101_0101);
     bytes[8..16].fill(0b0101_0101);
     let bits = Bits::from_bytes(&bytes);
