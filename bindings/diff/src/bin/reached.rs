@@ -95,10 +95,10 @@ const ROWS: &[Row] = &[
     ("rank", 1, |n| _ = Ranks::with_table(left(n), &[0; 9]).rank(1)),
     ("Ranks::select", 1, |n| _ = Ranks::with_table(left(n), &[0; 9]).select(0)),
     ("filter of values", 65, |n| _ = values::filter(&vec![1u8; n], left(n))),
-    ("filter of values at odd addresses", NEVER, |n| {
+    ("take of values at odd addresses", NEVER, |n| {
         // An allocation of bytes begins at an even address.
         let bytes = vec![1u8; 2 * n + 1];
-        _ = values::filter(bytes[1..].as_chunks::<2>().0, left(n));
+        _ = values::take(bytes[1..].as_chunks::<2>().0, &indices(n));
     }),
     ("retain of values", 65, |n| _ = values::retain(&mut [1u8; MOST][..n], left(n))),
     ("scatter of values", 65, |n| _ = left(n).scatter_into(&[1u8; MOST], &mut [2; MOST][..n])),
