@@ -31,14 +31,30 @@ fn of_bytes(alloc: Global, bytes: &[u8], row: &str, case: Case) -> Result<usize>
 /// Adds the bits, and makes the calls.
 fn edit_all(set: &mut BitBufferMut, bits: BitBufferView<'_>, row: &str, case: Case) -> Result<()> {
     set.append_view(bits)?;
-    let few = bits.slice(0..bits.len().min(64));
-    for turn in 0..case.calls {
-        match row {
-            "set_to" | "set" | "unset" | "fill_few" | "fill_range" | "as_mut_view" | "fill_view" =>
-                write(set, turn, row),
-            "pop" | "truncate" => shorten(set, row),
-            _ => add(set, few, row)?,
-        }
+    match row {
+        "set_to" | "set" | "unset" | "fill_few" | "fill_range" | "as_mut_view" | "fill_view" =>
+            write_each(set, row, case.calls),
+        "pop" | "truncate" => shorten_each(set, row, case.calls),
+        _ => add_each(set, bits.slice(0..bits.len().min(64)), row, case.calls)?,
+    }
+    Ok(())
+}
+
+fn write_each(set: &mut BitBufferMut, row: &str, calls: usize) {
+    for turn in 0..calls {
+        write(set, turn, row);
+    }
+}
+
+fn shorten_each(set: &mut BitBufferMut, row: &str, calls: usize) {
+    for _ in 0..calls {
+        shorten(set, row);
+    }
+}
+
+fn add_each(set: &mut BitBufferMut, few: BitBufferView<'_>, row: &str, calls: usize) -> Result<()> {
+    for _ in 0..calls {
+        add(set, few, row)?;
     }
     Ok(())
 }
@@ -77,7 +93,6 @@ fn shorten(set: &mut BitBufferMut, row: &str) {
 fn add(set: &mut BitBufferMut, few: BitBufferView<'_>, row: &str) -> Result<()> {
     match row {
         "append" => set.append(few.len() % 2 == 0)?,
-        "appender" => append_one(set, few.len() % 2 == 0)?,
         "append_n" => set.append_n(true, 100)?,
         "append_view" => set.append_view(few)?,
         "append_bits" => set.append_bits(few.inner(), few.offset(), few.len())?,
@@ -86,6 +101,7 @@ fn add(set: &mut BitBufferMut, few: BitBufferView<'_>, row: &str) -> Result<()> 
         "reserve" => set.reserve(ROOM / 2)?,
         "reserve_exact" => set.reserve_exact(ROOM / 2)?,
         "resize" => set.resize(set.len().saturating_add(100), true)?,
+        "appender" => append_one(set, few.len() % 2 == 0)?,
         _ => bail!("no row of this name"),
     }
     Ok(())
