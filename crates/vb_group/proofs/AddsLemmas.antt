@@ -10,7 +10,7 @@ use Rattle.vb_group.specs.Groups.{values_of, AddsRows}
 
 module _ {C V : Type 0} (number : C → ℤ) where
   -- the values of a group, of two lists of rows
-  values_of-append : (g : ℕ) (xs ys : List (C × V))
+  pub values_of-append : (g : ℕ) (xs ys : List (C × V))
       → values_of number g (xs ++ ys) ≡ values_of number g xs ++ values_of number g ys
   values_of-append g xs ys =
       let test = λ (row : C × V). int_eq (number row.0) (pos g) in

@@ -1,65 +1,86 @@
 -- Codes that are numbers of groups.
 use Rattle.std.proofs.Common.{◌≡◌, ℕ, zero, suc, ◌+◌, ℤ, Bool, true, false, inl, inr, List}
-use Rattle.std.proofs.Common.{[], ◌∷◌, ◌++◌, length, get_or, take, sym, ap, subst, ◌∙◌, arith}
-use Rattle.std.proofs.Common.{◌≤ℤ◌, ◌<◌}
-use Rattle.std.proofs.lemmas.Int.{ints}
-use Rattle.std.proofs.lemmas.List.{take_more}
-use Rattle.std.proofs.lemmas.List.Elements.{All-push, All-weaker}
-use Rattle.std.specs.List.{All}
-use Rattle.std.specs.Prelude.{Option, Some}
+use Rattle.std.proofs.Common.{[], ◌∷◌, length, get_or, take, refl, sym, ap, subst, ◌∙◌, arith, ◌<◌}
+use Rattle.std.proofs.lemmas.List.Elements.{All-nil, All-cons, All-head, All-tail}
+use Rattle.std.specs.List.{All, zip}
+use Rattle.std.specs.Option.{option_map}
+use Rattle.std.specs.Prelude.{Option, Some, None}
 use Rattle.std.proofs.lemmas.Bool.{false≢true, cases_lt}
 use Rattle.vb_bits.specs.Kept.{kept_by}
-use Rattle.vb_group.specs.Groups.{IsGroup, HaveGroups, is_selected}
+use Rattle.vb_group.specs.Groups.{IsGroup, HaveGroups, is_selected, selected}
 
 module _ {C : Type 0} (number : C → ℤ) (groups : ℕ) where
-  -- all codes that a mask selects
-  pub kept_have : (codes : List C) (mask : List Bool)
-      → All (λ code. IsGroup groups (number code)) (kept_by mask codes)
-      → HaveGroups number groups codes (Some mask) (length codes)
-  kept_have codes [] all i d inside on = absurd (false≢true on)
-  kept_have [] (b ∷ mask) all i d inside on = absurd (omega arith)
-  kept_have (c ∷ codes) (true ∷ mask) all zero d inside on = all zero d (omega arith)
-  kept_have (c ∷ codes) (false ∷ mask) all zero d inside on = absurd (false≢true on)
-  kept_have (c ∷ codes) (true ∷ mask) all (suc i) d inside on =
-      kept_have codes mask (λ k e h. all (suc k) e (omega arith)) i d (omega arith) on
-  kept_have (c ∷ codes) (false ∷ mask) all (suc i) d inside on =
-      kept_have codes mask all i d (omega arith) on
+  module _ {V : Type 0} where
+    -- the code of a row is that of a group
+    abbrev IsRow : C × V → Type 0
+    IsRow row = IsGroup groups (number row.0)
 
-  -- those of some codes that a mask selects, if all are
-  pub kept_of_all : (mask : List Bool) (codes : List C)
-      → All (λ code. IsGroup groups (number code)) codes
-      → All (λ code. IsGroup groups (number code)) (kept_by mask codes)
-  kept_of_all [] codes all i d inside = absurd (omega arith)
-  kept_of_all (b ∷ mask) [] all i d inside = absurd (omega arith)
-  kept_of_all (true ∷ mask) (c ∷ codes) all zero d inside = all zero d (omega arith)
-  kept_of_all (true ∷ mask) (c ∷ codes) all (suc i) d inside =
-      kept_of_all mask codes (λ k e h. all (suc k) e (omega arith)) i d (omega arith)
-  kept_of_all (false ∷ mask) (c ∷ codes) all i d inside =
-      kept_of_all mask codes (λ k e h. all (suc k) e (omega arith)) i d inside
+    -- all rows that a mask selects
+    rows_kept : (codes : List C) (values : List V) (mask : List Bool)
+        → length values ≡ length codes → All IsRow (kept_by mask (zip codes values))
+        → HaveGroups number groups codes (Some mask) (length codes)
+    rows_kept codes values [] same all i d inside on = absurd (false≢true on)
+    rows_kept [] values (b ∷ mask) same all i d inside on = absurd (omega arith)
+    rows_kept (c ∷ codes) [] (b ∷ mask) same all i d inside on = absurd (omega arith)
+    rows_kept (c ∷ codes) (v ∷ values) (true ∷ mask) same all zero d inside on =
+        All-head IsRow (c, v) (kept_by mask (zip codes values)) all
+    rows_kept (c ∷ codes) (v ∷ values) (false ∷ mask) same all zero d inside on =
+        absurd (false≢true on)
+    rows_kept (c ∷ codes) (v ∷ values) (true ∷ mask) same all (suc i) d inside on =
+        rows_kept codes values mask (omega arith)
+        (All-tail IsRow (c, v) (kept_by mask (zip codes values)) all) i d (omega arith) on
+    rows_kept (c ∷ codes) (v ∷ values) (false ∷ mask) same all (suc i) d inside on =
+        rows_kept codes values mask (omega arith) all i d (omega arith) on
 
-  -- one more code between the least and the greatest
-  pub between_more : (codes : List C) (i : ℕ) (least greatest low high code : C)
-      → i < length codes → code ≡ get_or codes i code → number low ≤ℤ number least
-      → number low ≤ℤ number code → number greatest ≤ℤ number high → number code ≤ℤ number high
-      → All (λ x. (number least ≤ℤ number x) × (number x ≤ℤ number greatest)) (take i codes)
-      → All (λ x. (number low ≤ℤ number x) × (number x ≤ℤ number high)) (take (i + 1) codes)
-  between_more codes i least greatest low high code inside is a b c d so_far =
-      let within = λ (x : C). (number low ≤ℤ number x) × (number x ≤ℤ number high) in
-      subst (All within)
-      (ap (λ x. take i codes ++ (x ∷ [])) is ∙ sym (take_more codes i code inside))
-      (All-push within (take i codes) code
-      (All-weaker (λ x. (number least ≤ℤ number x) × (number x ≤ℤ number greatest)) within
-      (λ x h. (omega (arith, ints, h.0), omega (arith, ints, h.1))) (take i codes) so_far) (b, d))
+    -- all rows
+    rows_each : (codes : List C) (values : List V) → length values ≡ length codes
+        → All IsRow (zip codes values) → HaveGroups number groups codes None (length codes)
+    rows_each [] values same all i d inside on = absurd (omega arith)
+    rows_each (c ∷ codes) [] same all i d inside on = absurd (omega arith)
+    rows_each (c ∷ codes) (v ∷ values) same all zero d inside on =
+        All-head IsRow (c, v) (zip codes values) all
+    rows_each (c ∷ codes) (v ∷ values) same all (suc i) d inside on =
+        rows_each codes values (omega arith) (All-tail IsRow (c, v) (zip codes values) all) i d
+        (omega arith) on
 
-  -- all codes, if the least and the greatest are numbers of groups
-  pub between_groups : (codes : List C) (least greatest : C) → IsGroup groups (number least)
-      → IsGroup groups (number greatest)
-      → All (λ x. (number least ≤ℤ number x) × (number x ≤ℤ number greatest)) codes
-      → All (λ code. IsGroup groups (number code)) codes
-  between_groups codes least greatest low high between =
-      All-weaker (λ x. (number least ≤ℤ number x) × (number x ≤ℤ number greatest))
-      (λ code. IsGroup groups (number code))
-      (λ x h. (omega (arith, ints, h.0, low.0), omega (arith, ints, h.1, high.1))) codes between
+    -- all selected rows
+    pub rows_have : (codes : List C) (values : List V) (mask : Option (List Bool))
+        → length values ≡ length codes → All IsRow (selected mask (zip codes values))
+        → HaveGroups number groups codes mask (length codes)
+    rows_have codes values None same all = rows_each codes values same all
+    rows_have codes values (Some mask) same all = rows_kept codes values mask same all
+
+    -- the first n of the rows that a mask selects
+    kept_front : (n : ℕ) (codes : List C) (values : List V) (mask : List Bool)
+        → HaveGroups number groups codes (Some mask) (length codes)
+        → All IsRow (kept_by (take n mask) (take n (zip codes values)))
+    kept_front zero codes values mask have = All-nil IsRow
+    kept_front (suc n) codes values [] have = All-nil IsRow
+    kept_front (suc n) [] values (b ∷ mask) have = All-nil IsRow
+    kept_front (suc n) (c ∷ codes) [] (b ∷ mask) have = All-nil IsRow
+    kept_front (suc n) (c ∷ codes) (v ∷ values) (true ∷ mask) have =
+        All-cons IsRow (c, v) (kept_by (take n mask) (take n (zip codes values)))
+        (have zero c (omega arith) refl)
+        (kept_front n codes values mask (λ i d inside on. have (suc i) d (omega arith) on))
+    kept_front (suc n) (c ∷ codes) (v ∷ values) (false ∷ mask) have =
+        kept_front n codes values mask (λ i d inside on. have (suc i) d (omega arith) on)
+
+    -- the first n rows
+    each_front : (n : ℕ) (codes : List C) (values : List V)
+        → HaveGroups number groups codes None (length codes) → All IsRow (take n (zip codes values))
+    each_front zero codes values have = All-nil IsRow
+    each_front (suc n) [] values have = All-nil IsRow
+    each_front (suc n) (c ∷ codes) [] have = All-nil IsRow
+    each_front (suc n) (c ∷ codes) (v ∷ values) have =
+        All-cons IsRow (c, v) (take n (zip codes values)) (have zero c (omega arith) refl)
+        (each_front n codes values (λ i d inside on. have (suc i) d (omega arith) on))
+
+    -- the first n selected rows
+    pub front_have : (n : ℕ) (codes : List C) (values : List V) (mask : Option (List Bool))
+        → HaveGroups number groups codes mask (length codes)
+        → All IsRow (selected (option_map (take n) mask) (take n (zip codes values)))
+    front_have n codes values None have = each_front n codes values have
+    front_have n codes values (Some mask) have = kept_front n codes values mask have
 
   -- one more row, whose code is that of a group if it is selected
   pub have_more : (codes : List C) (mask : Option (List Bool)) (row : ℕ)

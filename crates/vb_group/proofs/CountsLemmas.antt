@@ -1,9 +1,10 @@
 -- Counts of rows by group.
 use Rattle.std.proofs.Common.{◌≡◌, ℕ, ◌+◌, ◌%◌, ◌^◌, ℤ, pos, Bool, true, false, cond, List, []}
 use Rattle.std.proofs.Common.{◌∷◌, length, map, refl, ap, ◌∙◌, arith}
+use Rattle.std.proofs.Common.{Result, Ok, Err}
 use Rattle.std.specs.List.{fold, filter, zip}
 use Rattle.std.specs.Ordering.{int_eq}
-use Rattle.std.specs.Prelude.{Option, Some, None}
+use Rattle.std.specs.Prelude.{Option, Some, None, IfOk}
 use Rattle.vb_bits.specs.Kept.{kept_by}
 use Rattle.vb_group.specs.Groups.{selected, codes_of, values_of}
 
@@ -43,3 +44,9 @@ counted n [] = omega arith
 counted n (x ∷ xs) =
     let rest = counted ((n + 1) % 2 ^ 64) xs in
     rest ∙ omega arith
+
+-- a fact of a result that is no error leads to another one
+pub if_ok : {A E : Type 0} (P Q : Type 0) (r : Result A E) → (P → Q) → IfOk r (λ _. P)
+    → IfOk r (λ _. Q)
+if_ok P Q (Ok a) leads fact = leads fact
+if_ok P Q (Err e) leads fact = tt

@@ -2,4 +2,6 @@ mod AddsLemmas
 mod AddsWordLemmas
 mod ChecksLemmas
 mod CountsLemmas
+mod TriesLemmas
+mod UndoLemmas
 mod ZipLemmas

@@ -1,6 +1,6 @@
 -- Rows by group: the code of a row is the number of its group.
-use Rattle.std.specs.Prelude.{◌≡◌, ℕ, ℤ, pos, ◌<◌, ◌≤ℤ◌, ◌<ℤ◌, Bool, true, List, length, map}
-use Rattle.std.specs.Prelude.{slice_index_or, Option, Some, None}
+use Rattle.std.specs.Prelude.{◌≡◌, ◌≢◌, ℕ, ℤ, pos, ◌<◌, ◌≤ℤ◌, ◌<ℤ◌, Bool, true, false, List, []}
+use Rattle.std.specs.Prelude.{All, length, map, slice_index_or, Option, Some, None}
 use Rattle.std.specs.List.{fold, filter}
 use Rattle.std.specs.Ordering.{int_eq}
 use Rattle.vb_bits.specs.Bits.{at}
@@ -35,6 +35,18 @@ pub record AddsRows {C V T : Type 0} (number : C → ℤ) (plus : T → V → T)
   pub same_len : length new ≡ length old
   pub each : (g : ℕ) (d : T) → g < length old → slice_index_or new g d
       ≡ fold plus (slice_index_or old g d) (values_of number g rows)
+
+-- the rows with the code of a group are added to the totals; each total that one is added to was in
+-- its type; `good` is whether all rows have one, but for additions that skip rows
+pub record TriesRows {C V T : Type 0} (number : C → ℤ) (plus : T → V → T) (is_total : T → Type 0)
+    (skips : Bool) (old new : List T) (rows : List (C × V)) (good : Bool) : Type 0 where
+  pub adds : AddsRows number plus old new rows
+  pub in_type : (g : ℕ) (d : T) → g < length old → values_of number g rows ≢ []
+      → is_total (slice_index_or old g d)
+  pub groups : good ≡ true → skips ≡ false
+      → All (λ row. IsGroup (length old) (number row.0)) rows
+  pub past : good ≡ false → ¬ All (λ row. IsGroup (length old) (number row.0)) rows
+  pub passes : skips ≡ true → good ≡ true
 
 module _ {C : Type 0} (number : C → ℤ) (groups : ℕ) (codes : List C)
     (mask : Option (List Bool)) where

@@ -6,8 +6,7 @@ ghost use Rattle.vb_group.specs.Groups.{AddsRows, codes_of, selected, HaveGroups
 ghost use Rattle.vb_view.specs.View.{bits_of};
 
 use crate::addition::{Count, Sum};
-use crate::check::first_past;
-use crate::rows::add_selected;
+use crate::undo::add_or_undo;
 use crate::widen::Widen;
 use vb_aggregate::Summand;
 use vb_view::BitBufferView;
@@ -34,11 +33,7 @@ pub fn group_counts<C: Summand>(
         (option_map bits_of mask.entry)) }
     ensures unchanged { IfErr result (λ _. counts.new ≡ counts.old) }
 {
-    if let Some(row) = first_past(codes, mask, counts.len()) {
-        return Err(row);
-    }
-    add_selected::<C, C, Count>(counts, codes, codes, mask);
-    Ok(())
+    add_or_undo::<C, C, Count>(counts, codes, codes, mask)
 }
 
 /// Adds each selected value to the sum of its group: to `sums[c]` the values of the rows with the
@@ -65,9 +60,5 @@ pub fn group_sums<C: Summand, V: Widen>(
         (option_map bits_of mask.entry)) }
     ensures unchanged { IfErr result (λ _. sums.new ≡ sums.old) }
 {
-    if let Some(row) = first_past(codes, mask, sums.len()) {
-        return Err(row);
-    }
-    add_selected::<C, V, Sum>(sums, codes, values, mask);
-    Ok(())
+    add_or_undo::<C, V, Sum>(sums, codes, values, mask)
 }

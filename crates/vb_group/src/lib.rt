@@ -9,7 +9,8 @@ mod addition;
 mod check;
 mod group;
 mod rows;
+mod undo;
 mod widen;
 
 pub use group::{group_counts, group_sums};
-pub use widen::Widen;
+pub use widen::{Widen, WrappingMinus};

@@ -41,6 +41,7 @@ pub use Rattle.vb_gather.specs.OneLength
 pub use Rattle.vb_gather.specs.TakenBits
 pub use Rattle.vb_gather.specs.TakenItems
 pub use Rattle.vb_group.specs.Groups
+pub use Rattle.vb_group.specs.Reversed
 pub use Rattle.vb_pair.specs.Beside
 pub use Rattle.vb_count.specs.Hits
 pub use Rattle.vb_count.specs.Looks

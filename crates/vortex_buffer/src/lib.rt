@@ -59,6 +59,7 @@ pub use vb_gather::try_compared;
 pub use vb_gather::try_compared_with;
 pub use vb_gather::try_or_kleene;
 pub use vb_group::Widen;
+pub use vb_group::WrappingMinus;
 pub use vb_group::group_counts;
 pub use vb_group::group_sums;
 pub use vb_kernel::BitOp;

@@ -55,6 +55,7 @@ pub use vortex_buffer::UnalignedBitChunkIterator;
 pub use vortex_buffer::Wide;
 pub use vortex_buffer::WideSummand;
 pub use vortex_buffer::Widen;
+pub use vortex_buffer::WrappingMinus;
 pub use vortex_buffer::all_set;
 pub use vortex_buffer::all_set_by;
 pub use vortex_buffer::and_count;

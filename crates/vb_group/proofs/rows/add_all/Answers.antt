@@ -1,40 +1,42 @@
 use Rattle.std.proofs.Common.{◌≡◌, ◌+◌, ◌++◌, [], ◌∷◌, take, get_or, sym, ap, subst, ◌∙◌}
 use Rattle.std.proofs.Common.{arith}
 use Rattle.std.specs.List.{zip}
-use Rattle.std.proofs.lemmas.List.{take_all, take_more}
-use Rattle.vb_group.specs.Groups.{AddsRows}
-use Rattle.vb_group.proofs.AddsLemmas.{adds_nothing, adds_both}
-use Rattle.vb_group.proofs.ZipLemmas.{length-zip, get_or-zip}
+use Rattle.std.proofs.lemmas.List.{take_all}
+use Rattle.vb_group.specs.Groups.{TriesRows}
+use Rattle.vb_group.proofs.TriesLemmas.{tries_nothing, tries_one, tries_row, and_swap}
+use Rattle.vb_group.proofs.ZipLemmas.{length-zip}
 use Rattle.vb_group.proofs.rows.add_all.Goals as goal
 
 pub loop-row-init : goal.loop-row-init
-loop-row-init g c = adds_nothing g.C.BitIndex.number g.A.Addition.plus c.args.totals.now
+loop-row-init g c =
+    tries_nothing g.C.BitIndex.number g.A.Addition.plus g.A.Addition.is_total g.A.Addition.skips
+    c.args.totals.now
 
 pub loop-row-preserved : goal.loop-row-preserved
 loop-row-preserved g c =
     let number = g.C.BitIndex.number in
     let plus = g.A.Addition.plus in
-    let codes = c.args.codes.now in
-    let values = c.args.values.now in
-    let row = c.loop-row.row in
+    let is_total = g.A.Addition.is_total in
+    let skips = g.A.Addition.skips in
+    let state = c.loop-row.totals in
+    let next = c.add_row-has_total.new.totals in
     let code = c.index-codes-row.result in
     let value = c.index-values-row.result in
-    let rows = zip codes values in
-    let same = length-zip codes values c.requires.same_len in
-    let one = get_or-zip codes values row code value (code, value) (omega arith)
-    c.requires.same_len in
-    let both : take (row + 1) rows ≡ take row rows ++ ((code, value) ∷ []) =
-    take_more rows row (code, value) (omega (arith, same))
-    ∙ ap (λ r. take row rows ++ (r ∷ [])) (one
-    ∙ ap (λ x. (x, get_or values row value)) (sym c.index-codes-row.is)
-    ∙ ap (λ x. (code, x)) (sym c.index-values-row.is)) in
-    subst (AddsRows number plus c.args.totals.now c.add_row.new.totals) (sym both)
-    (adds_both number plus c.args.totals.now c.loop-row.totals c.add_row.new.totals (take row rows)
-    ((code, value) ∷ []) c.loop-row.invariant c.add_row.ensures)
+    subst (TriesRows number plus is_total skips c.args.totals.now next
+    (take (c.loop-row.row + 1) (zip c.args.codes.now c.args.values.now)))
+    (and_swap c.loop-row.good c.add_row-has_total.result ∙ sym c.both-good.ensures)
+    (tries_row number plus is_total skips c.args.totals.now state next c.args.codes.now
+    c.args.values.now c.loop-row.row code value c.loop-row.good c.add_row-has_total.result
+    c.requires.same_len (omega arith) c.index-codes-row.is c.index-values-row.is
+    c.loop-row.invariant (tries_one number plus is_total skips state next code value
+    c.add_row-has_total.result c.add_row-has_total.ensures.added c.add_row-has_total.ensures.in_type
+    c.add_row-has_total.ensures.group
+    c.add_row-has_total.ensures.past c.add_row-has_total.ensures.skips))
 
 pub returns : goal.returns
 returns g c =
     let rows = zip c.args.codes.now c.args.values.now in
     let same = length-zip c.args.codes.now c.args.values.now c.requires.same_len in
-    subst (AddsRows g.C.BitIndex.number g.A.Addition.plus c.args.totals.now c.loop-row.totals)
+    subst (λ l. TriesRows g.C.BitIndex.number g.A.Addition.plus g.A.Addition.is_total
+    g.A.Addition.skips c.args.totals.now c.loop-row.totals l c.loop-row.good)
     (take_all c.loop-row.row rows (omega (arith, same))) c.loop-row.invariant

@@ -1,12 +1,13 @@
-use Rattle.std.proofs.Common.{◌*◌}
+use Rattle.std.proofs.Common.{true, ◌*◌}
 use Rattle.std.specs.List.{zip}
 use Rattle.vb_view.specs.View.{bits_of}
 use Rattle.vb_aggregate.proofs.WordsLemmas.{TakesFront}
-use Rattle.vb_group.specs.Groups.{AddsRows}
+use Rattle.vb_group.proofs.AddsWordLemmas.{ShowsRows}
 use Rattle.vb_group.proofs.rows.add_kept.Given as goal
 
 -- the totals have the rows that the words so far select
 abbrev pub invariant-loop-t : goal.invariant-loop-t
 invariant-loop-t g l =
-    TakesFront (AddsRows g.C.BitIndex.number g.A.Addition.plus l.fn.totals) l.fn.totals l.totals
-    (bits_of l.fn.mask) (zip l.codes l.values) (64 * l.t)
+    TakesFront (ShowsRows g.C.BitIndex.number g.A.Addition.plus g.A.Addition.is_total
+    g.A.Addition.skips l.fn.totals) (l.fn.totals, true) (l.totals, true) (bits_of l.fn.mask)
+    (zip l.codes l.values) (64 * l.t)
