@@ -1,5 +1,4 @@
 mod ExtremesLemmas
-mod FirstLemmas
 pub mod FloatsLemmas
 pub mod OnesLemmas
 mod SumsLemmas

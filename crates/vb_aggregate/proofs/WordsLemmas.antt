@@ -1,14 +1,19 @@
 -- The values that a mask selects, word after word.
-use Rattle.std.proofs.Common.{◌≡◌, ℕ, ◌+◌, ◌-◌, ◌≤◌, Bool, true, false}
+use Rattle.std.proofs.Common.{◌≡◌, ℕ, ◌+◌, ◌-◌, ◌*◌, ◌≤◌, Bool, true, false}
 use Rattle.std.proofs.Common.{List, [], ◌∷◌, ◌++◌}
-use Rattle.std.proofs.Common.{length, take, drop, sym, ap, subst, ◌∙◌, arith}
+use Rattle.std.proofs.Common.{length, take, drop, refl, sym, ap, subst, ◌∙◌, arith}
 use Rattle.std.proofs.Common.{append_assoc}
 use Rattle.std.specs.Prelude.{slice_range}
 use Rattle.std.proofs.Math.Seq.{take-add}
-use Rattle.std.proofs.lemmas.List.{take_all, length-take, length-drop}
+use Rattle.std.proofs.lemmas.List.{take_all, length-take, length-drop, nil_from_length, append-nil}
+use Rattle.std.proofs.lemmas.Nat.{pow_pos}
+use Rattle.vb_bits.specs.Bits.{count}
 use Rattle.vb_bits.specs.Digits.{digits}
 use Rattle.vb_bits.specs.Kept.{kept_by}
+use Rattle.vb_bits.proofs.DigitsLemmas.{count-digits_below}
 use Rattle.vb_bits.proofs.KeptLemmas.{kept_by-append}
+use Rattle.vb_bits.proofs.WindowLemmas.{count_parts}
+use Rattle.vb_walk.proofs.WordOnes.{length-kept_by_any}
 
 -- the first a values, and n more
 front-add : {T : Type 0} (xs : List T) (a n : ℕ)
@@ -24,6 +29,28 @@ kept-le [] values = omega arith
 kept-le (b ∷ mask) [] = omega arith
 kept-le (true ∷ mask) (v ∷ values) = let rest = kept-le mask values in omega arith
 kept-le (false ∷ mask) (v ∷ values) = let rest = kept-le mask values in omega arith
+
+-- no bit is true in no bits
+pub empty_none : (bits : List Bool) (a : ℕ) → count (slice_range bits a a) ≡ 0
+empty_none bits a =
+    let none : a - a ≡ 0 = omega arith in
+    ap (λ k. count (take k (drop a bits))) none
+
+-- nor in the bits of a word that is 0
+pub empty_word : (bits : List Bool) (a n keep : ℕ) → keep ≡ 0
+    → digits keep 0 n ≡ slice_range bits a (a + n) → count (slice_range bits a (a + n)) ≡ 0
+unfolding lib.Count.ones
+empty_word bits a n keep gone of_mask =
+    sym (ap count of_mask) ∙ ap (λ w. count (digits w 0 n)) gone
+    ∙ count-digits_below 0 n (pow_pos n)
+
+-- nor in two ranges, one after the other
+pub empty_join : (bits : List Bool) (a b c : ℕ) → a ≤ b → b ≤ c
+    → count (slice_range bits a b) ≡ 0 → count (slice_range bits b c) ≡ 0
+    → count (slice_range bits a c) ≡ 0
+empty_join bits a b c order more left right =
+    let parts = count_parts bits a b c (count (slice_range bits a c)) refl order more in
+    omega (arith, parts, left, right)
 
 module _ {S T : Type 0} (shows : S → List T → Type 0) (start state : S) (mask : List Bool)
     (values : List T) where
@@ -65,3 +92,41 @@ module _ {S T : Type 0} (shows : S → List T → Type 0) (start state : S) (mas
       (sym of_mask ∙ ap (digits keep 0) (sym long)) in
       subst (shows next) (append_assoc xs front word ∙ ap (λ l. xs ++ l) (sym kept))
       (add (xs ++ front) (so_far xs h))
+
+  -- and those up to b, of which the mask selects none
+  pub front_pass : (a b : ℕ) → a ≤ b → b ≤ length mask → count (slice_range mask a b) ≡ 0
+      → TakesFront shows start state mask values a
+      → TakesFront shows start state mask values b
+  front_pass a b order inside empty so_far xs h =
+      let n : ℕ = b - a in
+      let end : a + n ≡ b = omega arith in
+      let bits = slice_range mask a (a + n) in
+      let chunk = slice_range values a (a + n) in
+      let long : length bits ≡ length chunk =
+      simp (length-take, length-drop) (omega (arith, same)) in
+      let fronts : length (take a mask) ≡ length (take a values) =
+      simp length-take (omega (arith, same)) in
+      let front = kept_by (take a mask) (take a values) in
+      let none : count bits ≡ 0 =
+      ap (λ k. count (slice_range mask a k)) end ∙ empty in
+      let nothing : kept_by bits chunk ≡ [] =
+      nil_from_length (kept_by bits chunk) (length-kept_by_any bits chunk long ∙ none) in
+      let kept : kept_by (take (a + n) mask) (take (a + n) values) ≡ front =
+      ap (λ l. kept_by l (take (a + n) values)) (front-add mask a n)
+      ∙ ap (kept_by (take a mask ++ bits)) (front-add values a n)
+      ∙ kept_by-append (take a mask) bits (take a values) chunk fronts
+      ∙ ap (λ l. front ++ l) nothing ∙ append-nil front in
+      subst (λ k. shows state (xs ++ kept_by (take k mask) (take k values))) end
+      (subst (λ l. shows state (xs ++ l)) (sym kept) (so_far xs h))
+
+-- the words of the mask so far
+pub record TakesWords {S T : Type 0} (shows : S → List T → Type 0) (start state : S)
+    (mask : List Bool) (values : List T) (whole t : ℕ) : Type 0 where
+  pub inside : t ≤ whole
+  pub front : TakesFront shows start state mask values (64 * t)
+
+-- no bit of the words from `from` to before t is true
+pub record PassesEmpty (bits : List Bool) (from whole t : ℕ) : Type 0 where
+  pub after : from ≤ t
+  pub within : t ≤ whole
+  pub empty : count (slice_range bits (64 * from) (64 * t)) ≡ 0

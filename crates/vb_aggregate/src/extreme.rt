@@ -1,12 +1,14 @@
 //! The least and the greatest value that a mask selects.
-ghost use Rattle.std.specs.Prelude.{◌≡◌, [], ◌∷◌, length, MatchOption};
-ghost use Rattle.vb_aggregate.specs.Extremes.{IsLeast, IsGreatest};
+ghost use Rattle.std.specs.Int.{trailing_zeros, w64};
+ghost use Rattle.std.specs.Prelude.{◌≡◌, ◌^◌, ◌<◌, ◌≤◌, [], length, get_or, MatchOption};
+ghost use Rattle.vb_aggregate.specs.Extremes.{IsLeast, IsGreatest, Chooses};
 ghost use Rattle.vb_bits.specs.Kept.{kept_by};
 ghost use Rattle.vb_view.specs.View.{bits_of};
 
-use crate::fold::Fold;
+use crate::fold::{Fold, fold_word};
 use crate::summand::Summand;
-use crate::walk::{OneByOne, fold_kept};
+use crate::walk::{WordFold, fold_kept};
+use std::marker::PhantomData;
 use vb_view::BitBufferView;
 
 /// The least value so far.
@@ -39,6 +41,43 @@ impl<T: Summand> Fold<T> for Greatest {
     }
 }
 
+/// A fold that starts from the first selected value; `None` while there is none.
+struct FromFirst<F> {
+    fold: PhantomData<F>,
+}
+
+impl<T: Copy, F: Fold<T, State = T>> WordFold<T> for FromFirst<F> {
+    type State = Option<T>;
+
+    ghost shows = { λ state xs. Chooses F.shows
+        → MatchOption state (xs ≡ []) (λ found. F.shows found xs) };
+
+    // The first value is folded twice, so that all values of a full word are in one loop.
+    #[inline(always)]
+    fn add_word(state: Option<T>, values: &[T], keep: u64) -> Option<T> {
+        if keep == 0 {
+            return state;
+        }
+        let start = or_first(state, values, keep);
+        Some(fold_word::<T, F>(start, values, keep))
+    }
+}
+
+/// Returns what was found; if nothing was, the first value whose bit of `keep` is 1.
+#[inline(always)]
+fn or_first<T: Copy>(found: Option<T>, values: &[T], keep: u64) -> T
+    requires few { length values.now ≤ 64 }
+    requires clear { keep < 2 ^ length values.now }
+    requires some { 0 < keep }
+    ensures { MatchOption found
+        (result ≡ get_or values.now (trailing_zeros w64 keep) result) (λ value. result ≡ value) }
+{
+    match found {
+        Some(value) => value,
+        None => values[keep.trailing_zeros() as usize],
+    }
+}
+
 /// Returns the least of the values whose bit of the mask is true; `None` if no bit is true.
 ///
 /// The mask must have one bit for each value. Does not allocate.
@@ -47,7 +86,7 @@ pub fn masked_min<T: Summand>(values: &[T], mask: BitBufferView<'_>) -> Option<T
     ensures { MatchOption result (kept_by (bits_of mask.entry) values.now ≡ [])
         (IsLeast T.number (kept_by (bits_of mask.entry) values.now)) }
 {
-    fold_from_first::<T, Least>(values, mask)
+    fold_kept::<T, FromFirst<Least>>(None, values, mask)
 }
 
 /// Returns the greatest of the values whose bit of the mask is true; `None` if no bit is true.
@@ -58,21 +97,5 @@ pub fn masked_max<T: Summand>(values: &[T], mask: BitBufferView<'_>) -> Option<T
     ensures { MatchOption result (kept_by (bits_of mask.entry) values.now ≡ [])
         (IsGreatest T.number (kept_by (bits_of mask.entry) values.now)) }
 {
-    fold_from_first::<T, Greatest>(values, mask)
-}
-
-/// Folds the selected values, starting from the first one; `None` if no value is selected.
-#[inline(always)]
-fn fold_from_first<T: Summand, F: Fold<T, State = T>>(
-    values: &[T],
-    mask: BitBufferView<'_>,
-) -> Option<T>
-    requires same_len { length values.now ≡ length (bits_of mask) }
-    ensures { ((x : T) → F.shows x (x ∷ []))
-        → MatchOption result (kept_by (bits_of mask.entry) values.now ≡ [])
-        (λ state. F.shows state (kept_by (bits_of mask.entry) values.now)) }
-{
-    let first = mask.next_set(0)?;
-    let rest = mask.slice(first + 1..mask.len());
-    Some(fold_kept::<T, OneByOne<F>>(values[first], &values[first + 1..], rest))
+    fold_kept::<T, FromFirst<Greatest>>(None, values, mask)
 }

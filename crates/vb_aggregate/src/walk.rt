@@ -1,5 +1,6 @@
 //! Folds of the values that a mask selects, a word of the mask at a time.
-ghost use Rattle.std.specs.Prelude.{◌≡◌, ◌^◌, ◌<◌, ◌≤◌, List, ◌++◌, length};
+ghost use Rattle.std.specs.Prelude.{◌≡◌, ◌*◌, ◌^◌, ◌<◌, ◌≤◌, List, ◌++◌, length, slice_range};
+ghost use Rattle.vb_bits.specs.Bits.{count};
 ghost use Rattle.vb_bits.specs.Digits.{digits};
 ghost use Rattle.vb_bits.specs.Kept.{kept_by};
 ghost use Rattle.vb_view.specs.View.{bits_of};
@@ -53,9 +54,15 @@ pub(crate) fn fold_kept<T: Copy, W: WordFold<T>>(
 {
     let whole = mask.len() / 64;
     let mut state = start;
-    for t in 0..whole {
+    let mut t = 0;
+    while t < whole {
         let keep = view_word(mask, 64 * t, 64);
-        state = W::add_word(state, &values[64 * t..64 * t + 64], keep);
+        if keep == 0 {
+            t = next_nonempty(mask, t + 1, whole);
+        } else {
+            state = W::add_word(state, &values[64 * t..64 * t + 64], keep);
+            t += 1;
+        }
     }
     let n = mask.len() % 64;
     if n == 0 {
@@ -63,4 +70,26 @@ pub(crate) fn fold_kept<T: Copy, W: WordFold<T>>(
     }
     let keep = view_word(mask, 64 * whole, n);
     W::add_word(state, &values[64 * whole..64 * whole + n], keep)
+}
+
+/// Returns the first of the words `from` to `whole - 1` that has a true bit; `whole` if none has.
+///
+/// In a loop of its own an empty word takes the fewest instructions.
+#[inline(always)]
+fn next_nonempty(mask: BitBufferView<'_>, from: usize, whole: usize) -> usize
+    requires order { from ≤ whole }
+    requires inside { 64 * whole ≤ length (bits_of mask) }
+    ensures after { from ≤ result }
+    ensures within { result ≤ whole }
+    ensures empty { count (slice_range (bits_of mask.entry) (64 * from) (64 * result)) ≡ 0 }
+{
+    let mut t = from;
+    while t < whole {
+        let word = view_word(mask, 64 * t, 64);
+        if word != 0 {
+            return t;
+        }
+        t += 1;
+    }
+    t
 }
