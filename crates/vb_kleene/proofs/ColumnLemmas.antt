@@ -21,7 +21,7 @@ use Rattle.vb_view.specs.View.{bits_of}
 use Rattle.vb_view.specs.declared.view.BitBufferView.{BitBufferView}
 
 -- the column that is built from values and a validity
-column_of : (c : Column) (values : BitBufferView) (validity : Option BitBufferView)
+pub column_of : (c : Column) (values : BitBufferView) (validity : Option BitBufferView)
     → c.values ≡ values → c.validity ≡ validity
     → column c ≡ truths (bits_of values) (option_map bits_of validity)
 column_of c values validity e f =

@@ -9,7 +9,7 @@ ghost use Rattle.vb_kleene.specs.Writes.{Writes};
 
 use crate::column::Column;
 use crate::known::write_known;
-use crate::write::write_combined;
+use crate::write::{write_combined, write_few};
 use vb_bits::{And, BitOp, Or};
 use vb_view::BitBufferView;
 
@@ -51,6 +51,19 @@ pub fn and_kleene_into(
         (truths (bits_of left.entry) (option_map bits_of left_validity.entry))
         (truths (bits_of right.entry) (option_map bits_of right_validity.entry)))) }
 {
+    if left.len() <= 64 {
+        write_few::<And, Or>(
+            trues,
+            trues_offset,
+            valid,
+            valid_offset,
+            left,
+            left_validity,
+            right,
+            right_validity,
+        );
+        return;
+    }
     if left_validity.is_none() && right_validity.is_none() {
         write_known(
             trues,
@@ -96,6 +109,19 @@ pub fn or_kleene_into(
         (truths (bits_of left.entry) (option_map bits_of left_validity.entry))
         (truths (bits_of right.entry) (option_map bits_of right_validity.entry)))) }
 {
+    if left.len() <= 64 {
+        write_few::<Or, And>(
+            trues,
+            trues_offset,
+            valid,
+            valid_offset,
+            left,
+            left_validity,
+            right,
+            right_validity,
+        );
+        return;
+    }
     if left_validity.is_none() && right_validity.is_none() {
         write_known(
             trues,

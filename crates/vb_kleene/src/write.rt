@@ -1,8 +1,10 @@
 //! Truth values that may be null, combined and written.
 ghost use Rattle.std.specs.Prelude.{◌≡◌, ◌+◌, ◌*◌, ◌%◌, ◌^◌, ◌<◌, ◌≤◌, length, slice_range, take};
+ghost use Rattle.std.specs.Option.{ForSome, option_map};
 ghost use Rattle.vb_kleene.specs.Combined.{column, trues_by, valid_by};
 ghost use Rattle.vb_kleene.specs.Digits.{digits, lane_bits};
 ghost use Rattle.vb_kleene.specs.InBytes.{InBytes};
+ghost use Rattle.vb_kleene.specs.Kleene.{truths};
 ghost use Rattle.vb_kleene.specs.View.{bits_of};
 ghost use Rattle.vb_kleene.specs.Writes.{Writes};
 
@@ -10,6 +12,7 @@ use crate::column::Column;
 use crate::combine::{block, word};
 use std::simd::prelude::*;
 use vb_bits::{Merge, copy_bits, write_digits, write_word};
+use vb_view::BitBufferView;
 
 /// The number of blocks of 256 truth values that are computed before they are copied to a window
 /// that doesn't begin with a byte: enough that the call of the copy costs little, and few enough
@@ -35,10 +38,6 @@ pub(crate) fn write_combined<T: Merge, F: Merge>(
         (valid_by T.bit F.bit (column left.now) (column right.now)) }
 {
     let len = left.len();
-    if len <= 64 {
-        write_part::<T, F>(trues, t, valid, v, left, right, 0, len);
-        return;
-    }
     write_blocks::<T, F>(trues, t, valid, v, left, right, len / 256);
     for k in 4 * (len / 256)..len / 64 {
         write_part::<T, F>(trues, t, valid, v, left, right, 64 * k, 64);
@@ -47,6 +46,42 @@ pub(crate) fn write_combined<T: Merge, F: Merge>(
     if rest != 0 {
         write_part::<T, F>(trues, t, valid, v, left, right, len - rest, rest);
     }
+}
+
+/// Does [`write_combined`] for at most 64 truth values: reads a word of each view, and writes two.
+///
+/// Inlined, so that no call has to store the views and columns first.
+#[inline(always)]
+pub(crate) fn write_few<T: Merge, F: Merge>(
+    trues: &mut [u8],
+    t: usize,
+    valid: &mut [u8],
+    v: usize,
+    left: BitBufferView<'_>,
+    left_validity: Option<BitBufferView<'_>>,
+    right: BitBufferView<'_>,
+    right_validity: Option<BitBufferView<'_>>,
+)
+    requires few { length (bits_of left) ≤ 64 }
+    requires trues { InBytes trues.old t (length (bits_of left)) }
+    requires valid { InBytes valid.old v (length (bits_of left)) }
+    requires right { length (bits_of right) ≡ length (bits_of left) }
+    requires left_valid { ForSome left_validity (λ v. length (bits_of v) ≡ length (bits_of left)) }
+    requires right_valid { ForSome right_validity (λ v. length (bits_of v)
+        ≡ length (bits_of left)) }
+    ensures trues { Writes trues.old trues.new t (trues_by T.bit
+        (truths (bits_of left.entry) (option_map bits_of left_validity.entry))
+        (truths (bits_of right.entry) (option_map bits_of right_validity.entry))) }
+    ensures valid { Writes valid.old valid.new v (valid_by T.bit F.bit
+        (truths (bits_of left.entry) (option_map bits_of left_validity.entry))
+        (truths (bits_of right.entry) (option_map bits_of right_validity.entry))) }
+{
+    let n = left.len();
+    let left = Column::new(left, left_validity);
+    let right = Column::new(right, right_validity);
+    let (true_word, valid_word) = word::<T, F>(&left, &right, 0, n);
+    write_results(trues, t, n, true_word);
+    write_results(valid, v, n, valid_word);
 }
 
 /// Does [`write_combined`] for the first `256 * n` truth values. If one of the two windows doesn't

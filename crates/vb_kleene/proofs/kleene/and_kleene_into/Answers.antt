@@ -1,6 +1,6 @@
 use Rattle.std.proofs.Common.{not, ap, ◌∙◌}
 use Rattle.vb_kleene.proofs.ColumnLemmas.{answered_by, answered_known}
-use Rattle.vb_kleene.proofs.KleeneLemmas.{and_combined}
+use Rattle.vb_kleene.proofs.KleeneLemmas.{and_combined, trues_of, valid_of}
 use Rattle.vb_kleene.proofs.PartLemmas.{Writes-as}
 use Rattle.vb_kleene.proofs.kleene.and_kleene_into.Goals as goal
 
@@ -18,3 +18,11 @@ returns-then-is_none-2 c =
     (c.is_none.ensures ∙ ap not c.if-is_none.true)
     (c.is_none-then-is_none.ensures ∙ ap not c.if-is_none-2.true) c.requires.right in
     record { trues = Writes-as made.trues wrote.trues; valid = Writes-as made.valid wrote.valid }
+
+pub returns-then-len-le64 : goal.returns-then-len-le64
+returns-then-len-le64 c =
+    let wrote = c.write_few.ensures in
+    record {
+      trues = Writes-as (trues_of and_combined _ _) wrote.trues;
+      valid = Writes-as (valid_of and_combined _ _) wrote.valid;
+    }

@@ -1,5 +1,5 @@
 use Rattle.std.proofs.Common.{◌≡◌, ℕ, ◌+◌, ◌-◌, ◌*◌, ◌%◌, Bool, List, length, take}
-use Rattle.std.proofs.Common.{slice_range, subst, sym, ap, ◌∙◌, refl, arith}
+use Rattle.std.proofs.Common.{slice_range, subst, sym, ◌∙◌, refl, arith}
 use Rattle.std.proofs.lemmas.List.{take_all}
 use Rattle.vb_bits.specs.Writes.{Writes}
 use Rattle.vb_kleene.specs.Combined.{column, trues_by, valid_by}
@@ -17,42 +17,15 @@ loop-k-preserved g c =
     let t = c.args.t in let v = c.args.v in let same = c.requires.right in
     let n = c.len-len.ensures in
     record {
-      trues = Writes-part c.args.trues.now c.loop-k.trues c.write_part-in-loop-k.new.trues t
+      trues = Writes-part c.args.trues.now c.loop-k.trues c.write_part.new.trues t
           (t + at) at 64 end trues (omega (arith, length-trues_by left right same f)) refl
           (omega arith)
-          c.loop-k.invariant.trues c.write_part-in-loop-k.ensures.trues;
-      valid = Writes-part c.args.valid.now c.loop-k.valid c.write_part-in-loop-k.new.valid v
+          c.loop-k.invariant.trues c.write_part.ensures.trues;
+      valid = Writes-part c.args.valid.now c.loop-k.valid c.write_part.new.valid v
           (v + at) at 64 end valid (omega (arith, length-valid_by left right same f h)) refl
           (omega arith)
-          c.loop-k.invariant.valid c.write_part-in-loop-k.ensures.valid;
+          c.loop-k.invariant.valid c.write_part.ensures.valid;
     }
-
--- all as one part
-all : (b d : List ℕ) (o n : ℕ) (l : List Bool) → length l ≡ n
-    → Writes b d (o + 0) (slice_range l 0 (0 + n)) → Writes b d o l
-all b d o n l same part =
-    let long : 0 + n - 0 ≡ n = omega arith in
-    let whole : slice_range l 0 (0 + n) ≡ l =
-    ap (λ k. take k l) long ∙ take_all n l (omega arith) in
-    let start : o + 0 ≡ o = omega arith in
-    subst (λ p. Writes b d p l) start (subst (Writes b d (o + 0)) whole part)
-
-pub returns-then-len-le64-clause-trues : goal.returns-then-len-le64-clause-trues
-returns-then-len-le64-clause-trues g c =
-    let left = c.args.left.now in let right = c.args.right.now in let f = g.T.Merge.bit in
-    all c.args.trues.now c.write_part.new.trues c.args.t c.len-len.result
-    (trues_by f (column left) (column right))
-    (length-trues_by left right c.requires.right f ∙ sym c.len-len.ensures)
-    c.write_part.ensures.trues
-
-pub returns-then-len-le64-clause-valid : goal.returns-then-len-le64-clause-valid
-returns-then-len-le64-clause-valid g c =
-    let left = c.args.left.now in let right = c.args.right.now in
-    let f = g.T.Merge.bit in let h = g.F.Merge.bit in
-    all c.args.valid.now c.write_part.new.valid c.args.v c.len-len.result
-    (valid_by f h (column left) (column right))
-    (length-valid_by left right c.requires.right f h ∙ sym c.len-len.ensures)
-    c.write_part.ensures.valid
 
 -- the last ones, fewer than a word
 module _ (b c d : List ℕ) (o k n r : ℕ) (l : List Bool) (long : length l ≡ n) where
