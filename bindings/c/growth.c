@@ -145,8 +145,10 @@ PREVIOUS(previous_unset)
 ROW(any_set, vb_any_set(WINDOW(mixed, LEFT), n))
 ROW(all_set, vb_all_set(WINDOW(mixed, LEFT), n))
 PAIR(equal_bits)
+/* Written by tools/write-lists from tools/families/questions.txt. */
 PAIR(is_disjoint)
 PAIR(is_subset)
+/* To here. */
 ROW(far_last_set, vb_last_set(WINDOW(zeros, LEFT), n).index)
 ROW(far_next_set, vb_next_set(WINDOW(zeros, LEFT), n, 0).index)
 ROW(far_next_unset, vb_next_unset(WINDOW(ones, LEFT), n, 0).index)
@@ -263,7 +265,11 @@ typedef struct {
 static const row rows[] = {
     OF(get_bit) OF(count_ones) OF(and_count) OF(or_count) OF(xor_count) OF(and_not_count)
     OF(select) OF(select_unset) OF(last_set) OF(next_set) OF(next_unset) OF(previous_set)
-    OF(previous_unset) OF(any_set) OF(all_set) OF(equal_bits) OF(is_disjoint) OF(is_subset)
+    OF(previous_unset) OF(any_set) OF(all_set) OF(equal_bits)
+    /* Written by tools/write-lists from tools/families/questions.txt. */
+    OF(is_disjoint)
+    OF(is_subset)
+    /* To here. */
     OF(far_last_set) OF(far_next_set) OF(far_next_unset) OF(far_previous_set)
     OF(far_previous_unset) OF(far_any_set) OF(far_all_set) OF(far_equal_bits)
     OF(far_is_disjoint) OF(far_is_subset) OF(set_indices) OF(set_indices_u32) OF(set_slices)

@@ -47,23 +47,52 @@ static void combined_counts(const uint8_t *left, size_t l, const uint8_t *right,
     }
 }
 
-/* Whether none is true in both, and all of the left ones are true on the right. */
-static void relations(const uint8_t *left, size_t l, const uint8_t *right, size_t r, size_t len)
+/* The index, at or after `from`, of the first bits that an operator makes true, or len. */
+static size_t first_of(unsigned table, const uint8_t *left, size_t l, const uint8_t *right,
+    size_t r, size_t len, size_t from)
 {
-    const bool disjoint = vb_and_count(left, BYTES, l, right, BYTES, r, len) == 0;
-    const bool subset = vb_and_not_count(left, BYTES, l, right, BYTES, r, len) == 0;
-    bool checked[2] = {!disjoint, !subset};
-    check(vb_is_disjoint(left, BYTES, l, right, BYTES, r, len) == disjoint, "vb_is_disjoint");
-    check(vb_is_subset(left, BYTES, l, right, BYTES, r, len) == subset, "vb_is_subset");
-    check(vb_try_is_disjoint(left, BYTES, l, right, BYTES, r, len, &checked[0])
-            && vb_try_is_subset(left, BYTES, l, right, BYTES, r, len, &checked[1])
-            && checked[0] == disjoint && checked[1] == subset, "the checked relations");
-    check(!vb_try_is_disjoint(left, BYTES, BITS + 1 - len, right, BYTES, r, len, &checked[0])
-            && !vb_try_is_subset(left, BYTES, l, right, BYTES, SIZE_MAX, len + 1, &checked[1])
-            && checked[0] == disjoint && checked[1] == subset, "a bad window of a relation");
-    check(vb_is_subset(left, BYTES, l, left, BYTES, l, len)
-            && vb_is_disjoint(left, BYTES, l, right, BYTES, r, 0), "relations that always hold");
+    size_t at = from < len ? from : len;
+    while (at < len && (table >> (2u * bit(left, l + at) + bit(right, r + at)) & 1) == 0) {
+        at++;
+    }
+    return at;
 }
+
+/* Written by tools/write-lists from tools/families/questions.txt. */
+static void is_disjoint(const uint8_t *left, size_t l, const uint8_t *right, size_t r, size_t len)
+{
+    const size_t first = first_of(0x8, left, l, right, r, len, 0);
+    bool checked = first != len;
+    check(vb_is_disjoint(left, BYTES, l, right, BYTES, r, len) == (first == len), "vb_is_disjoint");
+    check(vb_try_is_disjoint(left, BYTES, l, right, BYTES, r, len, &checked)
+            && checked == (first == len), "vb_try_is_disjoint");
+    check(!vb_try_is_disjoint(left, BYTES, BITS + 1 - len, right, BYTES, r, len, &checked)
+            && !vb_try_is_disjoint(left, BYTES, l, right, BYTES, SIZE_MAX, len + 1, &checked)
+            && checked == (first == len), "a bad window of vb_try_is_disjoint");
+}
+
+static void is_subset(const uint8_t *left, size_t l, const uint8_t *right, size_t r, size_t len)
+{
+    const size_t first = first_of(0x4, left, l, right, r, len, 0);
+    bool checked = first != len;
+    check(vb_is_subset(left, BYTES, l, right, BYTES, r, len) == (first == len), "vb_is_subset");
+    check(vb_try_is_subset(left, BYTES, l, right, BYTES, r, len, &checked)
+            && checked == (first == len), "vb_try_is_subset");
+    check(!vb_try_is_subset(left, BYTES, BITS + 1 - len, right, BYTES, r, len, &checked)
+            && !vb_try_is_subset(left, BYTES, l, right, BYTES, SIZE_MAX, len + 1, &checked)
+            && checked == (first == len), "a bad window of vb_try_is_subset");
+}
+
+static void questions(const uint8_t *left, size_t l, const uint8_t *right, size_t r, size_t len)
+{
+    is_disjoint(left, l, right, r, len);
+    is_disjoint(left, l, left, l, len);
+    is_disjoint(left, l, right, r, 0);
+    is_subset(left, l, right, r, len);
+    is_subset(left, l, left, l, len);
+    is_subset(left, l, right, r, 0);
+}
+/* To here. */
 
 /* Bits that go back to the places of a mask, into a window whose other bits stay. */
 static void deposits(const uint8_t *bytes, size_t v, const uint8_t *mask, size_t m, size_t len,
@@ -295,7 +324,7 @@ static void filters(const uint8_t *bytes, size_t v, const uint8_t *mask, size_t 
     retains_u64(mask, m, len, ones);
     retains_u128(mask, m, len, ones);
     combined_counts(bytes, v, mask, m, len);
-    relations(bytes, v, mask, m, len);
+    questions(bytes, v, mask, m, len);
     three_valued(bytes, v, mask, mask, m, bytes, len);
     three_valued(bytes, v, NULL, mask, m, random_below(2) == 0 ? bytes : NULL, len);
     three_valued(bytes, v, mask, mask, m, NULL, len);

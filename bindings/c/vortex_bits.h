@@ -223,12 +223,14 @@ VB_CHECKED bool vb_try_last_set(const uint8_t *bytes, size_t size, size_t offset
  *     assert(vb_next_set(rows, 2, 3, 10, 5).index == 6);
  *     assert(vb_next_unset(rows, 2, 3, 10, 2).index == 5);
  */
+/* Written by tools/write-lists from tools/families/questions.txt. */
 vb_place vb_next_set(const uint8_t *bytes, size_t size, size_t offset, size_t len, size_t from);
 VB_CHECKED bool vb_try_next_set(const uint8_t *bytes, size_t size, size_t offset, size_t len,
         size_t from, vb_place *place);
 vb_place vb_next_unset(const uint8_t *bytes, size_t size, size_t offset, size_t len, size_t from);
 VB_CHECKED bool vb_try_next_unset(const uint8_t *bytes, size_t size, size_t offset, size_t len,
         size_t from, vb_place *place);
+/* To here. */
 
 /*
  * Returns the index within the window of its last set (or unset) bit before index `before`; finds
@@ -239,6 +241,7 @@ VB_CHECKED bool vb_try_next_unset(const uint8_t *bytes, size_t size, size_t offs
  *     assert(vb_previous_set(rows, 2, 3, 10, 6).index == 4);
  *     assert(vb_previous_unset(rows, 2, 3, 10, 5).index == 1);
  */
+/* Written by tools/write-lists from tools/families/questions.txt. */
 vb_place vb_previous_set(const uint8_t *bytes, size_t size, size_t offset, size_t len,
         size_t before);
 VB_CHECKED bool vb_try_previous_set(const uint8_t *bytes, size_t size, size_t offset, size_t len,
@@ -247,6 +250,7 @@ vb_place vb_previous_unset(const uint8_t *bytes, size_t size, size_t offset, siz
         size_t before);
 VB_CHECKED bool vb_try_previous_unset(const uint8_t *bytes, size_t size, size_t offset, size_t len,
         size_t before, vb_place *place);
+/* To here. */
 
 /*
  * Returns whether any bit is set (false for no bits), or whether all are set (true for no bits).
@@ -255,12 +259,14 @@ VB_CHECKED bool vb_try_previous_unset(const uint8_t *bytes, size_t size, size_t 
  *     const uint8_t rows[] = {0xE8, 0x06};
  *     assert(vb_any_set(rows, 2, 3, 10) && vb_all_set(rows, 2, 5, 3));
  */
+/* Written by tools/write-lists from tools/families/questions.txt. */
 bool vb_any_set(const uint8_t *bytes, size_t size, size_t offset, size_t len);
 VB_CHECKED bool vb_try_any_set(const uint8_t *bytes, size_t size, size_t offset, size_t len,
         bool *any);
 bool vb_all_set(const uint8_t *bytes, size_t size, size_t offset, size_t len);
 VB_CHECKED bool vb_try_all_set(const uint8_t *bytes, size_t size, size_t offset, size_t len,
         bool *all);
+/* To here. */
 
 /*
  * Returns whether the `len` bits of `left` from bit `left_offset` on equal those of `right` from
@@ -274,6 +280,7 @@ bool vb_equal_bits(const uint8_t *left, size_t left_size, size_t left_offset, co
 VB_CHECKED bool vb_try_equal_bits(const uint8_t *left, size_t left_size, size_t left_offset,
         const uint8_t *right, size_t right_size, size_t right_offset, size_t len, bool *equal);
 
+/* Written by tools/write-lists from tools/families/questions.txt. */
 /*
  * Returns whether no bit is set in both windows, or whether each set bit of the left one is set in
  * the right one; both hold for no bits. Reads up to the first word that decides.
@@ -290,6 +297,7 @@ bool vb_is_subset(const uint8_t *left, size_t left_size, size_t left_offset, con
         size_t right_size, size_t right_offset, size_t len);
 VB_CHECKED bool vb_try_is_subset(const uint8_t *left, size_t left_size, size_t left_offset,
         const uint8_t *right, size_t right_size, size_t right_offset, size_t len, bool *subset);
+/* To here. */
 
 /*
  * Writes the indices of the set bits, in ascending order, to the front of `out`, up to its

@@ -93,9 +93,11 @@ public:
     std::size_t xor_count(bits right) const { return by_another(vb_xor_count, right); }
     std::size_t and_not_count(bits right) const { return by_another(vb_and_not_count, right); }
 
+    /* Written by tools/write-lists from tools/families/questions.txt. */
     /* Returns whether no bit is set in both, and whether each bit set here is set in `right`. */
     bool is_disjoint(bits right) const { return by_another(vb_is_disjoint, right); }
     bool is_subset(bits right) const { return by_another(vb_is_subset, right); }
+    /* To here. */
 
     /* Returns the index of the n-th set bit, counted from 0, if there is one. */
     std::optional<std::size_t> select(std::size_t n) const
@@ -284,13 +286,14 @@ private:
     friend std::optional<std::size_t> take_values(const Values &, const Indices &,
         const std::optional<bits> &, Out &&);
 
-    template <class Answer>
+    template <class Answer, class... Values>
     Answer by_another(Answer (*call)(const std::uint8_t *, std::size_t, std::size_t,
-                          const std::uint8_t *, std::size_t, std::size_t, std::size_t),
-        bits right) const
+                          const std::uint8_t *, std::size_t, std::size_t, std::size_t, Values...),
+        bits right, Values... values) const
     {
         detail::expect(right.len_ == len_, "windows are of two lengths");
-        return call(bytes_, size_, offset_, right.bytes_, right.size_, right.offset_, len_);
+        return call(bytes_, size_, offset_, right.bytes_, right.size_, right.offset_, len_,
+            values...);
     }
 
     /* Calls `each` with each item that `find` writes, until it returns false. */

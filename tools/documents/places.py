@@ -1,8 +1,10 @@
 """Finds the places of a name, where a new command, kernel or file of definitions needs one too."""
 import re
 from dataclasses import dataclass
+from functools import lru_cache
 
 from documents.files import Repository
+from documents.written import CITED, LISTS
 from families.fill import of_template
 from families.written import templates
 
@@ -12,6 +14,7 @@ LIBRARY = (
 RUST = r"bindings/rust/src/"
 Places = list[tuple[str, list[str]]]
 COMMENT = re.compile(r"\s*(?:///?|//!|/?\*|--)(?: .*|$)|(?<=\s)(?://|--) .*")
+WRITTEN = "  (written)"
 IMPORT = re.compile(r"\s*(?:ghost )?use ")
 
 
@@ -69,6 +72,7 @@ KERNEL = [
     Task("Tests, and the plain loop", [(r"crates/\w+_tests/src/(?!reached)", r"\bNAME\b")]),
     Task("The template that tools/write-lists fills, for all of its family", [
         (r"tools/families/\w+\.txt$", r"\bfn (?:vb_NAME|NAME)"),
+        (r"tools/families/questions\.py$", r'"NAME",'),
     ]),
     Task("C: the call and its form `vb_try_`; the header, in C++ too, and its tests", [
         (r"crates/vb_c(_\w+)?/src/", r"\bvb_NAME\(|::NAME\("),
@@ -169,11 +173,24 @@ def found_in(repository: Repository, name: Name, path: str, what: str) -> list[s
     pattern, lines = name.pattern(what), text.split("\n")
     if path in templates(repository):
         return [path] if any(pattern.search(it.text) for it in of_template(text)) else []
+    made = by_tools(repository).get(path, set())
     return [
-        f"{path}:{n}: {' '.join(lines[n - 1].split())[:100]}"
+        f"{path}:{n}: {' '.join(lines[n - 1].split())[:100]}{WRITTEN * (lines[n - 1] in made)}"
         for n, it in enumerate(code_of(path, text), 1)
         if pattern.search(it)
     ]
+
+
+@lru_cache(maxsize=1)
+def by_tools(repository: Repository) -> dict[str, set[str]]:
+    """Returns the lines that tools/write-lists writes, by the files that have them."""
+    found: dict[str, set[str]] = {}
+    for text in templates(repository).values():
+        for it in of_template(text):
+            found.setdefault(it.path, set()).update(it.text.split("\n"))
+    for path in (*LISTS, *CITED):
+        found.setdefault(path, set()).update(repository.present(path).split("\n"))
+    return found
 
 
 def places(repository: Repository, text: str, is_all: bool) -> Places:

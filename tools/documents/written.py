@@ -1,8 +1,9 @@
 """The files that a tool writes: families, from their templates; and lists, from the places that
 define their names. The lists are the names that vb_pair re-exports from its files, and those that
-vb_kernel and the top crate re-export from vb_pair, the names that the tests of that crate reach,
-the table by which the Rust crate calls the C functions, the diagram of the crates, and the digest
-by which the Rust crate recognizes its archives.
+vb_kernel and the top crate re-export from vb_pair, the definitions that vb_pair and vb_select
+re-export, the names that the tests of the top crate reach, the table by which the Rust crate calls
+the C functions, the diagram of the crates, and the digest by which the Rust crate recognizes its
+archives.
 """
 import re
 import textwrap
@@ -21,6 +22,7 @@ PAIR = "crates/vb_pair/src/lib.rt"
 KERNEL = "crates/vb_kernel/src/lib.rt"
 CRATE = "crates/vortex_buffer/src/lib.rt"
 REACHED = "crates/vortex_buffer_tests/src/reached.rt"
+CITED = ["crates/vb_pair/specs/Lib.antt", "crates/vb_select/specs/Lib.antt"]
 
 
 def declared(name: str, signature: Signature) -> str:
@@ -99,6 +101,19 @@ def reached(repository: Repository) -> str:
     return head + "".join(f"pub use vortex_buffer::{it};\n" for it in names)
 
 
+def cited(repository: Repository, path: str) -> str:
+    """Returns the top of a crate's definitions, which re-exports the files of definitions that its
+    sources use."""
+    crate = path.split("/")[1]
+    folder = f"crates/{crate}/src/"
+    sources = [text for it, text in repository.code.items() if it.startswith(folder)]
+    used = re.findall(r"^ghost use (Rattle\.\w+\.specs\.\w+)", "\n".join(sources), re.MULTILINE)
+    left_out = ("Rattle.std.", f"Rattle.{crate}.")
+    names = {it for it in used if not it.startswith(left_out) and not it.endswith(".declared")}
+    own = [it for it in repository.read(path).split("\n") if it.startswith("pub mod ")]
+    return "".join(f"{it}\n" for it in own + [f"pub use {it}" for it in sorted(names)])
+
+
 LISTS = {
     PAIR: pair, KERNEL: kernel, CRATE: facade, REACHED: reached, TABLE: table, LAYERS: layers,
     DIGEST: written_digest,
@@ -110,6 +125,9 @@ def written(repository: Repository) -> Iterator[tuple[str, str]]:
     """
     for path, file in files(repository):
         yield path, file.text
+    for path in CITED:
+        if repository.present(path):
+            yield path, cited(repository, path)
     for path, text in LISTS.items():
         yield path, text(repository)
 

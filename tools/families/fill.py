@@ -10,7 +10,7 @@ begin with `% ` are:
     % for NAME in VALUES  the text up to `% end` occurs once for each of the values
     % if CONDITION        the text up to `% end` occurs if the condition holds
 
-Values, conditions and the text within «» are Python, over the names of tools/families/types.py.
+Values, conditions and the text within «» are Python, over the names of types.py and questions.py.
 
 The text gets the layout of its language. Docstrings are filled, the head of a function is on one
 line if it fits, a prototype of C is wrapped between parameters, and the backslashes of C's macros
@@ -22,7 +22,7 @@ import textwrap
 from collections.abc import Iterator
 from dataclasses import dataclass
 
-from families import types
+from families import questions, types
 
 WIDEST = 100
 HOLE = re.compile(r"«(.+?)»")
@@ -60,7 +60,7 @@ def parsed(lines: Iterator[str]) -> list[Block | str]:
 
 
 def value(source: str, names: dict):
-    return eval(source, dict(vars(types)), names)
+    return eval(source, vars(types) | vars(questions), names)
 
 
 def filled(text: str, names: dict) -> str:
@@ -141,5 +141,5 @@ def prototype(found: re.Match) -> str:
 
 def broken(line: str) -> str:
     whole = line.replace("¦", " ")
-    indent = " " * (len(line) - len(line.lstrip(" ")))
+    indent = " " * (len(line) - len(line.lstrip(" ")) + 4 * (line.split()[:1] == ["ensures"]))
     return whole if len(whole.rstrip("\n")) <= WIDEST else line.replace("¦", f"\n{indent}")

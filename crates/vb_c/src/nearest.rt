@@ -1,3 +1,4 @@
+// Written in part by tools/write-lists from tools/families/questions.txt.
 //! The nearest bits at or after an index, and before one, and whether there are any.
 ghost use Rattle.std.specs.Prelude.{◌≡◌, ◌↔◌, ◌<◌, IsTrue};
 ghost use Rattle.vb_bits.specs.Bits.{bits, complement, count};

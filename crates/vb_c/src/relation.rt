@@ -1,4 +1,5 @@
-//! Whether two windows have a set bit in common, or one has all set bits of the other.
+// Written by tools/write-lists from tools/families/questions.txt.
+//! Questions about two windows of one length: whether they have a set bit in common, and others.
 ghost use Rattle.std.specs.Prelude.{◌≡◌, ◌↔◌, IsTrue};
 ghost use Rattle.vb_bits.specs.Bits.{bits, count};
 ghost use Rattle.vb_bits.specs.Operators.{combined_by};
@@ -13,8 +14,8 @@ use vb_bits::window_fits;
 #[unsafe(no_mangle)]
 pub extern "C" fn vb_is_disjoint(left: &[u8], l: usize, right: &[u8], r: usize, len: usize) -> bool
     requires { BothInBytes left.now l right.now r len }
-    ensures { IsTrue result ↔
-        (count (combined_by And (bits left.now l len) (bits right.now r len)) ≡ 0) }
+    ensures { IsTrue result
+        ↔ (count (combined_by And (bits left.now l len) (bits right.now r len)) ≡ 0) }
 {
     vb_pair::is_disjoint(left, l, right, r, len)
 }
@@ -48,8 +49,8 @@ pub extern "C" fn vb_try_is_disjoint(
 #[unsafe(no_mangle)]
 pub extern "C" fn vb_is_subset(left: &[u8], l: usize, right: &[u8], r: usize, len: usize) -> bool
     requires { BothInBytes left.now l right.now r len }
-    ensures { IsTrue result ↔
-        (count (combined_by AndNot (bits left.now l len) (bits right.now r len)) ≡ 0) }
+    ensures { IsTrue result
+        ↔ (count (combined_by AndNot (bits left.now l len) (bits right.now r len)) ≡ 0) }
 {
     vb_pair::is_subset(left, l, right, r, len)
 }

@@ -6,9 +6,11 @@ from unittest.mock import patch
 
 from documents.files import Repository
 from documents.written import REACHED, not_written
+from families import questions
 from families.fill import laid_out, of_template
 from families.hand import hand
-from families.types import AND, COMPARED, OPERATORS, SIGNED, UNSIGNED, VALUES
+from families.questions import PLACE, Group, Pair
+from families.types import AND, COMPARED, OPERATORS, OR, SIGNED, UNSIGNED, VALUES
 from families.written import NoPlace, files
 
 TEMPLATE = """Sums.
@@ -204,6 +206,57 @@ class Places(unittest.TestCase):
             "10 of 26 lines of src/, specs/ and proofs/ by hand; 16 in 4 files by "
             "tools/write-lists, whose templates have 29"
         ))
+
+
+class Questions(unittest.TestCase):
+    """A question about two windows that finds an index, of which the table has none."""
+
+    QUESTION = Pair(
+        "or_next", OR, PLACE, "place", "Returns the first index.", "Returns the first index.",
+        "union", "assert!(true);", "assert!(true);", "None", "from",
+    )
+    ADDED = {
+        "PAIRS": [QUESTION], "OF_PAIRS": [Group("The first.", ["f();"], "The first.", [QUESTION])],
+        "PLACES": True, "VARIANTS": "Or",
+    }
+
+    def setUp(self):
+        template = Path(__file__).parent.parent / "questions.txt"
+        with patch.multiple(questions, **self.ADDED):
+            self.targets = of_template(template.read_text(encoding="utf-8"))
+
+    def text(self, path: str) -> str:
+        return "\n".join(it.text for it in self.targets if it.path == path)
+
+    def test_its_contract_says_which_index_is_found(self):
+        text = self.text("crates/vb_c/src/relation.rt")
+        self.assertIn(
+            "    ensures { IsNext (combined_by Or (bits left.now l len) (bits right.now r len))\n"
+            "        from (answered_place result) }\n"
+            "{\n    vb_pair::or_next(left, l, right, r, len, from).into()\n}\n", text,
+        )
+        self.assertIn("(answered_place place.new))\n        (place.new ≡ place.old) result }", text)
+        self.assertIn("use vb_c_core::Place;", text)
+
+    def test_its_prototypes_have_the_index(self):
+        self.assertIn(
+            "vb_place vb_or_next(const uint8_t *left, size_t left_size, size_t left_offset, "
+            "const uint8_t *right,\n        size_t right_size, size_t right_offset, size_t len, "
+            "size_t from);\n", self.text("bindings/c/vortex_bits.h"),
+        )
+
+    def test_it_has_methods_in_c_plus_plus_and_rust(self):
+        text = self.text("bindings/c/vortex_bits.hpp")
+        self.assertIn("or_next(bits right, std::size_t from) const", text)
+        for file in ("counts.rs", "bitmap/questions.rs"):
+            text = self.text(f"bindings/rust/src/{file}")
+            self.assertIn("right: impl Mask, from: usize) -> Option<usize> {", text)
+
+    def test_it_is_compared_with_a_loop(self):
+        text = self.text("bindings/diff/src/own.rs")
+        self.assertIn("by(left, right, |a, b| a | b), case.n)", text)
+        self.assertIn("l.or_next(r, case.n), wanted)?", text)
+        self.assertIn("first_of(0xE, left, l, right, r, len, from)", self.text("bindings/c/kept.c"))
 
 
 if __name__ == "__main__":
