@@ -1,56 +1,56 @@
-//! The queries by the calls of the crate: no loop over rows, except where a comment says so.
+//! The queries by the calls of the crate, without a loop over rows.
 
 use std::ops::Range;
 
 use vortex_bits::arrow::{Array, ArrowError, Export, Primitive, Texts};
-use vortex_bits::{Bitmap, BitmapMut, Compare, Comparison, values};
+use vortex_bits::{Bitmap, BitmapsByCode, Compare, Comparison, TopK, values};
 
 use crate::table::{CITIES, HALF};
 
-pub type Result<T> = std::result::Result<T, ArrowError>;
+pub type Result<T = ()> = std::result::Result<T, ArrowError>;
 
-/// Which rows are true, and which aren't null: None if all aren't.
-type Truth = (Bitmap, Option<Bitmap>);
-
-fn and((a, a_valid): Truth, (b, b_valid): Truth) -> Truth {
-    values::and_kleene(&a, a_valid, &b, b_valid)
+/// Returns the rows whose value isn't null and compares so.
+fn are<T: Primitive + Compare>(column: &Array, op: Comparison, number: T) -> Result<Bitmap> {
+    let mut rows = values::compare(column.values()?, op, number);
+    rows &= column.validity()?;
+    Ok(rows)
 }
 
-fn or((a, a_valid): Truth, (b, b_valid): Truth) -> Truth {
-    values::or_kleene(&a, a_valid, &b, b_valid)
+/// Unsets the rows whose text isn't null and isn't one of those that `test` finds. The texts may be
+/// those of a dictionary.
+fn and_are_or_null(rows: &mut Bitmap, column: &Array, test: impl Fn(&Texts) -> Bitmap) -> Result {
+    let items = column.dictionary();
+    let texts = items.as_ref().unwrap_or(column).texts()?;
+    let mut others = !test(&texts) & texts.validity();
+    if items.is_some() {
+        let valid = &*rows & column.validity()?;
+        others = values::is_in(column.values::<i32>()?, &others, valid);
+    }
+    rows.bits_mut().and_not(others.bits());
+    Ok(())
 }
 
-fn not((trues, valid): Truth) -> Truth {
-    (!trues, valid)
-}
-
-fn compare<T: Primitive + Compare>(it: &Array, op: Comparison, number: T) -> Result<Truth> {
-    let trues = values::compare(it.values()?, op, number);
-    Ok((trues, it.validity()?.bits().map(Bitmap::from)))
-}
-
-/// Tests a column of texts, or of indices of a dictionary of texts.
-fn text(column: &Array, test: impl Fn(&Texts) -> Bitmap) -> Result<Truth> {
-    let Some(items) = column.dictionary() else {
-        let texts = column.texts()?;
-        return Ok((test(&texts), texts.validity().bits().map(Bitmap::from)));
-    };
-    let trues = test(&items.texts()?).take_valid(column.values::<i32>()?, column.validity()?);
-    Ok((trues, column.dictionary_validity()?))
-}
-
-/// Returns the rows that `loops::is_kept` selects.
+/// Returns the rows that `loops::is_kept` selects. `a and not (b and c)` are the rows of `a` but for
+/// those where `b` is true or null, and of these `c`. So a mask of what is true is enough, and the
+/// tests of texts only read the rows that are left.
 pub fn kept(batch: &Array, limit: f64) -> Result<Bitmap> {
     let number = batch.column("number")?;
-    let below = compare(&number, Comparison::Less, -900i64)?;
-    let price = compare(&batch.column("price")?, Comparison::Greater, limit)?;
-    let flag = (batch.column("flag")?.bits()?.into(), None);
-    let name = text(&batch.column("name")?, |names| names.starts_with("b"))?;
-    let city = text(&batch.column("city")?, |cities| cities.equals("city17"))?;
-    let first = and(or(price, below), not(and(flag, name)));
-    let last = not(and(city, compare(&number, Comparison::Less, 0i64)?));
-    let (trues, valid) = and(first, last);
-    Ok(trues & valid)
+    let mut kept = are(&batch.column("price")?, Comparison::Greater, limit)?;
+    kept |= are(&number, Comparison::Less, -900i64)?;
+
+    let (name, flag) = (batch.column("name")?, batch.column("flag")?);
+    let names = name.texts()?;
+    let mut like = &kept & flag.bits()?;
+    let unknown = like.and_not(names.validity());
+    names.and_starts_with("b", like.bits_mut());
+    like |= unknown;
+    kept.bits_mut().and_not(like.bits());
+
+    let mut found = kept.and_not(are(&number, Comparison::GreaterOrEqual, 0i64)?);
+    let city = batch.column("city")?;
+    and_are_or_null(&mut found, &city, |cities| cities.equals("city17"))?;
+    kept.bits_mut().and_not(found.bits());
+    Ok(kept)
 }
 
 /// Returns the selected rows of each batch.
@@ -65,8 +65,8 @@ pub fn select(batches: &[Array], limit: f64) -> Result<Vec<Export>> {
 pub fn named(batches: &[Array], test: impl Fn(&Texts) -> Bitmap) -> Result<Vec<i64>> {
     let mut found = Vec::new();
     for batch in batches {
-        let (id, (trues, valid)) = (batch.column("id")?, text(&batch.column("name")?, &test)?);
-        values::filter_onto(id.values()?, trues & valid, &mut found);
+        let (id, name) = (batch.column("id")?, batch.column("name")?);
+        values::filter_onto(id.values()?, test(&name.texts()?), &mut found);
     }
     Ok(found)
 }
@@ -102,21 +102,12 @@ pub fn page(batches: &[Array], at: &Range<usize>) -> Result<Export> {
 
 /// Returns the greatest prices with their rows: the first rows of equal ones, the greatest first.
 pub fn top(batches: &[Array], most: usize) -> Result<Vec<(f64, usize)>> {
-    let (mut best, mut first) = (Vec::<(f64, usize)>::new(), 0);
-    for slice in slices(batches, 1024) {
-        let price = slice.column("price")?;
-        let (prices, valid) = (price.values()?, price.validity()?);
-        let above = match best.get(most - 1) {
-            Some(least) => values::compare(prices, Comparison::Greater, least.0) & valid,
-            None => Bitmap::from(valid),
-        };
-        // No call sorts: this loops over the rows above the least of the best, which are few.
-        best.extend(above.set_indices().map(|row| (prices[row], first + row)));
-        best.sort_by(|a, b| b.0.total_cmp(&a.0).then(a.1.cmp(&b.1)));
-        best.truncate(most);
-        first += slice.len();
+    let mut best = TopK::greatest(most);
+    for batch in batches {
+        let price = batch.column("price")?;
+        best.extend(price.values()?, price.validity()?);
     }
-    Ok(best)
+    Ok(best.into_rows())
 }
 
 /// The number of rows of each city, and their sums of numbers and of prices.
@@ -142,58 +133,47 @@ pub fn group(batches: &[Array]) -> Result<Groups> {
 /// Returns the identifiers of the rows whose number is in a set of numbers from 0 on.
 pub fn semi_join(batches: &[Array], set: &Bitmap) -> Result<Vec<i64>> {
     let mut found = Vec::new();
-    let end = i64::try_from(set.len()).unwrap_or(i64::MAX);
     for batch in batches {
         let (id, number) = (batch.column("id")?, batch.column("number")?);
-        let numbers = number.values::<i64>()?;
-        let mut inside = values::compare(numbers, Comparison::GreaterOrEqual, 0);
-        inside &= values::compare(numbers, Comparison::Less, end);
-        inside &= number.validity()?;
-        let is_in = set.take(&values::filter(numbers, &inside));
-        let mut ids = values::filter(id.values::<i64>()?, &inside);
-        let kept = values::retain(&mut ids, &is_in);
-        found.extend_from_slice(&ids[..kept]);
+        let rows = values::is_in(number.values::<i64>()?, set, number.validity()?);
+        values::filter_onto(id.values()?, rows, &mut found);
     }
     Ok(found)
 }
 
 /// Bits of all rows: those of each city, and those with the flag.
 pub struct Index {
-    pub cities: Vec<BitmapMut>,
-    pub flag: BitmapMut,
+    pub cities: Vec<Bitmap>,
+    pub flag: Bitmap,
 }
 
 impl Index {
     pub fn new(batches: &[Array]) -> Result<Index> {
         let rows = batches.iter().map(Array::len).sum();
-        let none = || Bitmap::new_unset(rows).into_owned();
-        let mut cities: Vec<BitmapMut> = (0..CITIES).map(|_| none()).collect();
+        let mut cities = BitmapsByCode::with_capacity(CITIES, rows);
         let mut flag = Bitmap::growing(rows);
         for batch in batches {
             let city = batch.column("city")?;
-            let (codes, valid) = (city.values::<i32>()?, city.validity()?);
-            let rows = flag.len()..flag.len() + batch.len();
-            // No call splits rows by their codes, so all rows are compared with each code.
-            for (code, of_city) in (0..).zip(&mut cities) {
-                let mut all = of_city.bits_mut();
-                let mut part = all.slice(rows.clone());
-                values::compare_into(codes, Comparison::Equal, code, part.slice(..));
-                valid.bits().into_iter().for_each(|valid| part.and(valid));
-            }
+            cities.append(city.values::<i32>()?, city.validity()?);
             flag.append_bits(batch.column("flag")?.bits()?);
         }
-        Ok(Index { cities, flag })
+        Ok(Index {
+            cities: cities.into_bitmaps(),
+            flag: flag.share(),
+        })
     }
 
     /// Returns the rows of three cities with the flag.
     pub fn one_of(&self, [a, b, c]: [usize; 3]) -> Bitmap {
-        (&self.cities[a] | &self.cities[b] | &self.cities[c]) & &self.flag
+        let mut rows = &self.cities[a] | &self.cities[b];
+        rows |= &self.cities[c];
+        rows &= &self.flag;
+        rows
     }
 
     /// Returns the number of rows of a city with the flag, and without it.
     pub fn counts(&self, city: usize) -> [usize; 2] {
-        let rows = &self.cities[city];
-        [rows.and_count(&self.flag), rows.and_not_count(&self.flag)]
+        self.cities[city].split_count(&self.flag).into()
     }
 }
 

@@ -1,7 +1,7 @@
-//! Counts and sums by group, and sums, minimum and maximum of floats, of the rows that a mask
+//! Counts, sums, minimum, maximum and bitmaps by group, and sums, minimum and maximum of floats, of the rows that a mask
 //! selects, and of all rows.
 
-use vortex_bits::{Bits, GroupError, values};
+use vortex_bits::{BitIndex, Bits, GroupError, values};
 
 use crate::ask::same;
 use crate::case::{Case, bit};
@@ -31,7 +31,52 @@ fn plain(
     Ok((counts, sums))
 }
 
-/// Both calls with codes of each type, all of groups in half of the cases, and else few of none.
+/// The bitmaps of the codes, of which `refused` is the first that has none.
+fn by_code<I: BitIndex>(
+    case: &Case,
+    mask: Option<Bits<'_>>,
+    codes: &[I],
+    wide: &[i128],
+    refused: Option<usize>,
+) -> Result<u64, String> {
+    let got = values::try_bitmaps_by_code(codes, GROUPS, mask);
+    let got = match got {
+        Ok(bitmaps) => bitmaps,
+        Err(error) => return same("bitmaps_by_code", Some(row_of(error)), refused),
+    };
+    let mut calls = same("bitmaps_by_code", None, refused)?;
+    for (code, bitmap) in (0..).zip(&got).step_by(7) {
+        let rows = (0..case.len).filter(|&it| is_selected(case, mask, it) && wide[it] == code);
+        let found: Vec<usize> = bitmap.set_indices().collect();
+        calls += same("a bitmap by code", found, rows.collect::<Vec<usize>>())?;
+    }
+    Ok(calls)
+}
+
+/// The minimum and the maximum of each group.
+fn extremes<I: BitIndex>(
+    case: &Case,
+    mask: Option<Bits<'_>>,
+    codes: &[I],
+    column: &[i64],
+    wide: &[i128],
+    refused: Option<usize>,
+) -> Result<u64, String> {
+    let [mut least, mut greatest] = [[Some(-7); GROUPS]; 2];
+    let [mut min, mut max] = [least; 2];
+    let rows = (0..case.len).filter(|&row| refused.is_none() && is_selected(case, mask, row));
+    for row in rows {
+        let group = usize::try_from(wide[row]).map_err(|it| it.to_string())?;
+        min[group] = min[group].min(Some(column[row]));
+        max[group] = max[group].max(Some(column[row]));
+    }
+    let below = values::try_group_min(&mut least, codes, column, mask).map_err(row_of);
+    let above = values::try_group_max(&mut greatest, codes, column, mask).map_err(row_of);
+    Ok(same("group_min", (below.err(), least), (refused, min))?
+        + same("group_max", (above.err(), greatest), (refused, max))?)
+}
+
+/// All calls with codes of each type, all of groups in half of the cases, and else few of none.
 macro_rules! grouped {
     ($case:ident, $random:ident: $($code:ty)*) => {{
         let mut calls = 0;
@@ -52,7 +97,9 @@ macro_rules! grouped {
                 let refused = wanted.err();
                 let (all, total) = wanted.unwrap_or(([3; GROUPS], [5; GROUPS]));
                 calls += same("group_counts", (counted.err(), counts), (refused, all))?
-                    + same("group_sums", (summed.err(), sums), (refused, total))?;
+                    + same("group_sums", (summed.err(), sums), (refused, total))?
+                    + by_code($case, mask, &codes, &wide, refused)?
+                    + extremes($case, mask, &codes, &column, &wide, refused)?;
             }
         )*
         calls

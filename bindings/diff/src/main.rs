@@ -13,6 +13,7 @@ mod gather;
 mod group;
 mod own;
 mod plain;
+mod query;
 mod random;
 #[cfg(feature = "upstream")]
 mod upstream;
@@ -39,6 +40,7 @@ fn compare(case: &Case, random: &mut Random) -> Result<u64, String> {
         + gather::compare(case, random)?
         + aggregate::compare(case, random)?
         + group::compare(case, random)?
+        + query::compare(case, random)?
         + own::compare(case, random)?;
     #[cfg(feature = "upstream")]
     let calls = calls + upstream::compare(case)?;

@@ -47,8 +47,6 @@ fn operators(case: &Case, left: &[bool], right: &[bool]) -> Result<u64, String> 
         + same("or_count", l.or_count(r), ones(&or))?
         + same("xor_count", l.xor_count(r), ones(&xor))?
         + same("and_not_count", l.and_not_count(r), ones(&not))?
-        + same("is_disjoint", l.is_disjoint(r), ones(&and) == 0)?
-        + same("is_subset", l.is_subset(r), ones(&not) == 0)?
         + same("is_subset of more", l.is_subset(&(l | r)), true)?
         + lists("&", list(&(&kept & r)), &and)?
         + lists("|", list(&(l | Bitmap::from(r))), &or)?
@@ -58,6 +56,22 @@ fn operators(case: &Case, left: &[bool], right: &[bool]) -> Result<u64, String> 
         + lists("|= and ^=", list(&map), by(left, left, |a, _| !a))?
         + lists("what shared the bytes", list(&kept), left)?)
 }
+
+// Written by tools/write-lists from tools/families/questions.txt.
+/// Questions about two windows, about a window and itself, and from an index on.
+fn questions(case: &Case, left: &[bool], right: &[bool]) -> Result<u64, String> {
+    let mut calls = 0;
+    let first = |list: Vec<bool>, from: usize| (from..list.len()).find(|&i| list[i]);
+    let l = case.left();
+    for (r, right) in [(case.right(), right), (l, left)] {
+        let wanted = first(by(left, right, |a, b| a & b), 0);
+        calls += same("is_disjoint", l.is_disjoint(r), wanted.is_none())?;
+        let wanted = first(by(left, right, |a, b| a & !b), 0);
+        calls += same("is_subset", l.is_subset(r), wanted.is_none())?;
+    }
+    Ok(calls)
+}
+// To here.
 
 /// Walks over false bits, by steps up to the `n`-th, and then in one go.
 fn unset(bits: Bits<'_>, n: usize, left: &[bool]) -> Result<u64, String> {
@@ -259,6 +273,7 @@ fn kleene(case: &Case, random: &mut Random, left: &[bool], right: &[bool]) -> Re
 pub fn compare(case: &Case, random: &mut Random) -> Result<u64, String> {
     let [left, right] = [case.left(), case.right()].map(plain::bits);
     Ok(operators(case, &left, &right)?
+        + questions(case, &left, &right)?
         + unset(case.left(), case.n, &left)?
         + grows(case, random, &left, &right)?
         + validity(case, random, &left, &right)?

@@ -3,6 +3,7 @@
 mod ask;
 mod grow;
 mod made;
+mod questions;
 mod traits;
 mod write;
 

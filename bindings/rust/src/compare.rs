@@ -142,6 +142,36 @@ pub fn compare_into<T: Compare>(values: &[T], op: Comparison, number: T, mut out
     kernels::compare(&mut out.written(), values, op, number);
 }
 
+/// Unsets each bit of `mask` for whose value `value op number` is false: `&=` with the result of a
+/// comparison, which gets no bitmap. So the terms of an `and` write one mask. Values at unset bits
+/// are compared too.
+///
+/// ```
+/// use vortex_bits::{Bitmap, Bits, Comparison, values};
+///
+/// // where age > 17 and age < 65, of valid ages.
+/// let (ages, valid) = ([19u8, 64, 7, 30, 99], Bits::new(&[0b1_0111], 0, 5));
+/// let mut rows = Bitmap::from(valid);
+/// values::and_compare(&ages, Comparison::Greater, 17, rows.bits_mut());
+/// values::and_compare(&ages, Comparison::Less, 65, rows.bits_mut());
+/// assert_eq!(rows, Bitmap::from_indices(5, &[0, 1]));
+/// ```
+///
+/// # Panics
+///
+/// Panics if `mask` doesn't have one bit per value.
+#[track_caller]
+pub fn and_compare<T: Compare>(values: &[T], op: Comparison, number: T, mut mask: BitsMut<'_>) {
+    alike(mask.len(), values.len());
+    let mut made = [0; 64];
+    let most = 8 * made.len();
+    for (i, values) in values.chunks(most).enumerate() {
+        let mut made = BitsMut::new(&mut made, 0, values.len());
+        kernels::compare(&mut made.written(), values, op, number);
+        mask.part(most * i, values.len()).and(made.as_bits());
+    }
+}
+
 /// Writes a bit per value to `out`: the result of `value op other`, with the one of `others` at the
 /// same index.
 ///

@@ -1,5 +1,7 @@
 //! Counts and tests two windows without a third one.
 
+#[cfg(feature = "alloc")]
+use crate::Bitmap;
 use crate::kernels::{self, Operator};
 use crate::{Bits, Mask};
 
@@ -52,13 +54,36 @@ impl Bits<'_> {
         self.count(right.of_len(self.len()), Operator::AndNot)
     }
 
+    /// Returns the number of bits set here and in `right`, and the number of those set here and
+    /// unset in `right`: the results of [`and_count`](Bits::and_count) and
+    /// [`and_not_count`](Bits::and_not_count). Portable code reads both windows once. Does not
+    /// allocate.
+    ///
+    /// ```
+    /// use vortex_bits::Bits;
+    ///
+    /// let (rows, flag) = (Bits::new(&[0b1101], 0, 4), Bits::new(&[0b1010], 0, 4));
+    /// let (with, without) = rows.split_count(flag);
+    /// assert_eq!((with, without), (1, 2));
+    /// ```
+    #[doc(alias("intersection", "difference", "partition"))]
+    #[inline]
+    #[must_use]
+    #[track_caller]
+    pub fn split_count(self, right: impl Mask) -> (usize, usize) {
+        match right.of_len(self.len()) {
+            Some(right) => kernels::split_count(self, right),
+            None => (self.count_ones(), 0),
+        }
+    }
+
+    // Written by tools/write-lists from tools/families/questions.txt.
     /// Returns whether no bit is set both here and in `right`. Reads up to the first bit that is.
     ///
     /// ```
     /// use vortex_bits::Bits;
     ///
     /// let (left, right) = (Bits::new(&[0b1100], 0, 4), Bits::new(&[0b1110], 0, 4));
-    /// assert!(left.is_subset(right) && !right.is_subset(left));
     /// assert!(left.is_disjoint(!right) && !left.is_disjoint(right));
     /// ```
     #[doc(alias("intersects"))]
@@ -73,6 +98,13 @@ impl Bits<'_> {
     }
 
     /// Returns whether each bit set here is set in `right`. Reads up to the first bit that isn't.
+    ///
+    /// ```
+    /// use vortex_bits::Bits;
+    ///
+    /// let (left, right) = (Bits::new(&[0b1100], 0, 4), Bits::new(&[0b1110], 0, 4));
+    /// assert!(left.is_subset(right) && !right.is_subset(left));
+    /// ```
     #[doc(alias("contains"))]
     #[inline]
     #[must_use]
@@ -83,6 +115,7 @@ impl Bits<'_> {
             None => true,
         }
     }
+    // To here.
 
     fn count(self, right: Option<Bits<'_>>, operator: Operator) -> usize {
         let Some(right) = right else {
@@ -94,5 +127,28 @@ impl Bits<'_> {
             };
         };
         kernels::combined_count(self, right, operator)
+    }
+}
+
+#[cfg(feature = "alloc")]
+impl<B: AsRef<[u8]>> Bitmap<B> {
+    /// Returns the number of bits set here and in `right`, and the number of those set here and
+    /// unset in `right`, as [`Bits::split_count`] does.
+    ///
+    /// ```
+    /// use vortex_bits::Bitmap;
+    ///
+    /// let (left, right) = (Bitmap::from([true, false, true]), Bitmap::from([true, true, false]));
+    /// assert_eq!(left.split_count(&right), (1, 1));
+    /// ```
+    ///
+    /// # Panics
+    ///
+    /// Panics if the lengths differ.
+    #[inline]
+    #[must_use]
+    #[track_caller]
+    pub fn split_count(&self, right: impl Mask) -> (usize, usize) {
+        self.bits().split_count(right)
     }
 }

@@ -168,7 +168,7 @@ pub enum GroupError {
         row: usize,
         /// Its code; `i128::MAX` if it is above that.
         code: i128,
-        /// The number of groups: of counts, or of sums.
+        /// The number of groups: of counts, sums or bitmaps.
         groups: usize,
     },
 }

@@ -225,7 +225,7 @@ pub fn try_group_sums<V: GroupSummand, I: BitIndex>(
 
 /// Tests that there are one value and one bit of the mask per code.
 #[inline]
-fn one_each<I>(codes: &[I], values: usize, mask: &impl Mask) -> Result<(), GroupError> {
+pub(crate) fn one_each<I>(codes: &[I], values: usize, mask: &impl Mask) -> Result<(), GroupError> {
     let rows = codes.len();
     if values != rows {
         return Err(GroupError::Values { values, rows });
@@ -237,7 +237,7 @@ fn one_each<I>(codes: &[I], values: usize, mask: &impl Mask) -> Result<(), Group
 }
 
 #[cold]
-fn no_group<I: BitIndex>(codes: &[I], row: usize, groups: usize) -> GroupError {
+pub(crate) fn no_group<I: BitIndex>(codes: &[I], row: usize, groups: usize) -> GroupError {
     GroupError::Code {
         row,
         code: codes[row].number(),

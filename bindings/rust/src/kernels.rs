@@ -117,6 +117,7 @@ pub fn last_set(bits: Bits<'_>) -> Option<usize> {
     portable::last_set(bits)
 }
 
+// Written by tools/write-lists from tools/families/questions.txt.
 #[inline]
 pub fn next_set(bits: Bits<'_>, from: usize) -> Option<usize> {
     if !is_word(bits) {
@@ -148,6 +149,7 @@ pub fn previous_unset(bits: Bits<'_>, before: usize) -> Option<usize> {
     }
     portable::previous_unset(bits, before)
 }
+// To here.
 
 #[inline]
 pub fn any_set(bits: Bits<'_>) -> bool {
@@ -254,7 +256,21 @@ pub fn combined_count(left: Bits<'_>, right: Bits<'_>, operator: Operator) -> us
     portable::combined_count(left, right, operator)
 }
 
-/// Returns whether no bit is set in both, for windows of one length.
+/// Returns the number of bits set in both, and the number of those set on the left alone, for
+/// windows of one length.
+#[inline]
+pub fn split_count(left: Bits<'_>, right: Bits<'_>) -> (usize, usize) {
+    debug_assert_eq!(left.len(), right.len());
+    #[cfg(vortex_bits_native)]
+    if kernels().is_some_and(|_| !is_word(left)) {
+        let count = |operator| combined_count(left, right, operator);
+        return (count(Operator::And), count(Operator::AndNot));
+    }
+    portable::split_count(left, right)
+}
+
+// Written by tools/write-lists from tools/families/questions.txt.
+/// The windows have one length.
 #[inline]
 pub fn is_disjoint(left: Bits<'_>, right: Bits<'_>) -> bool {
     debug_assert_eq!(left.len(), right.len());
@@ -264,7 +280,7 @@ pub fn is_disjoint(left: Bits<'_>, right: Bits<'_>) -> bool {
     portable::is_disjoint(left, right)
 }
 
-/// Returns whether each bit set on the left is set on the right, for windows of one length.
+/// The windows have one length.
 #[inline]
 pub fn is_subset(left: Bits<'_>, right: Bits<'_>) -> bool {
     debug_assert_eq!(left.len(), right.len());
@@ -273,6 +289,7 @@ pub fn is_subset(left: Bits<'_>, right: Bits<'_>) -> bool {
     }
     portable::is_subset(left, right)
 }
+// To here.
 
 /// `bits` has one bit per set bit of the mask, and `out` is as long as the mask.
 #[inline]

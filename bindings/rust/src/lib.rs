@@ -79,6 +79,8 @@ mod bitmap;
 mod bits;
 mod bits_mut;
 #[cfg(feature = "alloc")]
+mod by_code;
+#[cfg(feature = "alloc")]
 mod bytes;
 mod compare;
 mod counts;
@@ -87,12 +89,14 @@ mod error;
 mod filter;
 mod float;
 mod group;
+mod group_best;
 pub mod iter;
 mod kernels;
 mod kleene;
 mod level;
 mod looks;
 mod mask;
+mod member;
 #[cfg(vortex_bits_native)]
 #[macro_use]
 mod digest;
@@ -103,6 +107,8 @@ mod portable;
 mod rank;
 mod split;
 mod take;
+#[cfg(feature = "alloc")]
+mod top;
 mod validity;
 mod value;
 pub mod values;
@@ -113,6 +119,8 @@ pub use aggregate::{Summand, WideSummand};
 pub use bitmap::{Bitmap, BitmapMut};
 pub use bits::Bits;
 pub use bits_mut::BitsMut;
+#[cfg(feature = "alloc")]
+pub use by_code::BitmapsByCode;
 #[cfg(feature = "alloc")]
 pub use bytes::{AlignedBytes, Grow, SharedBytes, SharedVec};
 pub use compare::{Compare, Comparison};
@@ -127,6 +135,8 @@ pub use mask::Mask;
 pub use rank::Ranked;
 pub use rank::{Ranks, blocks};
 pub use take::BitIndex;
+#[cfg(feature = "alloc")]
+pub use top::TopK;
 pub use validity::Validity;
 pub use value::Value;
 

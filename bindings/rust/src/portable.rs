@@ -3,6 +3,8 @@
 //! proved. Nothing here is `unsafe`.
 
 mod aggregate;
+#[cfg(feature = "alloc")]
+mod by_code;
 mod compare;
 mod count;
 mod filter;
@@ -10,11 +12,15 @@ mod group;
 mod kleene;
 mod rank;
 mod take;
+#[cfg(feature = "alloc")]
+mod top;
 mod walk;
 mod word;
 mod write;
 
 pub use aggregate::*;
+#[cfg(feature = "alloc")]
+pub use by_code::*;
 pub use compare::*;
 pub use count::*;
 pub use filter::*;
@@ -22,6 +28,8 @@ pub use group::*;
 pub use kleene::*;
 pub use rank::*;
 pub use take::*;
+#[cfg(feature = "alloc")]
+pub use top::*;
 pub use walk::*;
 #[cfg(feature = "arrow")]
 pub use word::first_eight;

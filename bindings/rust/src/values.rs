@@ -23,17 +23,26 @@ use alloc::vec;
 #[cfg(feature = "alloc")]
 use alloc::vec::Vec;
 
+#[cfg(feature = "alloc")]
+pub use crate::by_code::{bitmaps_by_code, try_bitmaps_by_code};
+#[cfg(feature = "alloc")]
+pub use crate::member::is_in;
+pub use crate::member::is_in_into;
+#[cfg(feature = "alloc")]
+pub use crate::top::{bottom_k, top_k};
+
 pub use crate::aggregate::{
     masked_checked_sum, masked_max, masked_min, masked_sum, masked_wrapping_sum,
 };
+pub use crate::compare::{and_compare, compare_into, compare_with_into};
 #[cfg(feature = "alloc")]
 pub use crate::compare::{compare, compare_with};
-pub use crate::compare::{compare_into, compare_with_into};
 pub use crate::filter::retain;
 #[cfg(feature = "alloc")]
 pub use crate::filter::{filter, filter_onto};
 pub use crate::float::{masked_float_max, masked_float_min, masked_float_sum};
 pub use crate::group::{group_counts, group_sums, try_group_counts, try_group_sums};
+pub use crate::group_best::{group_max, group_min, try_group_max, try_group_min};
 #[cfg(feature = "alloc")]
 pub use crate::kleene::{and_kleene, or_kleene};
 pub use crate::kleene::{and_kleene_into, or_kleene_into};

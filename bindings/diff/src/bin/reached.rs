@@ -29,8 +29,10 @@ const ROWS: &[Row] = &[
     ("all", 65, |n| _ = left(n).all()),
     ("==", 65, |n| _ = left(n) == right(n)),
     ("and_count", 65, |n| _ = left(n).and_count(right(n))),
+    // Written by tools/write-lists from tools/families/questions.txt.
     ("is_disjoint", 65, |n| _ = left(n).is_disjoint(right(n))),
     ("is_subset", 65, |n| _ = left(n).is_subset(right(n))),
+    // To here.
     ("[]", NEVER, |n| _ = left(n)[n - 1]),
     ("fill", 65, |n| write(n, |mut out| out.fill(true))),
     ("negate", 65, |n| write(n, |mut out| out.negate())),

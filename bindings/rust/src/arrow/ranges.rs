@@ -9,7 +9,6 @@ use core::ops::Range;
 
 use super::error::Fault;
 use super::primitive::Unaligned;
-use crate::Bitmap;
 pub(super) use offsets::Offset;
 
 /// The range of each row, in the bytes of texts or in the items of lists.
@@ -72,13 +71,24 @@ impl<'a> Ranges<'a> {
         self.span(row..row.checked_add(1)?)
     }
 
-    /// Returns a bitmap of the rows whose range passes the test. It calls the test once for each
-    /// row, in order, and reads each offset once.
+    /// Returns which of up to 64 rows pass the test, as the lowest bits of a word. The bits of rows
+    /// that `wanted` doesn't have, among the lowest bits too, are arbitrary.
     #[inline]
-    pub(super) fn test(self, test: impl FnMut(Range<usize>) -> bool) -> Bitmap {
+    pub(super) fn test(
+        self,
+        rows: Range<usize>,
+        wanted: u64,
+        test: impl Fn(Range<usize>) -> bool,
+    ) -> u64 {
+        /// For this number of rows a pass over all offsets is faster.
+        const MANY: u32 = 16;
+        if wanted.count_ones() < MANY {
+            let is_passed = |row| self.get(rows.start + row).is_some_and(&test);
+            return each_set(wanted, is_passed);
+        }
         match self.0 {
-            Offsets::Narrow(offsets) => tested(self.len(), offsets.iter().map(i64::from), test),
-            Offsets::Wide(offsets) => tested(self.len(), offsets.iter(), test),
+            Offsets::Narrow(narrow) => offsets::test(narrow, rows, test),
+            Offsets::Wide(wide) => offsets::test(wide, rows, test),
         }
     }
 
@@ -238,20 +248,14 @@ impl fmt::Debug for Ranges<'_> {
     }
 }
 
-/// Returns a bitmap of the rows whose range passes the test, for `len` rows between ascending
-/// offsets.
+/// Returns the set bits of a word whose indices pass the test.
 #[inline]
-fn tested(
-    len: usize,
-    offsets: impl Iterator<Item = i64>,
-    mut test: impl FnMut(Range<usize>) -> bool,
-) -> Bitmap {
-    let mut offsets = offsets.map(|offset| usize::try_from(offset).unwrap_or(usize::MAX));
-    let mut start = offsets.next().unwrap_or(0);
-    Bitmap::make(len, |mut out| {
-        out.fill_with(|_| {
-            let end = offsets.next().unwrap_or(start);
-            test(mem::replace(&mut start, end)..end)
-        });
-    })
+pub(super) fn each_set(word: u64, test: impl Fn(usize) -> bool) -> u64 {
+    let (mut passed, mut left) = (0, word);
+    while left != 0 {
+        let digit = left.trailing_zeros();
+        passed |= u64::from(test(digit as usize)) << digit;
+        left &= left - 1;
+    }
+    passed
 }

@@ -1,6 +1,8 @@
 //! The bytes of texts and binary values, row by row.
 
+mod in_place;
 mod predicates;
+mod row;
 mod wanted;
 
 use alloc::vec::Vec;

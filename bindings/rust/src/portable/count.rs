@@ -1,6 +1,6 @@
 //! Read-only calls on windows: counts, searches and comparisons.
 
-use super::word::{first_eight, low, only_word, quick_words, word_at, words};
+use super::word::{byte_words, first_eight, low, only_word, quick_words, word_at, words};
 use crate::Bits;
 use crate::kernels::Operator;
 
@@ -174,12 +174,53 @@ fn count_by(left: Bits<'_>, right: Bits<'_>, of: impl Fn(u64, u64) -> u64) -> us
     })
 }
 
-/// Folds the words of two windows of one length: first whole words by [`quick_words`], then the
-/// rest.
+/// Returns the number of bits set in both, and the number of those set on the left alone, for
+/// windows of one length.
+pub fn split_count(left: Bits<'_>, right: Bits<'_>) -> (usize, usize) {
+    let (both, all) = fold(left, right, (0, 0), |(both, all), left, right| {
+        (both + ones(left & right), all + ones(left))
+    });
+    (both, all - both)
+}
+
+/// Folds the words of two windows of one length, in their order. Where both begin at the same bit
+/// of a byte, it folds the bits up to the next byte first, so that it then reads whole words of
+/// bytes; otherwise whole words by [`quick_words`]. The rest is the last word. Zeros fill up words
+/// of fewer bits.
 #[inline]
 fn fold<A>(left: Bits<'_>, right: Bits<'_>, first: A, f: impl Fn(A, u64, u64) -> A) -> A {
-    let quick = quick_words(left).zip(quick_words(right));
-    let rest = quick.len()..left.len().div_ceil(64);
-    let all = quick.fold(first, |all, (left, right)| f(all, left, right));
-    rest.fold(all, |all, i| f(all, word_at(left, i), word_at(right, i)))
+    let (digit, len) = (left.offset() % 8, left.len());
+    if digit != right.offset() % 8 {
+        let quick = quick_words(left).zip(quick_words(right));
+        return fold_rest(left, right, fold_pairs(quick, first, &f), &f);
+    }
+    let head = len.min(digit.wrapping_neg() % 8);
+    let heads = [left, right].map(|bits| only_word(bits.part(0, head)));
+    let all = if head > 0 {
+        f(first, heads[0], heads[1])
+    } else {
+        first
+    };
+    let [left, right] = [left, right].map(|bits| bits.part(head, len - head));
+    let words = byte_words(left).zip(byte_words(right));
+    fold_rest(left, right, fold_pairs(words, all, &f), &f)
+}
+
+#[inline]
+fn fold_pairs<A>(
+    pairs: impl Iterator<Item = (u64, u64)>,
+    first: A,
+    f: impl Fn(A, u64, u64) -> A,
+) -> A {
+    pairs.fold(first, |all, (left, right)| f(all, left, right))
+}
+
+/// Folds the bits after the whole words.
+#[inline]
+fn fold_rest<A>(left: Bits<'_>, right: Bits<'_>, all: A, f: impl Fn(A, u64, u64) -> A) -> A {
+    if left.len() % 64 == 0 {
+        return all;
+    }
+    let last = left.len() / 64;
+    f(all, word_at(left, last), word_at(right, last))
 }

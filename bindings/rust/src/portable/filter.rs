@@ -1,19 +1,32 @@
 //! Filters bits and values by a mask, values also in place, and scatters them to the indices of a
 //! mask's set bits.
 
-use super::word::{only_word, words};
+use super::word::{only_word, word_at, words};
 use crate::Bits;
 use crate::written::Written;
 
 /// Writes the bits of `source` that `mask` selects to the front of `out`. `mask` is as long as
 /// `source`, and `out` has space for the selected bits.
 pub fn filter(out: &mut Written<'_>, source: Bits<'_>, mask: Bits<'_>) {
-    let mut at = 0;
-    for (word, mask) in words(source).zip(words(mask)) {
-        let kept = mask.count_ones() as usize;
-        out.write(at, kept, compress(word, mask));
-        at += kept;
+    // The lowest `full` bits of `pending` are to be written from `at` on.
+    let (mut at, mut pending, mut full) = (0, 0, 0);
+    for i in 0..mask.len().div_ceil(64) {
+        let chosen = word_at(mask, i);
+        if chosen == 0 {
+            continue;
+        }
+        let (kept, word) = (chosen.count_ones(), compress(word_at(source, i), chosen));
+        pending |= word << full;
+        full += kept;
+        if full >= 64 {
+            out.write(at, 64, pending);
+            at += 64;
+            full -= 64;
+            // Of this word's bits the highest `full` are left.
+            pending = word.checked_shr(kept - full).unwrap_or(0);
+        }
     }
+    out.write(at, full as usize, pending);
 }
 
 /// Writes the values that `mask` selects to `out`, and returns their number. There is one value per

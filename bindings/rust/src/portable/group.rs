@@ -34,6 +34,28 @@ pub fn group_sums<V: GroupSummand, I: BitIndex>(
     past
 }
 
+/// Replaces the best value of each group by the selected ones of it that are better. There is one
+/// value per code. A value that doesn't equal itself, such as a NaN, isn't better than any. Returns
+/// the same.
+pub fn group_best<V: PartialOrd + Copy, I: BitIndex>(
+    best: &mut [Option<V>],
+    codes: &[I],
+    values: &[V],
+    mask: Option<Bits<'_>>,
+    is_better: impl Fn(V, V) -> bool,
+) -> Option<usize> {
+    let past = first_past(codes, mask, best.len());
+    if past.is_none() {
+        add(best, (codes, values), mask, |best, value: V| {
+            let is_other = best.map_or(value.partial_cmp(&value).is_some(), |it| {
+                is_better(value, it)
+            });
+            if is_other { Some(value) } else { best }
+        });
+    }
+    past
+}
+
 /// Adds as [`add`] does. If a code has no total, `minus` then takes away what the rows before it
 /// have added.
 #[inline]

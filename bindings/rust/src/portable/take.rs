@@ -1,6 +1,7 @@
 //! Takes bits and values at indices, and sets bits there.
 
 use super::word::word_at;
+use super::write::word_of;
 use crate::take::BitIndex;
 use crate::written::Written;
 use crate::{Bits, Value};
@@ -57,6 +58,57 @@ fn some_past<I: BitIndex>(bits: Bits<'_>, indices: &[I]) -> (u64, u64) {
     }
     let behind = 64 - indices.len();
     (word >> behind, past >> behind)
+}
+
+/// If fewer of 64 indices are selected, it is faster to test each of these.
+const FEW: u32 = 16;
+
+/// Writes whether the bits at the indices that `mask` selects are set; false for an index that is
+/// out of bounds. There is one index per bit of `out` and of `mask`.
+pub fn is_in<I: BitIndex>(
+    out: &mut Written<'_>,
+    bits: Bits<'_>,
+    indices: &[I],
+    mask: Option<Bits<'_>>,
+) {
+    for (i, indices) in indices.chunks(64).enumerate() {
+        let selected = mask.map_or(u64::MAX, |mask| word_at(mask, i));
+        let word = if selected.count_ones() < FEW {
+            some_among(bits, indices, selected)
+        } else {
+            among(bits, indices) & selected
+        };
+        out.write(64 * i, indices.len(), word);
+    }
+}
+
+/// The same for the selected indices of a block, one by one.
+#[inline]
+fn some_among<I: BitIndex>(bits: Bits<'_>, indices: &[I], selected: u64) -> u64 {
+    let (mut word, mut left) = (0, selected);
+    while left != 0 {
+        let row = left.trailing_zeros();
+        let place = indices[row as usize].place();
+        let bit = place.and_then(|place| bits.get(place)).unwrap_or(false);
+        word |= u64::from(bit) << row;
+        left &= left - 1;
+    }
+    word
+}
+
+/// Returns the bits at up to 64 indices as the lowest bits of a word, false for an index that is
+/// out of bounds.
+#[inline]
+fn among<I: BitIndex>(bits: Bits<'_>, indices: &[I]) -> u64 {
+    let (bytes, offset) = (bits.bytes(), bits.offset());
+    let mut found = [0; 64];
+    for (found, index) in found.iter_mut().zip(indices) {
+        if let Some(place) = index.place().filter(|&place| place < bits.len()) {
+            let bit = offset + place;
+            *found = bytes[bit / 8] >> (bit % 8) & 1;
+        }
+    }
+    word_of(&found, |bit| bit != 0)
 }
 
 /// Writes the values at the indices. There is one index per item of `out` and per bit of

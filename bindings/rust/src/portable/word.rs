@@ -88,6 +88,14 @@ pub fn quick_words(bits: Bits<'_>) -> impl ExactSizeIterator<Item = u64> {
     words.map(move |(low, high)| eight_of(low) >> shift | eight_of(high) << back)
 }
 
+/// Returns an iterator over the whole words of a window whose first bit is the first one of a byte.
+#[inline]
+pub fn byte_words(bits: Bits<'_>) -> impl ExactSizeIterator<Item = u64> {
+    debug_assert!(bits.is_empty() || bits.offset() % 8 == 0);
+    let bytes = &bits.bytes()[bits.offset() / 8..];
+    bytes[..bits.len() / 64 * 8].chunks_exact(8).map(eight_of)
+}
+
 /// Returns eight bytes as a little-endian number. It doesn't branch for fewer bytes, so that the
 /// compiler makes vectors of a loop.
 #[inline]

@@ -1,6 +1,6 @@
 //! Fills, negates, copies, combines, packs and unpacks windows, by words.
 
-use super::word::{eight_of, low, only_word, quick_words, words};
+use super::word::{byte_words, eight_of, low, only_word, quick_words, words};
 use crate::Bits;
 use crate::kernels::Operator;
 use crate::written::Written;
@@ -73,8 +73,7 @@ impl Source for Bits<'_> {
 
     #[inline]
     fn byte_words(self) -> impl ExactSizeIterator<Item = u64> {
-        let bytes = &self.bytes()[self.offset() / 8..];
-        bytes[..self.len() / 64 * 8].chunks_exact(8).map(eight_of)
+        byte_words(self)
     }
 
     #[inline]
@@ -279,7 +278,7 @@ pub(super) fn word_of<T: Copy>(values: &[T; 64], is_true: impl Fn(T) -> bool) ->
 }
 
 /// The same for fewer than 64 values.
-fn few<T: Copy>(values: &[T], is_true: impl Fn(T) -> bool) -> u64 {
+pub(super) fn few<T: Copy>(values: &[T], is_true: impl Fn(T) -> bool) -> u64 {
     let digits = values.iter().enumerate();
     digits.fold(0, |word, (at, &value)| {
         word | u64::from(is_true(value)) << at

@@ -1,9 +1,10 @@
 //! Which texts pass a test, compared with plain calls for each row.
 use std::collections::BTreeSet;
+use std::panic::{AssertUnwindSafe, catch_unwind};
 
 use vortex_bits::Bitmap;
 use vortex_bits::arrow::{Array, ArrowError, Export, StreamError, Texts};
-use vortex_bits::{Bits, values};
+use vortex_bits::{Bits, BitsMut, values};
 
 use crate::made::{Maker, rounds};
 use crate::raw::{self, Buffer, Count, import, import_as};
@@ -75,6 +76,72 @@ fn rows_that_pass_are_those_of_plain_calls() {
         passed += equal.count_ones();
     }
     assert!(passed > 1000, "{passed}");
+}
+
+/// Applies a call in place to a mask at each offset. It must equal `&` with a bitmap, and change no
+/// other bit.
+#[track_caller]
+fn in_place(mask: &Bitmap, passed: &Bitmap, call: impl Fn(BitsMut<'_>)) {
+    for offset in 0..=9 {
+        let size = (offset + mask.len()).div_ceil(8) + 1;
+        let (mut got, mut wanted) = (vec![0xA5; size], vec![0xA5; size]);
+        BitsMut::new(&mut got, offset, mask.len()).copy_from(mask.bits());
+        call(BitsMut::new(&mut got, offset, mask.len()));
+        let both = mask & passed;
+        BitsMut::new(&mut wanted, offset, mask.len()).copy_from(both.bits());
+        assert_eq!(got, wanted, "{} rows from bit {offset}", mask.len());
+    }
+}
+
+#[test]
+fn masks_in_place_are_those_of_both() {
+    let mut maker = Maker::new(24, false);
+    for _ in 0..rounds(300) {
+        maker.count = Count::default();
+        let array = some(&mut maker);
+        let texts = array.texts().unwrap();
+        let (text, few) = (maker.one_of(&ALL), maker.one_of(&[1, 2, 9, 70]));
+        let mask: Bitmap = (0..texts.len()).map(|_| maker.below(few) == 0).collect();
+        let set = &ALL[..maker.below(6)];
+        in_place(&mask, &texts.equals(text), |it| texts.and_equals(text, it));
+        in_place(&mask, &texts.less_than(text), |it| {
+            texts.and_less_than(text, it);
+        });
+        in_place(&mask, &texts.starts_with(text), |it| {
+            texts.and_starts_with(text, it);
+        });
+        in_place(&mask, &texts.ends_with(text), |it| {
+            texts.and_ends_with(text, it);
+        });
+        in_place(&mask, &texts.contains(text), |it| {
+            texts.and_contains(text, it);
+        });
+        in_place(&mask, &texts.is_in(set), |it| texts.and_is_in(set, it));
+    }
+    let names = Export::texts(["a", "b"], None).into_array();
+    let mut mask = Bitmap::new_set(3);
+    let call = || names.texts().unwrap().and_equals("a", mask.bits_mut());
+    assert!(catch_unwind(AssertUnwindSafe(call)).is_err());
+    assert!(mask.all());
+}
+
+#[test]
+fn starts_of_every_length_are_found() {
+    let text = b"https://example.org/a";
+    let rows: Vec<Vec<u8>> = (0..=text.len()).map(|len| text[..len].to_vec()).collect();
+    let valid = Bitmap::new_set(rows.len());
+    let array = binary(&rows, &valid);
+    let texts = array.texts().unwrap();
+    for len in 0..=text.len() {
+        let mut start = text[..len].to_vec();
+        let found = texts.starts_with(&start);
+        assert!(found.iter().eq((0..rows.len()).map(|row| row >= len)));
+        for place in 0..len {
+            start[place] ^= 1;
+            assert!(!texts.starts_with(&start).any(), "{len} {place}");
+            start[place] ^= 1;
+        }
+    }
 }
 
 /// Bytes of few kinds, often with an end of eight zeros or a start that others have: what a search

@@ -148,6 +148,23 @@ pub(super) fn write_ends<T: Offset>(
     }
 }
 
+/// Returns which of these rows pass the test, at most 64, as the lowest bits of a word.
+#[inline]
+pub(super) fn test<T: Offset>(
+    offsets: Unaligned<'_, T>,
+    rows: Range<usize>,
+    test: impl Fn(Range<usize>) -> bool,
+) -> u64 {
+    let behind = 64 - rows.len();
+    let mut start = offsets.get(rows.start).map_or(0, T::place);
+    let word = rows.fold(0, |word, row| {
+        let end = offsets.get(row + 1).map_or(start, T::place);
+        let range = mem::replace(&mut start, end)..end;
+        word >> 1 | u64::from(test(range)) << 63
+    });
+    word >> behind
+}
+
 /// Folds the ranges of these rows. The first of them begins at `start`.
 #[inline]
 pub(super) fn fold_rows<T: Offset, A>(

@@ -1,8 +1,12 @@
 //! Predicates over texts: bitmaps of the rows that pass.
 
+use super::row::{self, Row};
 use super::wanted::Wanted;
 use super::{Rows, Texts, viewed};
-use crate::{Bitmap, portable};
+use crate::Bitmap;
+use crate::arrow::ranges::each_set;
+use crate::portable::{low, only_word};
+use crate::written::Written;
 
 /// Predicates over the bytes of each row.
 ///
@@ -28,8 +32,7 @@ impl Texts<'_> {
     /// ```
     #[must_use]
     pub fn equals(&self, text: impl AsRef<[u8]>) -> Bitmap {
-        let text = text.as_ref();
-        self.test(|row| row == text)
+        self.test(row::equals(text.as_ref()))
     }
 
     /// Returns a bitmap of the rows that come before a text in the order of their bytes. For UTF-8
@@ -45,8 +48,7 @@ impl Texts<'_> {
     /// ```
     #[must_use]
     pub fn less_than(&self, text: impl AsRef<[u8]>) -> Bitmap {
-        let text = text.as_ref();
-        self.test(|row| row < text)
+        self.test(row::less_than(text.as_ref()))
     }
 
     /// Returns a bitmap of the rows that begin with these bytes, as `like 'b%'`.
@@ -61,8 +63,7 @@ impl Texts<'_> {
     /// ```
     #[must_use]
     pub fn starts_with(&self, start: impl AsRef<[u8]>) -> Bitmap {
-        let start = start.as_ref();
-        self.test(|row| row.starts_with(start))
+        self.test(row::starts_with(start.as_ref()))
     }
 
     /// Returns a bitmap of the rows that end with these bytes, as `like '%b'`.
@@ -77,8 +78,7 @@ impl Texts<'_> {
     /// ```
     #[must_use]
     pub fn ends_with(&self, end: impl AsRef<[u8]>) -> Bitmap {
-        let end = end.as_ref();
-        self.test(|row| row.ends_with(end))
+        self.test(row::ends_with(end.as_ref()))
     }
 
     /// Returns a bitmap of the rows that contain these bytes, as `like '%b%'`. For each row it
@@ -94,14 +94,12 @@ impl Texts<'_> {
     /// ```
     #[must_use]
     pub fn contains(&self, part: impl AsRef<[u8]>) -> Bitmap {
-        match part.as_ref() {
-            [] => self.test(|_| true),
-            [first, rest @ ..] => self.test(|row| row.len() > rest.len() && has(row, *first, rest)),
-        }
+        self.test(row::contains(part.as_ref()))
     }
 
     /// Returns a bitmap of the rows that are one of the texts, as `in ('a', 'c')`. It sorts the
-    /// texts once and then does a binary search for each row that is as long as one of them.
+    /// texts once. Among more than a few it then does a binary search for each row that is as long
+    /// as one of them.
     ///
     /// ```
     /// use vortex_bits::Bitmap;
@@ -120,45 +118,39 @@ impl Texts<'_> {
     /// Returns a bitmap of the valid rows that pass the test. It may call the test for null rows
     /// too.
     #[inline]
-    fn test(&self, mut test: impl FnMut(&[u8]) -> bool) -> Bitmap {
-        let mut passed = match &self.rows {
-            Rows::Joined(ranges, bytes) => ranges.test(|row| bytes.get(row).is_some_and(&mut test)),
-            Rows::Views(views, buffers) => Bitmap::make(views.len(), |mut out| {
-                out.fill_with(|row| viewed(&views[row], buffers).is_some_and(&mut test));
-            }),
-        };
-        if let Some(valid) = self.valid.bits() {
-            passed &= valid;
-        }
-        passed
+    fn test(&self, test: impl Fn(Row<'_>) -> bool) -> Bitmap {
+        Bitmap::make(self.len(), |mut out| {
+            self.write(&mut out.written(), |_, _, len| low(len), test);
+        })
     }
-}
 
-/// Returns whether the bytes contain `first` with `rest` after it. It looks for `first` in eight
-/// bytes at once.
-fn has(bytes: &[u8], first: u8, rest: &[u8]) -> bool {
-    let is_there = |place: usize| {
-        let found = bytes.get(place..).and_then(|behind| behind.split_first());
-        found.is_some_and(|(byte, behind)| *byte == first && behind.starts_with(rest))
-    };
-    let mut start = 0;
-    while start < bytes.len() {
-        let mut places = equal_to(portable::first_eight(&bytes[start..]), first);
-        while places != 0 {
-            if is_there(start + places.trailing_zeros() as usize / 8) {
-                return true;
-            }
-            places &= places - 1;
+    /// Writes which rows pass the test, of the valid rows of each word of bits that `selected`
+    /// returns for a window, the index of its first row, and the number of its rows. It may call
+    /// the test for others too.
+    #[inline]
+    pub(super) fn write(
+        &self,
+        out: &mut Written<'_>,
+        selected: impl Fn(&Written<'_>, usize, usize) -> u64,
+        test: impl Fn(Row<'_>) -> bool,
+    ) {
+        let valid = self.valid.bits();
+        for start in (0..self.len()).step_by(64) {
+            let len = (self.len() - start).min(64);
+            let valid = valid.map_or(u64::MAX, |valid| only_word(valid.part(start, len)));
+            let rows = selected(out, start, len) & valid;
+            let passed = match &self.rows {
+                _ if rows == 0 => 0,
+                Rows::Joined(ranges, bytes) => {
+                    let test = |range| test(Row::new(bytes, &range));
+                    ranges.test(start..start + len, rows, test)
+                }
+                Rows::Views(views, buffers) => each_set(rows, |row| {
+                    let row = viewed(&views[start + row], buffers);
+                    row.is_some_and(|row| test(Row::whole(row)))
+                }),
+            };
+            out.write(start, len, passed & rows);
         }
-        start += 8;
     }
-    false
-}
-
-/// Sets the highest bit of each byte of the word that equals `byte`, and of some bytes above it.
-#[inline]
-fn equal_to(word: u64, byte: u8) -> u64 {
-    const ONES: u64 = u64::from_ne_bytes([1; 8]);
-    let other = word ^ (ONES * u64::from(byte));
-    other.wrapping_sub(ONES) & !other & ONES << 7
 }

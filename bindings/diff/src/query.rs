@@ -1,0 +1,88 @@
+//! Steps of queries: two counts, members of a set, comparisons in place, and the first rows of an
+//! order, of the rows that a mask selects, and of all rows.
+
+use vortex_bits::{BitIndex, Bits, BitsMut, Comparison, values};
+
+use crate::ask::same;
+use crate::case::{Case, bit, put};
+use crate::plain;
+use crate::random::Random;
+
+fn is_selected(case: &Case, mask: Option<Bits<'_>>, row: usize) -> bool {
+    mask.is_none() || bit(&case.right, case.r + row)
+}
+
+/// The bits on the left by those on the right.
+fn counts(case: &Case) -> Result<u64, String> {
+    let (left, right) = (plain::bits(case.left()), plain::bits(case.right()));
+    let count = |with| {
+        (0..case.len)
+            .filter(|&i| left[i] && right[i] == with)
+            .count()
+    };
+    let wanted = (count(true), count(false));
+    same("split_count", case.left().split_count(case.right()), wanted)
+}
+
+/// Which values have a set bit on the left. Some aren't among the bits.
+fn members<I: BitIndex + Copy>(
+    case: &Case,
+    random: &mut Random,
+    of: impl Fn(i64) -> I,
+) -> Result<u64, String> {
+    let any = |_| random.below(case.len + 3) as i64 - 1;
+    let places: Vec<i64> = (0..case.len).map(any).collect();
+    let column: Vec<I> = places.iter().map(|&it| of(it)).collect();
+    let mut calls = 0;
+    for mask in [Some(case.right()), None] {
+        let is_in = |row: usize| {
+            let place = usize::try_from(places[row])
+                .ok()
+                .filter(|&it| it < case.len);
+            is_selected(case, mask, row) && place.is_some_and(|it| bit(&case.left, case.l + it))
+        };
+        let wanted: Vec<bool> = (0..case.len).map(is_in).collect();
+        let got = values::is_in(&column, case.left(), mask);
+        calls += same("is_in", plain::bits(got.bits()), wanted)?;
+    }
+    Ok(calls)
+}
+
+fn comparisons(case: &Case, random: &mut Random) -> Result<u64, String> {
+    let column: Vec<i32> = (0..case.len).map(|_| random.below(5) as i32 - 2).collect();
+    let number = random.below(5) as i32 - 2;
+    let (mut got, mut wanted) = (case.left.clone(), case.left.clone());
+    let out = BitsMut::new(&mut got, case.l, case.len);
+    values::and_compare(&column, Comparison::GreaterOrEqual, number, out);
+    for (row, value) in column.iter().enumerate() {
+        let holds = bit(&wanted, case.l + row) && *value >= number;
+        put(&mut wanted, case.l + row, holds);
+    }
+    same("and_compare", got, wanted)
+}
+
+fn orders(case: &Case, random: &mut Random) -> Result<u64, String> {
+    let most = if case.value { 9 } else { 1 << 20 };
+    let column: Vec<f64> = (0..case.len).map(|_| random.below(most) as f64).collect();
+    let mut calls = 0;
+    for mask in [Some(case.right()), None] {
+        let k = case.n % 40;
+        let mut rows: Vec<usize> = (0..case.len).collect();
+        rows.retain(|&row| is_selected(case, mask, row));
+        rows.sort_by(|&a, &b| column[a].total_cmp(&column[b]));
+        let first = |rows: &[usize]| rows[..rows.len().min(k)].to_vec();
+        let least = first(&rows);
+        rows.sort_by(|&a, &b| column[b].total_cmp(&column[a]).then(a.cmp(&b)));
+        calls += same("bottom_k", values::bottom_k(&column, k, mask), least)?
+            + same("top_k", values::top_k(&column, k, mask), first(&rows))?;
+    }
+    Ok(calls)
+}
+
+pub fn compare(case: &Case, random: &mut Random) -> Result<u64, String> {
+    Ok(counts(case)?
+        + members(case, random, |it| it)?
+        + members(case, random, |it| it as u32)?
+        + comparisons(case, random)?
+        + orders(case, random)?)
+}

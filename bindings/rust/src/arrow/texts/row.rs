@@ -1,0 +1,137 @@
+//! A row of texts, and tests of one.
+
+use core::ops::Range;
+
+use crate::portable::{first_eight, low};
+
+/// A row: a range of the bytes of a buffer. Most tests fail by its length, so nothing is read before
+/// that. Eight bytes are read at once, even behind the row, unless the buffer ends.
+#[derive(Clone, Copy)]
+pub(super) struct Row<'a> {
+    buffer: &'a [u8],
+    start: usize,
+    end: usize,
+}
+
+impl<'a> Row<'a> {
+    /// Returns the row in a range of a buffer. It has no bytes if the range isn't in bounds.
+    #[inline]
+    pub(super) fn new(buffer: &'a [u8], range: &Range<usize>) -> Row<'a> {
+        let (start, end) = (range.start, range.end);
+        Row { buffer, start, end }
+    }
+
+    /// Returns the row that has all of the bytes.
+    #[inline]
+    pub(super) fn whole(bytes: &'a [u8]) -> Row<'a> {
+        Row::new(bytes, &(0..bytes.len()))
+    }
+
+    /// Returns the number of bytes; an arbitrary one if the range isn't in bounds.
+    #[inline]
+    pub(super) fn len(self) -> usize {
+        self.end.wrapping_sub(self.start)
+    }
+
+    /// Returns the bytes; None if the range isn't in bounds.
+    #[inline]
+    pub(super) fn bytes(self) -> Option<&'a [u8]> {
+        self.buffer.get(self.start..self.end)
+    }
+
+    /// Returns the first eight bytes as a little-endian number, with others behind those that the
+    /// row has.
+    #[inline]
+    fn any_eight(self) -> u64 {
+        first_eight(self.buffer.get(self.start..).unwrap_or_default())
+    }
+
+    /// Returns the first eight bytes as a little-endian number. Those that the row doesn't have
+    /// are 0.
+    #[inline]
+    pub(super) fn first_eight(self) -> u64 {
+        /// The bits of each number of bytes.
+        const LOW: [u64; 9] = {
+            let mut low = [u64::MAX; 9];
+            let mut len = 0;
+            while len < 8 {
+                low[len] = (1 << (8 * len)) - 1;
+                len += 1;
+            }
+            low
+        };
+        self.any_eight() & LOW[self.len().min(8)]
+    }
+}
+
+/// Tests whether a row has exactly these bytes.
+#[inline]
+pub(super) fn equals(text: &[u8]) -> impl Fn(Row<'_>) -> bool {
+    move |row| row.len() == text.len() && row.bytes() == Some(text)
+}
+
+/// Tests whether a row comes before a text.
+#[inline]
+pub(super) fn less_than(text: &[u8]) -> impl Fn(Row<'_>) -> bool {
+    move |row| row.bytes().is_some_and(|row| row < text)
+}
+
+/// Tests whether a row begins with these bytes. It compares the first eight as a number.
+#[inline]
+pub(super) fn starts_with(start: &[u8]) -> impl Fn(Row<'_>) -> bool {
+    let (first, digits) = (first_eight(start), low(8 * start.len().min(8)));
+    move |row| {
+        row.len() >= start.len()
+            && (row.any_eight() ^ first) & digits == 0
+            && row
+                .bytes()
+                .is_some_and(|row| start.len() <= 8 || row.starts_with(start))
+    }
+}
+
+/// Tests whether a row ends with these bytes.
+#[inline]
+pub(super) fn ends_with(end: &[u8]) -> impl Fn(Row<'_>) -> bool {
+    move |row| row.len() >= end.len() && row.bytes().is_some_and(|row| row.ends_with(end))
+}
+
+/// Tests whether a row contains these bytes.
+#[inline]
+pub(super) fn contains(part: &[u8]) -> impl Fn(Row<'_>) -> bool {
+    move |row| match part {
+        [] => row.bytes().is_some(),
+        [first, rest @ ..] => {
+            let is_in = |row| has(row, *first, rest);
+            row.len() > rest.len() && row.bytes().is_some_and(is_in)
+        }
+    }
+}
+
+/// Returns whether the bytes contain `first` with `rest` after it. It looks for `first` in eight
+/// bytes at once.
+fn has(bytes: &[u8], first: u8, rest: &[u8]) -> bool {
+    let is_there = |place: usize| {
+        let found = bytes.get(place..).and_then(|behind| behind.split_first());
+        found.is_some_and(|(byte, behind)| *byte == first && behind.starts_with(rest))
+    };
+    let mut start = 0;
+    while start < bytes.len() {
+        let mut places = equal_to(first_eight(&bytes[start..]), first);
+        while places != 0 {
+            if is_there(start + places.trailing_zeros() as usize / 8) {
+                return true;
+            }
+            places &= places - 1;
+        }
+        start += 8;
+    }
+    false
+}
+
+/// Sets the highest bit of each byte of the word that equals `byte`, and of some bytes above it.
+#[inline]
+fn equal_to(word: u64, byte: u8) -> u64 {
+    const ONES: u64 = u64::from_ne_bytes([1; 8]);
+    let other = word ^ (ONES * u64::from(byte));
+    other.wrapping_sub(ONES) & !other & ONES << 7
+}

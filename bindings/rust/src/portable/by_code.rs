@@ -1,0 +1,71 @@
+//! Splits rows by their codes, eight at a time.
+
+use super::word::only_word;
+use crate::{BitIndex, Bits};
+
+/// Sets the bit of each selected row in the bitmap of its code. Each bitmap has `stride` bytes, all
+/// of whose bits from row `first` on are false. A mask has one bit per code. Returns the first
+/// selected row whose code has no bitmap, counted from 0, with arbitrary bits from row `first` on;
+/// None if there is none.
+pub fn split_by_code<I: BitIndex>(
+    bytes: &mut [u8],
+    stride: usize,
+    first: usize,
+    codes: &[I],
+    mask: Option<Bits<'_>>,
+) -> Option<usize> {
+    let selected = |start, len| match mask {
+        Some(mask) => only_word(mask.part(start, len)).to_le_bytes()[0],
+        None => u8::MAX,
+    };
+    let head = (first.wrapping_neg() % 8).min(codes.len());
+    let (before, rest) = codes.split_at(head);
+    let number = bytes.len().checked_div(stride).unwrap_or(0);
+    let mut bitmaps = Bitmaps {
+        bytes,
+        stride,
+        number,
+    };
+    let digit = first % 8;
+    let past = bitmaps.set(first / 8, before, selected(0, head), digit);
+    if past != 0 {
+        return Some(past.trailing_zeros() as usize);
+    }
+    for (i, eight) in rest.chunks(8).enumerate() {
+        let (row, byte) = (head + 8 * i, (first + head) / 8 + i);
+        let past = match eight.first_chunk::<8>() {
+            Some(eight) => bitmaps.set(byte, eight, selected(row, 8), 0),
+            None => bitmaps.set(byte, eight, selected(row, eight.len()), 0),
+        };
+        if past != 0 {
+            return Some(row + past.trailing_zeros() as usize);
+        }
+    }
+    None
+}
+
+/// Bitmaps of `stride` bytes each.
+struct Bitmaps<'a> {
+    bytes: &'a mut [u8],
+    stride: usize,
+    number: usize,
+}
+
+impl Bitmaps<'_> {
+    /// Sets the bits of up to eight rows whose bits are in one byte, from bit `digit` of byte `at`
+    /// of each bitmap on. Returns which selected rows have a code without a bitmap. It doesn't
+    /// branch by the mask, since that often can't be predicted.
+    #[inline]
+    fn set<I: BitIndex>(&mut self, at: usize, codes: &[I], selected: u8, digit: usize) -> u8 {
+        let mut past = 0;
+        for (row, code) in codes.iter().enumerate() {
+            let bit = selected & 1 << row;
+            let code = code.place().filter(|&code| code < self.number);
+            match code.and_then(|code| self.bytes.get_mut(code * self.stride + at)) {
+                Some(byte) => *byte |= bit << digit,
+                None => past |= bit,
+            }
+        }
+        past
+    }
+}

@@ -1,0 +1,146 @@
+//! The greatest or the least values of a column.
+
+use alloc::vec::Vec;
+
+use crate::{Compare, Mask, portable};
+
+/// The greatest or the least `k` values of a column that comes batch by batch, with their rows: an
+/// `order by` with a `limit`. Values are equal, above or below one another as Rust's operators say.
+/// Of equal values, such as 0.0 and -0.0, those of the first rows count. A NaN is never among them.
+///
+/// A batch allocates only if it has one of the first `k` values. Once there are `k`, a batch is
+/// read once, and most of its values are only compared with the last one of these.
+///
+/// ```
+/// use vortex_bits::{Bits, TopK};
+///
+/// let mut best = TopK::greatest(2);
+/// best.extend(&[0.5, 7.5, f64::NAN, 2.0], Bits::new(&[0b1101], 0, 4));
+/// best.extend(&[2.0, 9.0, 1.0], None::<Bits>);
+/// assert_eq!(best.rows(), [(9.0, 5), (2.0, 3)]);
+/// assert_eq!(best.into_rows().len(), 2);
+/// ```
+#[doc(alias("limit", "partial_sort", "select_k"))]
+#[derive(Clone, Debug)]
+pub struct TopK<T> {
+    k: usize,
+    order: Order,
+    /// The number of rows of all batches.
+    rows: usize,
+    /// At most `k` values with their rows, the best first.
+    best: Vec<(T, usize)>,
+}
+
+/// Which values come first.
+#[derive(Clone, Copy, Debug)]
+enum Order {
+    Greatest,
+    Least,
+}
+
+impl<T: Compare> TopK<T> {
+    /// Returns the greatest values of no rows, to find at most `k`. Does not allocate.
+    #[must_use]
+    pub const fn greatest(k: usize) -> TopK<T> {
+        TopK::new(k, Order::Greatest)
+    }
+
+    /// Returns the least values of no rows, to find at most `k`. Does not allocate.
+    ///
+    /// ```
+    /// use vortex_bits::{Bits, TopK};
+    ///
+    /// let mut best = TopK::least(3);
+    /// best.extend(&[4, 9, 1, 4], None::<Bits>);
+    /// assert_eq!(best.rows(), [(1, 2), (4, 0), (4, 3)]);
+    /// ```
+    #[must_use]
+    pub const fn least(k: usize) -> TopK<T> {
+        TopK::new(k, Order::Least)
+    }
+
+    const fn new(k: usize, order: Order) -> TopK<T> {
+        TopK {
+            k,
+            order,
+            rows: 0,
+            best: Vec::new(),
+        }
+    }
+
+    /// Adds the values of a batch that `mask` selects, all if it is None. Rows that it doesn't
+    /// select, such as nulls, are counted too: the first row of the next batch is the one after the
+    /// last value of this one.
+    ///
+    /// # Panics
+    ///
+    /// Panics if `mask` isn't as long as the values. Nothing is added then.
+    #[track_caller]
+    pub fn extend(&mut self, values: &[T], mask: impl Mask) {
+        let mask = mask.of_len(values.len());
+        let (best, limits) = (&mut self.best, (self.k, self.rows));
+        match self.order {
+            Order::Greatest => portable::keep_best(best, limits, values, mask, |a, b| a > b),
+            Order::Least => portable::keep_best(best, limits, values, mask, |a, b| a < b),
+        }
+        self.rows += values.len();
+    }
+
+    /// Returns the values with their rows, the best first.
+    #[must_use]
+    pub fn rows(&self) -> &[(T, usize)] {
+        &self.best
+    }
+
+    /// Returns the values with their rows, the best first.
+    #[must_use]
+    pub fn into_rows(self) -> Vec<(T, usize)> {
+        self.best
+    }
+}
+
+/// Returns the indices of the `k` greatest values that `mask` selects, the greatest first; of all
+/// values if it is None. There are fewer if fewer are selected. Of equal values the first ones
+/// count, and a NaN is never among them. [`TopK`] finds those of several batches.
+///
+/// ```
+/// use vortex_bits::{Bits, values};
+///
+/// let mask = Bits::new(&[0b1_1101], 0, 5);
+/// assert_eq!(values::top_k(&[4, 9, 7, 1, 7], 3, mask), [2, 4, 0]);
+/// ```
+///
+/// # Panics
+///
+/// Panics if `mask` isn't as long as the values.
+#[doc(alias("limit", "partial_sort", "sort_to_indices"))]
+#[must_use]
+#[track_caller]
+pub fn top_k<T: Compare>(values: &[T], k: usize, mask: impl Mask) -> Vec<usize> {
+    indices(TopK::greatest(k), values, mask)
+}
+
+/// Returns the indices of the `k` least values that `mask` selects, the least first, as [`top_k`]
+/// does.
+///
+/// ```
+/// use vortex_bits::{Bits, values};
+///
+/// assert_eq!(values::bottom_k(&[0.5, f32::NAN, -1.0, 0.25], 2, None::<Bits>), [2, 3]);
+/// ```
+///
+/// # Panics
+///
+/// Panics if `mask` isn't as long as the values.
+#[doc(alias("limit", "partial_sort", "sort_to_indices"))]
+#[must_use]
+#[track_caller]
+pub fn bottom_k<T: Compare>(values: &[T], k: usize, mask: impl Mask) -> Vec<usize> {
+    indices(TopK::least(k), values, mask)
+}
+
+#[track_caller]
+fn indices<T: Compare>(mut best: TopK<T>, values: &[T], mask: impl Mask) -> Vec<usize> {
+    best.extend(values, mask);
+    best.best.into_iter().map(|(_, row)| row).collect()
+}
