@@ -22,9 +22,9 @@
 //!
 //! The constructor of a window tests that it is in bounds of its bytes. Later calls panic, with a
 //! message, only for conditions that the constructor can't test: that two windows have the same
-//! length, or that an index is in bounds. Calls that return a `Bitmap` (bits with their bytes)
-//! allocate memory. So do calls that let one grow, write one with shared bytes, or make it
-//! `Ranked`.
+//! length, or that an index is in bounds. A call that returns a `Bitmap` (bits with their bytes),
+//! lets one grow, writes one with shared bytes, or makes it `Ranked` may allocate memory, and aborts
+//! if it runs out.
 //!
 //! # What is proved
 //!
@@ -37,8 +37,8 @@
 //! - single bits, other windows of at most 64, values at up to 16 indices, and types of values and
 //!   indices that [`Value`], [`Compare`], [`Summand`] and [`BitIndex`] exclude;
 //! - code that joins calls: `fill_with`, and the blocks that iterators fill;
-//! - sums, minimum and maximum without a mask; sums of floats by group, and groups by codes of 64
-//!   bits;
+//! - sums, minimum and maximum without a mask; the minimum and maximum of floats, and their sums by
+//!   group; groups by codes of 64 bits;
 //! - iterators over false bits and from the end, the building and growth of bitmaps, [`Validity`],
 //!   and `arrow`;
 //! - everything on other targets, under Miri, and if the archives of those functions are missing at
