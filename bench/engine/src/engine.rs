@@ -31,8 +31,8 @@ fn and_are_or_null(rows: &mut Bitmap, column: &Array, test: impl Fn(&Texts) -> B
 }
 
 /// Returns the rows that `loops::is_kept` selects. `a and not (b and c)` are the rows of `a` but for
-/// those where `b` is true or null, and of these `c`. So a mask of what is true is enough, and the
-/// tests of texts only read the rows that are left.
+/// those where `b` is true or null, and of these `c`. So a mask of what is true is enough, and no
+/// text is read of 64 rows of which none is left.
 pub fn kept(batch: &Array, limit: f64) -> Result<Bitmap> {
     let number = batch.column("number")?;
     let mut kept = are(&batch.column("price")?, Comparison::Greater, limit)?;
@@ -105,7 +105,7 @@ pub fn top(batches: &[Array], most: usize) -> Result<Vec<(f64, usize)>> {
     let mut best = TopK::greatest(most);
     for batch in batches {
         let price = batch.column("price")?;
-        best.extend(price.values()?, price.validity()?);
+        best.append(price.values()?, price.validity()?);
     }
     Ok(best.into_rows())
 }

@@ -77,6 +77,11 @@ impl Case {
         Bits::new(&self.left, self.l, self.len)
     }
 
+    /// Returns whether the mask, the window on the right if there is one, selects a row.
+    pub fn is_selected(&self, mask: Option<Bits<'_>>, row: usize) -> bool {
+        mask.is_none() || bit(&self.right, self.r + row)
+    }
+
     pub fn right(&self) -> Bits<'_> {
         Bits::new(&self.right, self.r, self.len)
     }

@@ -1,18 +1,14 @@
-//! Counts, sums, minimum, maximum and bitmaps by group, and sums, minimum and maximum of floats, of the rows that a mask
-//! selects, and of all rows.
+//! Counts, sums, minimum, maximum and bitmaps by group, and sums, minimum and maximum of floats, of
+//! the rows that a mask selects, and of all rows.
 
-use vortex_bits::{BitIndex, Bits, GroupError, values};
+use vortex_bits::{BitIndex, Bitmap, Bits, GroupError, values};
 
 use crate::ask::same;
-use crate::case::{Case, bit};
+use crate::case::Case;
 use crate::random::Random;
 
 /// The number of groups.
 const GROUPS: usize = 100;
-
-fn is_selected(case: &Case, mask: Option<Bits<'_>>, row: usize) -> bool {
-    mask.is_none() || bit(&case.right, case.r + row)
-}
 
 /// The counts and the sums of plain loops; or the first selected row without a group.
 fn plain(
@@ -22,7 +18,7 @@ fn plain(
     column: &[i64],
 ) -> Result<([u64; GROUPS], [i64; GROUPS]), usize> {
     let (mut counts, mut sums) = ([3; GROUPS], [5; GROUPS]);
-    for row in (0..case.len).filter(|&row| is_selected(case, mask, row)) {
+    for row in (0..case.len).filter(|&row| case.is_selected(mask, row)) {
         let group = usize::try_from(codes[row]).ok().filter(|&it| it < GROUPS);
         let group = group.ok_or(row)?;
         counts[group] += 1;
@@ -45,8 +41,11 @@ fn by_code<I: BitIndex>(
         Err(error) => return same("bitmaps_by_code", Some(row_of(error)), refused),
     };
     let mut calls = same("bitmaps_by_code", None, refused)?;
+    let rows = (0..case.len).filter(|&it| case.is_selected(mask, it));
+    let found: usize = got.iter().map(Bitmap::count_ones).sum();
+    calls += same("the rows of all bitmaps by code", found, rows.count())?;
     for (code, bitmap) in (0..).zip(&got).step_by(7) {
-        let rows = (0..case.len).filter(|&it| is_selected(case, mask, it) && wide[it] == code);
+        let rows = (0..case.len).filter(|&it| case.is_selected(mask, it) && wide[it] == code);
         let found: Vec<usize> = bitmap.set_indices().collect();
         calls += same("a bitmap by code", found, rows.collect::<Vec<usize>>())?;
     }
@@ -64,7 +63,7 @@ fn extremes<I: BitIndex>(
 ) -> Result<u64, String> {
     let [mut least, mut greatest] = [[Some(-7); GROUPS]; 2];
     let [mut min, mut max] = [least; 2];
-    let rows = (0..case.len).filter(|&row| refused.is_none() && is_selected(case, mask, row));
+    let rows = (0..case.len).filter(|&row| refused.is_none() && case.is_selected(mask, row));
     for row in rows {
         let group = usize::try_from(wide[row]).map_err(|it| it.to_string())?;
         min[group] = min[group].min(Some(column[row]));
@@ -125,7 +124,7 @@ macro_rules! floats {
             };
             let column: Vec<$float> = (0..$case.len).map(|_| any($random)).collect();
             for mask in [Some($case.right()), None] {
-                let rows = (0..$case.len).filter(|&row| is_selected($case, mask, row));
+                let rows = (0..$case.len).filter(|&row| $case.is_selected(mask, row));
                 let chosen: Vec<$float> = rows.map(|row| column[row]).collect();
                 let sum = chosen.iter().fold(0.0, |sum: $float, value| sum + value);
                 let numbers = || chosen.iter().copied().filter(|it| !it.is_nan());

@@ -58,7 +58,7 @@ fn operators(case: &Case, left: &[bool], right: &[bool]) -> Result<u64, String> 
 }
 
 // Written by tools/write-lists from tools/families/questions.txt.
-/// Questions about two windows, about a window and itself, and from an index on.
+/// Questions about two windows, and about a window and itself.
 fn questions(case: &Case, left: &[bool], right: &[bool]) -> Result<u64, String> {
     let mut calls = 0;
     let first = |list: Vec<bool>, from: usize| (from..list.len()).find(|&i| list[i]);

@@ -1,16 +1,12 @@
 //! Steps of queries: two counts, members of a set, comparisons in place, and the first rows of an
 //! order, of the rows that a mask selects, and of all rows.
 
-use vortex_bits::{BitIndex, Bits, BitsMut, Comparison, values};
+use vortex_bits::{BitIndex, BitsMut, Comparison, TopK, values};
 
 use crate::ask::same;
 use crate::case::{Case, bit, put};
 use crate::plain;
 use crate::random::Random;
-
-fn is_selected(case: &Case, mask: Option<Bits<'_>>, row: usize) -> bool {
-    mask.is_none() || bit(&case.right, case.r + row)
-}
 
 /// The bits on the left by those on the right.
 fn counts(case: &Case) -> Result<u64, String> {
@@ -39,11 +35,19 @@ fn members<I: BitIndex + Copy>(
             let place = usize::try_from(places[row])
                 .ok()
                 .filter(|&it| it < case.len);
-            is_selected(case, mask, row) && place.is_some_and(|it| bit(&case.left, case.l + it))
+            case.is_selected(mask, row) && place.is_some_and(|it| bit(&case.left, case.l + it))
         };
         let wanted: Vec<bool> = (0..case.len).map(is_in).collect();
         let got = values::is_in(&column, case.left(), mask);
         calls += same("is_in", plain::bits(got.bits()), wanted)?;
+        let mut into = case.right.clone();
+        let out = BitsMut::new(&mut into, case.r, case.len);
+        values::is_in_into(&column, case.left(), mask, out);
+        let mut put_one_by_one = case.right.clone();
+        for (row, is_in) in got.iter().enumerate() {
+            put(&mut put_one_by_one, case.r + row, is_in);
+        }
+        calls += same("is_in_into", into, put_one_by_one)?;
     }
     Ok(calls)
 }
@@ -66,15 +70,20 @@ fn orders(case: &Case, random: &mut Random) -> Result<u64, String> {
     let column: Vec<f64> = (0..case.len).map(|_| random.below(most) as f64).collect();
     let mut calls = 0;
     for mask in [Some(case.right()), None] {
-        let k = case.n % 40;
+        let k = if case.n % 8 == 0 { case.n } else { case.n % 40 };
         let mut rows: Vec<usize> = (0..case.len).collect();
-        rows.retain(|&row| is_selected(case, mask, row));
+        rows.retain(|&row| case.is_selected(mask, row));
         rows.sort_by(|&a, &b| column[a].total_cmp(&column[b]));
         let first = |rows: &[usize]| rows[..rows.len().min(k)].to_vec();
         let least = first(&rows);
         rows.sort_by(|&a, &b| column[b].total_cmp(&column[a]).then(a.cmp(&b)));
         calls += same("bottom_k", values::bottom_k(&column, k, mask), least)?
             + same("top_k", values::top_k(&column, k, mask), first(&rows))?;
+        let (mut best, mid) = (TopK::greatest(k), case.len / 3);
+        best.append(&column[..mid], mask.map(|it| it.slice(..mid)));
+        best.append(&column[mid..], mask.map(|it| it.slice(mid..)));
+        let found: Vec<usize> = best.rows().iter().map(|it| it.1).collect();
+        calls += same("TopK of two batches", found, first(&rows))?;
     }
     Ok(calls)
 }

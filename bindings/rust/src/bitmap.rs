@@ -9,6 +9,7 @@ mod write;
 
 use core::ops::RangeBounds;
 
+use crate::bytes::sealed::Grow as _;
 use crate::bytes::{AlignedBytes, SharedBytes};
 use crate::error::{BadIndex, OutOfBounds, expect};
 use crate::rank::Ranked;
@@ -296,7 +297,10 @@ impl Bitmap {
     /// assert_eq!(rows.first_unset(), Some(3));
     /// ```
     #[must_use]
-    pub fn into_owned(self) -> BitmapMut {
+    pub fn into_owned(mut self) -> BitmapMut {
+        if !self.bytes.is_owned() {
+            self.copy();
+        }
         Bitmap {
             bytes: self.bytes.into_owned(),
             offset: self.offset,

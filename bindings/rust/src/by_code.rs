@@ -2,10 +2,11 @@
 
 use alloc::vec::Vec;
 use core::fmt;
+use core::ops::Range;
 
 use crate::error::{GroupError, expect};
 use crate::group::{no_group, one_each};
-use crate::{AlignedBytes, BitIndex, Bitmap, Bits, Mask, SharedBytes, portable};
+use crate::{AlignedBytes, BitIndex, Bitmap, Bits, BitsMut, Mask, SharedBytes, portable};
 
 /// One bitmap per code of a dictionary column: bit `row` of bitmap `code` says whether the row has
 /// the code. It grows by batches, each of which is read once. All bitmaps are in one buffer.
@@ -44,7 +45,8 @@ impl BitmapsByCode {
     #[track_caller]
     pub fn with_capacity(codes: usize, rows: usize) -> BitmapsByCode {
         let stride = rows.div_ceil(8).next_multiple_of(ALIGNMENT);
-        let bits = codes.checked_mul(stride).and_then(|it| it.checked_mul(8));
+        let bits = stride.checked_mul(8);
+        let bits = bits.and_then(|it| it.checked_mul(codes.max(1)));
         assert!(bits.is_some(), "{codes} bitmaps of {rows} rows");
         BitmapsByCode {
             bytes: AlignedBytes::zeroed(codes * stride),
@@ -55,24 +57,28 @@ impl BitmapsByCode {
     }
 
     /// Returns the number of rows.
+    #[inline]
     #[must_use]
     pub const fn len(&self) -> usize {
         self.rows
     }
 
     /// Returns whether there are no rows.
+    #[inline]
     #[must_use]
     pub const fn is_empty(&self) -> bool {
         self.rows == 0
     }
 
     /// Returns the number of codes.
+    #[inline]
     #[must_use]
     pub const fn codes(&self) -> usize {
         self.codes
     }
 
     /// Returns the bitmap of a code; None if there is no such code.
+    #[inline]
     #[must_use]
     pub fn get(&self, code: usize) -> Option<Bits<'_>> {
         let bits = |code| Bits::new(&self.bytes, 8 * self.stride * code, self.rows);
@@ -124,7 +130,7 @@ impl BitmapsByCode {
         let (bytes, stride) = (&mut self.bytes, self.stride);
         let past = portable::split_by_code(bytes, stride, self.rows, codes, mask.mask());
         if let Some(row) = past {
-            self.clear_from(self.rows);
+            self.clear(self.rows..end);
             return Err(no_group(codes, row, self.codes));
         }
         self.rows = end;
@@ -144,7 +150,13 @@ impl BitmapsByCode {
     #[cold]
     #[track_caller]
     fn grow(&mut self, rows: usize) {
-        let rows = rows.max(self.stride.saturating_mul(16));
+        // Twice the capacity, unless only the rows themselves have room in a `usize`.
+        let twice = self.stride.saturating_mul(16);
+        let rows = if twice < usize::MAX / (8 * self.codes.max(1)) {
+            rows.max(twice)
+        } else {
+            rows
+        };
         let mut grown = BitmapsByCode::with_capacity(self.codes, rows);
         let used = self.rows.div_ceil(8);
         if used > 0 {
@@ -158,11 +170,11 @@ impl BitmapsByCode {
     }
 
     #[cold]
-    fn clear_from(&mut self, row: usize) {
+    fn clear(&mut self, rows: Range<usize>) {
         let capacity = 8 * self.stride;
         for code in 0..self.codes {
-            let mut bits = crate::BitsMut::new(&mut self.bytes, capacity * code, capacity);
-            bits.slice(row..).fill(false);
+            let mut bits = BitsMut::new(&mut self.bytes, capacity * code, capacity);
+            bits.slice(rows.clone()).fill(false);
         }
     }
 }
@@ -176,8 +188,8 @@ impl fmt::Debug for BitmapsByCode {
 
 /// Returns `number` bitmaps with a bit per row: bitmap `code` has the rows with this code that
 /// `mask` selects; all of them if it is None. Rows that it doesn't select, such as nulls, may have
-/// any number as their code. It reads the codes once. The bitmaps share one buffer.
-/// [`BitmapsByCode`] does it batch by batch.
+/// any number as their code. It reads the codes once. The bitmaps share one buffer, of a bit per row
+/// and code, rounded up to 64 bytes for each code. [`BitmapsByCode`] does it batch by batch.
 ///
 /// ```
 /// use vortex_bits::{Bitmap, Bits, values};
@@ -190,7 +202,7 @@ impl fmt::Debug for BitmapsByCode {
 ///
 /// # Panics
 ///
-/// Panics if [`try_bitmaps_by_code`] returns an error.
+/// Panics if [`try_bitmaps_by_code`] returns an error or panics.
 #[doc(alias("bitmap_index", "one_hot", "partition"))]
 #[must_use]
 #[track_caller]
@@ -210,6 +222,10 @@ pub fn bitmaps_by_code<I: BitIndex>(codes: &[I], number: usize, mask: impl Mask)
 ///
 /// Returns [`GroupError`] if `mask` doesn't have one bit per code, and with the first selected row
 /// whose code is negative or not below `number`.
+///
+/// # Panics
+///
+/// Panics if the bits of all codes are more than a `usize`.
 #[track_caller]
 pub fn try_bitmaps_by_code<I: BitIndex>(
     codes: &[I],

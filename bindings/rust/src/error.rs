@@ -143,7 +143,7 @@ fn no_validity(f: &mut fmt::Formatter<'_>, indices: usize, bits: usize) -> fmt::
     write!(f, "{indices} indices and {bits} bits of validity")
 }
 
-/// The error of counts and sums by group. The counts and sums are unchanged.
+/// The error of counts, sums, minima, maxima and bitmaps by group, which are then unchanged.
 #[derive(Clone, Copy, Debug, PartialEq, Eq, Hash)]
 #[non_exhaustive]
 pub enum GroupError {

@@ -8,8 +8,8 @@ use crate::{BitIndex, Compare, Mask, portable};
 /// whose code is its index. None is that of a group without values. If the mask is None, all rows
 /// are selected. Rows that it doesn't select may have any number as their code and their value.
 ///
-/// Values compare as Rust's operators say: a NaN is skipped, and of equal values, such as 0.0 and
-/// -0.0, the first one counts.
+/// Values compare as Rust's operators say: a NaN is skipped, also as a minimum that is given, and of
+/// equal values, such as 0.0 and -0.0, the first one counts.
 ///
 /// ```
 /// use vortex_bits::{Bits, values};

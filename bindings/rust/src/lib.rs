@@ -23,22 +23,23 @@
 //! The constructor of a window tests that it is in bounds of its bytes. Later calls panic, with a
 //! message, only for conditions that the constructor can't test: that two windows have the same
 //! length, or that an index is in bounds. A call that returns a `Bitmap` (bits with their bytes),
-//! lets one grow, writes one with shared bytes, or makes it `Ranked` may allocate memory, and aborts
-//! if it runs out.
+//! lets one grow, writes one with shared bytes, or makes it `Ranked` may allocate memory, and
+//! aborts if it runs out.
 //!
 //! # What is proved
 //!
 //! On x86-64 Linux, calls over more than 64 bits run C functions. They are proved in Rattle to meet
 //! their definitions at every offset and length, at the level x86-64-v2 or x86-64-v3, depending on
 //! the processor. Comparisons, packing, bits at indices and ranks run them at any length, values at
-//! indices and by group for more than 16 of them. The rest is Rust of this crate, which isn't
-//! proved, but tested against loops over single bits:
+//! indices, and counts and sums by group, for more than 16 of them. The rest is Rust of this crate,
+//! which isn't proved, but tested against loops over single bits:
 //!
 //! - single bits, other windows of at most 64, values at up to 16 indices, and types of values and
 //!   indices that [`Value`], [`Compare`], [`Summand`] and [`BitIndex`] exclude;
 //! - code that joins calls: `fill_with`, and the blocks that iterators fill;
 //! - sums, minimum and maximum without a mask; the minimum and maximum of floats, and their sums by
-//!   group; groups by codes of 64 bits;
+//!   group; groups by codes of 64 bits; minimum, maximum and bitmaps by group, members of a set, and
+//!   the first `k` values of an order;
 //! - iterators over false bits and from the end, the building and growth of bitmaps, [`Validity`],
 //!   and `arrow`;
 //! - everything on other targets, under Miri, and if the archives of those functions are missing at

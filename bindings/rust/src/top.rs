@@ -8,15 +8,18 @@ use crate::{Compare, Mask, portable};
 /// `order by` with a `limit`. Values are equal, above or below one another as Rust's operators say.
 /// Of equal values, such as 0.0 and -0.0, those of the first rows count. A NaN is never among them.
 ///
-/// A batch allocates only if it has one of the first `k` values. Once there are `k`, a batch is
-/// read once, and most of its values are only compared with the last one of these.
+/// A batch allocates only if it has one of the first `k` values: memory for at most `2 * k + 128`
+/// values with their rows, rounded up as a `Vec` does, and for a sort of them. Once there are `k`, a
+/// value that doesn't come before the last one of these is only compared with it. The others are
+/// sorted whenever there are `k` more, and at the end: a batch of `n` values takes on the order of
+/// `(n + k) * log(k)` comparisons, in whichever order they come.
 ///
 /// ```
 /// use vortex_bits::{Bits, TopK};
 ///
 /// let mut best = TopK::greatest(2);
-/// best.extend(&[0.5, 7.5, f64::NAN, 2.0], Bits::new(&[0b1101], 0, 4));
-/// best.extend(&[2.0, 9.0, 1.0], None::<Bits>);
+/// best.append(&[0.5, 7.5, f64::NAN, 2.0], Bits::new(&[0b1101], 0, 4));
+/// best.append(&[2.0, 9.0, 1.0], None::<Bits>);
 /// assert_eq!(best.rows(), [(9.0, 5), (2.0, 3)]);
 /// assert_eq!(best.into_rows().len(), 2);
 /// ```
@@ -51,7 +54,7 @@ impl<T: Compare> TopK<T> {
     /// use vortex_bits::{Bits, TopK};
     ///
     /// let mut best = TopK::least(3);
-    /// best.extend(&[4, 9, 1, 4], None::<Bits>);
+    /// best.append(&[4, 9, 1, 4], None::<Bits>);
     /// assert_eq!(best.rows(), [(1, 2), (4, 0), (4, 3)]);
     /// ```
     #[must_use]
@@ -74,16 +77,19 @@ impl<T: Compare> TopK<T> {
     ///
     /// # Panics
     ///
-    /// Panics if `mask` isn't as long as the values. Nothing is added then.
+    /// Panics if `mask` isn't as long as the values, or if the number of all rows isn't a `usize`.
+    /// Nothing is added then.
     #[track_caller]
-    pub fn extend(&mut self, values: &[T], mask: impl Mask) {
+    pub fn append(&mut self, values: &[T], mask: impl Mask) {
         let mask = mask.of_len(values.len());
+        let end = self.rows.checked_add(values.len());
+        let end = end.expect("the number of rows is a usize");
         let (best, limits) = (&mut self.best, (self.k, self.rows));
         match self.order {
             Order::Greatest => portable::keep_best(best, limits, values, mask, |a, b| a > b),
             Order::Least => portable::keep_best(best, limits, values, mask, |a, b| a < b),
         }
-        self.rows += values.len();
+        self.rows = end;
     }
 
     /// Returns the values with their rows, the best first.
@@ -141,6 +147,6 @@ pub fn bottom_k<T: Compare>(values: &[T], k: usize, mask: impl Mask) -> Vec<usiz
 
 #[track_caller]
 fn indices<T: Compare>(mut best: TopK<T>, values: &[T], mask: impl Mask) -> Vec<usize> {
-    best.extend(values, mask);
+    best.append(values, mask);
     best.best.into_iter().map(|(_, row)| row).collect()
 }

@@ -237,8 +237,8 @@ fn the_first_rows_of_an_order_are_those_of_a_sort() {
         let mid = random.below(rows.len + 1);
         let mut both = [TopK::greatest(k), TopK::least(k)];
         for (best, wanted) in both.iter_mut().zip([greatest, least]) {
-            best.extend(&column[..mid], rows.mask.map(|it| it.slice(..mid)));
-            best.extend(&column[mid..], rows.mask.map(|it| it.slice(mid..)));
+            best.append(&column[..mid], rows.mask.map(|it| it.slice(..mid)));
+            best.append(&column[mid..], rows.mask.map(|it| it.slice(mid..)));
             let found: Vec<usize> = best.rows().iter().map(|it| it.1).collect();
             assert_eq!(found, wanted, "{k} of {column:?} in two batches");
             let all = best.clone().into_rows();
@@ -249,10 +249,33 @@ fn the_first_rows_of_an_order_are_those_of_a_sort() {
         }
     });
     let mut best = TopK::least(3);
-    best.extend(&[5, 4], None::<Bits>);
-    assert!(panics(|| best.extend(&[1, 2], Bitmap::new_set(3))).is_some());
-    best.extend(&[1], None::<Bits>);
+    best.append(&[5, 4], None::<Bits>);
+    assert!(panics(|| best.append(&[1, 2], Bitmap::new_set(3))).is_some());
+    best.append(&[1], None::<Bits>);
     assert_eq!(best.rows(), [(1, 2), (4, 1), (5, 0)]);
+}
+
+/// In an ascending column each row comes before all rows above it. If each were inserted at once,
+/// `k` others would move, and this would take minutes.
+#[test]
+#[cfg(not(miri))]
+fn the_greatest_values_of_an_ascending_column_are_sorted_not_inserted() {
+    const ROWS: usize = 400_000;
+    let column: Vec<u64> = (0..ROWS as u64).collect();
+    for k in [1, 64, 10_000, ROWS / 2, usize::MAX] {
+        let wanted: Vec<usize> = (0..ROWS).rev().take(k).collect();
+        assert_eq!(values::top_k(&column, k, None::<Bits>), wanted, "{k}");
+    }
+    let mut batches = TopK::greatest(100);
+    for batch in column.chunks(1000) {
+        batches.append(batch, None::<Bits>);
+    }
+    let wanted: Vec<(u64, usize)> = (0..ROWS)
+        .rev()
+        .take(100)
+        .map(|it| (it as u64, it))
+        .collect();
+    assert_eq!(batches.rows(), wanted);
 }
 
 const CODES: usize = 5;
@@ -327,6 +350,22 @@ fn bitmaps_by_code_have_no_rows_or_no_codes() {
     let refused = values::try_bitmaps_by_code(&[0, 1], 2, Bitmap::new_set(3)).unwrap_err();
     assert_eq!(refused, GroupError::Mask { bits: 3, rows: 2 });
     assert!(panics(|| drop(BitmapsByCode::with_capacity(usize::MAX / 8, 9))).is_some());
+    let (codes, most) = ([0u8; 9], usize::MAX / 8);
+    let too_many = || drop(values::try_bitmaps_by_code(&codes, most, None::<Bits>));
+    assert!(panics(too_many).is_some());
+    assert!(panics(|| drop(BitmapsByCode::with_capacity(0, usize::MAX))).is_some());
+}
+
+/// The bitmaps share their bytes; one that is owned has those of its own rows.
+#[test]
+fn bitmaps_by_code_share_a_buffer_until_one_is_owned() {
+    let codes: Vec<usize> = (0..1000).map(|row| row % 50).collect();
+    let bitmaps = values::bitmaps_by_code(&codes, 50, None::<Bits>);
+    let place = |it: &Bitmap| it.clone().into_inner().as_ref().as_ptr();
+    assert!(bitmaps.iter().all(|it| place(it) == place(&bitmaps[0])));
+    let owned: Vec<BitmapMut> = bitmaps.iter().cloned().map(Bitmap::into_owned).collect();
+    assert!(owned.iter().zip(&bitmaps).all(|(one, other)| one == other));
+    assert!(owned.into_iter().all(|it| it.into_inner().len() <= 128));
 }
 
 #[test]
@@ -359,6 +398,10 @@ fn minimum_and_maximum_by_group_are_those_of_a_loop() {
     let refused = panics(|| values::group_min(&mut best, &[0, 2], &[1, 1], None::<Bits>));
     assert_eq!(refused.unwrap(), "code 2 of row 1 names none of 2 groups");
     assert_eq!(best, [Some(3); 2]);
+    // A NaN isn't the minimum of a group, even if it is given.
+    let mut nans = [Some(f64::NAN); 2];
+    values::group_min(&mut nans, &[0u8, 0, 0], &[f64::NAN, 2.0, 1.0], None::<Bits>);
+    assert!(nans[0] == Some(1.0) && nans[1].is_some_and(f64::is_nan));
     // Of equal values the first one.
     let mut zeros = [None];
     values::group_max(&mut zeros, &[0u8, 0], &[-0.0, 0.0], None::<Bits>);

@@ -117,7 +117,7 @@ impl Read {
 type Call = fn(&mut BitsMut<'_>, &Read);
 
 /// Each call that writes a window.
-const CALLS: [(&str, Call); 29] = [
+const CALLS: [(&str, Call); 31] = [
     ("fill", |out, _| out.fill(true)),
     ("unfill", |out, _| out.fill(false)),
     ("negate", |out, _| out.negate()),
@@ -155,6 +155,14 @@ const CALLS: [(&str, Call); 29] = [
         let (len, third) = (out.len(), out.len() / 3);
         out.copy_within(third.., 0);
         out.copy_within(..len - third, third);
+    }),
+    ("is_in_into", |out, it| {
+        let (values, mask) = (&it.indices[..out.len()], it.left(out.len()));
+        values::is_in_into(values, it.right(900), mask, whole(out));
+    }),
+    ("and_compare", |out, it| {
+        let values = &it.floats[..out.len()];
+        values::and_compare(values, Comparison::Less, 90.0, whole(out));
     }),
     ("filter_into", |out, it| {
         let mask = it.mask(out.len());

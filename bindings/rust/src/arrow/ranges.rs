@@ -72,17 +72,17 @@ impl<'a> Ranges<'a> {
     }
 
     /// Returns which of up to 64 rows pass the test, as the lowest bits of a word. The bits of rows
-    /// that `wanted` doesn't have, among the lowest bits too, are arbitrary.
+    /// that `wanted` doesn't have, among the lowest bits too, are arbitrary: if it has at least
+    /// `many` bits, the test is called for those rows too.
     #[inline]
     pub(super) fn test(
         self,
         rows: Range<usize>,
         wanted: u64,
+        many: u32,
         test: impl Fn(Range<usize>) -> bool,
     ) -> u64 {
-        /// For this number of rows a pass over all offsets is faster.
-        const MANY: u32 = 16;
-        if wanted.count_ones() < MANY {
+        if wanted.count_ones() < many {
             let is_passed = |row| self.get(rows.start + row).is_some_and(&test);
             return each_set(wanted, is_passed);
         }

@@ -23,7 +23,7 @@ impl<B: Grow> Bitmap<B> {
 
     #[cold]
     #[inline(never)]
-    fn copy(&mut self) {
+    pub(super) fn copy(&mut self) {
         let bits = self.bits();
         let mut bytes = AlignedBytes::zeroed(bits.len().div_ceil(8));
         BitsMut::new(&mut bytes, 0, bits.len()).copy_from(bits);

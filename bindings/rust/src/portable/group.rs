@@ -35,8 +35,8 @@ pub fn group_sums<V: GroupSummand, I: BitIndex>(
 }
 
 /// Replaces the best value of each group by the selected ones of it that are better. There is one
-/// value per code. A value that doesn't equal itself, such as a NaN, isn't better than any. Returns
-/// the same.
+/// value per code. A value that doesn't equal itself, such as a NaN, isn't better than any, and each
+/// other one is better than it. Returns the same.
 pub fn group_best<V: PartialOrd + Copy, I: BitIndex>(
     best: &mut [Option<V>],
     codes: &[I],
@@ -46,11 +46,14 @@ pub fn group_best<V: PartialOrd + Copy, I: BitIndex>(
 ) -> Option<usize> {
     let past = first_past(codes, mask, best.len());
     if past.is_none() {
+        let is_number = |it: &V| it.partial_cmp(it).is_some();
         add(best, (codes, values), mask, |best, value: V| {
-            let is_other = best.map_or(value.partial_cmp(&value).is_some(), |it| {
-                is_better(value, it)
-            });
-            if is_other { Some(value) } else { best }
+            let is_first = best.filter(is_number).is_none_or(|it| is_better(value, it));
+            if is_first && is_number(&value) {
+                Some(value)
+            } else {
+                best
+            }
         });
     }
     past

@@ -17,19 +17,32 @@ pub fn keep_best<T: PartialOrd + Copy>(
     mask: Option<Bits<'_>>,
     is_better: impl Fn(T, T) -> bool + Copy,
 ) {
+    /// The least number of values beyond `k` that it collects before it sorts them.
+    const SPARE: usize = 64;
     if k == 0 {
         return;
     }
+    let (most, before) = (k.saturating_add(k.max(SPARE)), best.len());
+    let mut last = best.get(k - 1).copied();
     for (i, values) in values.chunks(64).enumerate() {
         let mut left = mask.map_or(low(values.len()), |mask| word_at(mask, i));
-        if let Some(&(last, _)) = best.get(k - 1) {
+        if let Some((last, _)) = last {
             left &= better(values, |value| is_better(value, last));
         }
         while left != 0 {
             let row = left.trailing_zeros() as usize;
-            insert(best, k, (values[row], first + 64 * i + row), is_better);
+            if values[row].partial_cmp(&values[row]).is_some() {
+                best.push((values[row], first + 64 * i + row));
+            }
             left &= left - 1;
         }
+        if best.len() >= most {
+            sort(best, k, is_better);
+            last = best.get(k - 1).copied();
+        }
+    }
+    if best.len() > before {
+        sort(best, k, is_better);
     }
 }
 
@@ -49,21 +62,9 @@ fn better<T: Copy>(values: &[T], is_better: impl Fn(T) -> bool + Copy) -> u64 {
     }
 }
 
-/// Inserts a value behind those that are better or equal, and removes the last one if there are
-/// more than `k`.
-#[inline]
-fn insert<T: PartialOrd + Copy>(
-    best: &mut Vec<(T, usize)>,
-    k: usize,
-    (value, row): (T, usize),
-    is_better: impl Fn(T, T) -> bool,
-) {
-    if value.partial_cmp(&value).is_none() {
-        return;
-    }
-    let at = best.partition_point(|&(other, _)| !is_better(value, other));
-    if at < k {
-        best.truncate(k - 1);
-        best.insert(at, (value, row));
-    }
+/// Sorts the values, the best first, and removes those after the first `k`. The values come in the
+/// order of their rows, and the sort keeps it for equal ones.
+fn sort<T: Copy>(best: &mut Vec<(T, usize)>, k: usize, is_better: impl Fn(T, T) -> bool) {
+    best.sort_by(|&(one, _), &(other, _)| is_better(other, one).cmp(&is_better(one, other)));
+    best.truncate(k);
 }

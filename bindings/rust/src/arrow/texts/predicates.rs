@@ -8,6 +8,12 @@ use crate::arrow::ranges::each_set;
 use crate::portable::{low, only_word};
 use crate::written::Written;
 
+/// From this number of rows of 64 on, a pass over all offsets is faster with a test that takes
+/// about as long as finding the row.
+pub(super) const MANY: u32 = 16;
+/// The same with a test that may take longer: only rows that are left are tested.
+pub(super) const ALL: u32 = 64;
+
 /// Predicates over the bytes of each row.
 ///
 /// A null row passes none of them, so these masks are those of a `where`.
@@ -120,18 +126,19 @@ impl Texts<'_> {
     #[inline]
     fn test(&self, test: impl Fn(Row<'_>) -> bool) -> Bitmap {
         Bitmap::make(self.len(), |mut out| {
-            self.write(&mut out.written(), |_, _, len| low(len), test);
+            self.write(&mut out.written(), |_, _, len| low(len), MANY, test);
         })
     }
 
     /// Writes which rows pass the test, of the valid rows of each word of bits that `selected`
-    /// returns for a window, the index of its first row, and the number of its rows. It may call
-    /// the test for others too.
+    /// returns for a window, the index of its first row, and the number of its rows. If at least
+    /// `many` rows of a word are left, it may call the test for others too.
     #[inline]
     pub(super) fn write(
         &self,
         out: &mut Written<'_>,
         selected: impl Fn(&Written<'_>, usize, usize) -> u64,
+        many: u32,
         test: impl Fn(Row<'_>) -> bool,
     ) {
         let valid = self.valid.bits();
@@ -143,7 +150,7 @@ impl Texts<'_> {
                 _ if rows == 0 => 0,
                 Rows::Joined(ranges, bytes) => {
                     let test = |range| test(Row::new(bytes, &range));
-                    ranges.test(start..start + len, rows, test)
+                    ranges.test(start..start + len, rows, many, test)
                 }
                 Rows::Views(views, buffers) => each_set(rows, |row| {
                     let row = viewed(&views[start + row], buffers);

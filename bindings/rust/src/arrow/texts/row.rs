@@ -4,8 +4,8 @@ use core::ops::Range;
 
 use crate::portable::{first_eight, low};
 
-/// A row: a range of the bytes of a buffer. Most tests fail by its length, so nothing is read before
-/// that. Eight bytes are read at once, even behind the row, unless the buffer ends.
+/// A row: a range of the bytes of a buffer. Most tests fail by its length, so nothing is read
+/// before that. Eight bytes are read at once, even behind the row, unless the buffer ends.
 #[derive(Clone, Copy)]
 pub(super) struct Row<'a> {
     buffer: &'a [u8],
