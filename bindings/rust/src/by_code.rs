@@ -150,13 +150,10 @@ impl BitmapsByCode {
     #[cold]
     #[track_caller]
     fn grow(&mut self, rows: usize) {
-        // Twice the capacity, unless only the rows themselves have room in a `usize`.
-        let twice = self.stride.saturating_mul(16);
-        let rows = if twice < usize::MAX / (8 * self.codes.max(1)) {
-            rows.max(twice)
-        } else {
-            rows
-        };
+        // Twice the capacity, if its bits are a `usize`.
+        let most = usize::MAX / self.codes.max(1);
+        let twice = self.stride.checked_mul(16).filter(|&it| it <= most);
+        let rows = rows.max(twice.unwrap_or(0));
         let mut grown = BitmapsByCode::with_capacity(self.codes, rows);
         let used = self.rows.div_ceil(8);
         if used > 0 {

@@ -8,11 +8,9 @@ use crate::{Compare, Mask, portable};
 /// `order by` with a `limit`. Values are equal, above or below one another as Rust's operators say.
 /// Of equal values, such as 0.0 and -0.0, those of the first rows count. A NaN is never among them.
 ///
-/// A batch allocates only if it has one of the first `k` values: memory for at most `2 * k + 128`
-/// values with their rows, rounded up as a `Vec` does, and for a sort of them. Once there are `k`, a
-/// value that doesn't come before the last one of these is only compared with it. The others are
-/// sorted whenever there are `k` more, and at the end: a batch of `n` values takes on the order of
-/// `(n + k) * log(k)` comparisons, in whichever order they come.
+/// A batch allocates only if it has one of the first `k` values, and never holds more than a few
+/// times `k`. Once there are `k`, a value that doesn't come before the last one of these is only
+/// compared with it; the others are sorted whenever there are `k` more, and at the end.
 ///
 /// ```
 /// use vortex_bits::{Bits, TopK};
