@@ -307,9 +307,20 @@ impl Array {
     /// Returns [`ArrowError::Type`] if the array isn't a struct, and [`ArrowError::NoColumn`] if no
     /// column has the name.
     pub fn column(&self, name: &str) -> Result<Array, ArrowError> {
-        let mut columns = self.columns()?;
-        let found = columns.find(|column| column.field().name() == name);
-        found.ok_or_else(|| ArrowError::NoColumn { name: name.into() })
+        self.is_struct()?;
+        // The fields have the names of the children, in their order. They are often those of many
+        // batches, and so in the cache where the children aren't.
+        let place = self
+            .node
+            .field
+            .children
+            .iter()
+            .position(|it| it.name == name);
+        let child = place.and_then(|place| self.node.children.get(place));
+        match child {
+            Some(child) => Ok(self.rows_of(child)),
+            None => Err(ArrowError::NoColumn { name: name.into() }),
+        }
     }
 
     /// Returns the columns of a struct, in their order. Each has the rows of the struct.
@@ -318,10 +329,24 @@ impl Array {
     ///
     /// Returns [`ArrowError::Type`] if the array isn't a struct.
     pub fn columns(&self) -> Result<impl ExactSizeIterator<Item = Array> + '_, ArrowError> {
-        if self.node.field.layout != Layout::Struct {
-            return Err(self.is_not("that of a struct"));
-        }
+        self.is_struct()?;
         Ok(self.parts())
+    }
+
+    fn is_struct(&self) -> Result<(), ArrowError> {
+        match self.node.field.layout {
+            Layout::Struct => Ok(()),
+            _ => Err(self.is_not("that of a struct")),
+        }
+    }
+
+    /// Returns these rows of a child.
+    fn rows_of(&self, child: &Arc<Node>) -> Array {
+        Array {
+            node: Arc::clone(child),
+            start: child.offset + self.start,
+            len: self.len,
+        }
     }
 
     /// Returns the children: of a struct or a sparse union with these rows only, of other types
@@ -332,13 +357,10 @@ impl Array {
             layout => layout == Layout::Struct,
         };
         self.node.children.iter().map(move |child| {
-            if !has_rows {
-                return Array::whole(child);
-            }
-            Array {
-                node: Arc::clone(child),
-                start: child.offset + self.start,
-                len: self.len,
+            if has_rows {
+                self.rows_of(child)
+            } else {
+                Array::whole(child)
             }
         })
     }
