@@ -9,7 +9,7 @@ use core::ops::Range;
 
 use super::error::Fault;
 use super::primitive::Unaligned;
-pub(super) use offsets::Offset;
+pub(super) use offsets::{Offset, Spans};
 
 /// The range of each row, in the bytes of texts or in the items of lists.
 /// [`Array::ranges`](super::Array::ranges) returns it. The ranges ascend: each row begins at the
@@ -71,32 +71,24 @@ impl<'a> Ranges<'a> {
         self.span(row..row.checked_add(1)?)
     }
 
-    /// Returns which of up to 64 rows pass the test, as the lowest bits of a word. The bits of rows
-    /// that `wanted` doesn't have, among the lowest bits too, are arbitrary: if it has at least
-    /// `many` bits, the test is called for those rows too.
-    #[inline]
-    pub(super) fn test(
-        self,
-        rows: Range<usize>,
-        wanted: u64,
-        many: u32,
-        test: impl Fn(Range<usize>) -> bool,
-    ) -> u64 {
-        if wanted.count_ones() < many {
-            let is_passed = |row| self.get(rows.start + row).is_some_and(&test);
-            return each_set(wanted, is_passed);
-        }
-        match self.0 {
-            Offsets::Narrow(narrow) => offsets::test(narrow, rows, test),
-            Offsets::Wide(wide) => offsets::test(wide, rows, test),
-        }
-    }
-
     /// Returns the range from the start of the first row to the end of the last; None if a row
     /// doesn't exist, or the ranges have no offsets.
     #[inline]
     pub(super) fn span(&self, rows: Range<usize>) -> Option<Range<usize>> {
         Some(self.offset(rows.start)?..self.offset(rows.end)?)
+    }
+
+    /// Writes the spans of up to 64 rows, and returns the start of the first. It returns None if a
+    /// row doesn't exist, or the rows have more bytes or items than an `i32` can tell.
+    #[inline]
+    pub(super) fn write_spans(&self, rows: Range<usize>, out: &mut Spans) -> Option<usize> {
+        let all = self.span(rows.clone())?;
+        i32::try_from(all.len()).ok()?;
+        match self.0 {
+            Offsets::Narrow(offsets) => offsets::write_spans(offsets, rows, out),
+            Offsets::Wide(offsets) => offsets::write_spans(offsets, rows, out),
+        }
+        Some(all.start)
     }
 
     /// Writes the end offsets of these rows as if the first of them began at `start`, as numbers of

@@ -1,8 +1,11 @@
 //! The bytes of texts and binary values, row by row.
 
+mod block;
 mod in_place;
 mod predicates;
 mod row;
+mod search;
+mod test;
 mod wanted;
 
 use alloc::vec::Vec;

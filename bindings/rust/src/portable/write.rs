@@ -266,7 +266,7 @@ pub fn pack<T: Copy>(out: &mut Written<'_>, values: &[T], is_true: impl Fn(T) ->
 /// It multiplies eight bytes of 0 or 1 by a number that moves each of them to its bit of the
 /// highest byte.
 #[inline]
-pub(super) fn word_of<T: Copy>(values: &[T; 64], is_true: impl Fn(T) -> bool) -> u64 {
+pub fn word_of<T: Copy>(values: &[T; 64], is_true: impl Fn(T) -> bool) -> u64 {
     let bytes = values.map(|value| u8::from(is_true(value)));
     let mut packed = [0; 8];
     for (packed, eight) in packed.iter_mut().zip(bytes.chunks_exact(8)) {

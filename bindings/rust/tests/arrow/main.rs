@@ -1,4 +1,5 @@
 //! Arrays and streams of the Arrow C interfaces: made by hand, beside plain loops over single bits.
+mod blocks;
 mod cells;
 mod checker;
 mod dictionary;

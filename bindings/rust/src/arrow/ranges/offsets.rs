@@ -22,6 +22,9 @@ pub(in crate::arrow) trait Offset: Primitive + Into<i64> {
     /// Returns the offset as an index. The result is arbitrary if the offset is negative.
     fn place(self) -> usize;
 
+    /// Returns the lowest 32 bits.
+    fn low(self) -> u32;
+
     /// Returns a negative number if this offset is negative or below the one before it. The
     /// subtraction wraps, so the result may also be negative if one of the two is negative.
     fn goes_back(self, before: Self) -> Self;
@@ -63,6 +66,16 @@ macro_rules! offsets {
             fn place(self) -> usize {
                 let number = <$unsigned>::from_ne_bytes(self.to_ne_bytes());
                 usize::try_from(number).unwrap_or(usize::MAX)
+            }
+
+            #[allow(
+                clippy::cast_possible_truncation,
+                clippy::cast_sign_loss,
+                reason = "these are the lowest bits"
+            )]
+            #[inline]
+            fn low(self) -> u32 {
+                self as u32
             }
 
             #[inline]
@@ -148,21 +161,40 @@ pub(super) fn write_ends<T: Offset>(
     }
 }
 
-/// Returns which of these rows pass the test, at most 64, as the lowest bits of a word.
-#[inline]
-pub(super) fn test<T: Offset>(
+/// The start of each of 64 rows, counted from the start of the first, and its length. Lengths are
+/// loaded as they were stored: from starts and ends, a processor would have to wait for two stores.
+pub(in crate::arrow) struct Spans {
+    pub(in crate::arrow) starts: [u32; 64],
+    pub(in crate::arrow) lens: [u32; 64],
+}
+
+impl Default for Spans {
+    fn default() -> Self {
+        let (starts, lens) = ([0; 64], [0; 64]);
+        Spans { starts, lens }
+    }
+}
+
+/// Writes the spans of these rows, at most 64. Those behind them are empty. In a separate function
+/// the compiler sees that the written numbers overlap none that are read.
+#[inline(never)]
+pub(super) fn write_spans<T: Offset>(
     offsets: Unaligned<'_, T>,
     rows: Range<usize>,
-    test: impl Fn(Range<usize>) -> bool,
-) -> u64 {
-    let behind = 64 - rows.len();
-    let mut start = offsets.get(rows.start).map_or(0, T::place);
-    let word = rows.fold(0, |word, row| {
-        let end = offsets.get(row + 1).map_or(start, T::place);
-        let range = mem::replace(&mut start, end)..end;
-        word >> 1 | u64::from(test(range)) << 63
-    });
-    word >> behind
+    out: &mut Spans,
+) {
+    let (number, first) = (rows.len(), offsets.get(rows.start).unwrap_or(T::cut(0)));
+    let starts = numbers(offsets, rows.start..rows.end);
+    let ends = numbers(offsets, rows.start + 1..rows.end + 1);
+    let spans = out.starts.iter_mut().zip(&mut out.lens);
+    for ((own, len), (start, end)) in spans.zip(starts.zip(ends)) {
+        (*own, *len) = (start.minus(first).low(), end.minus(start).low());
+    }
+    if number < 64 {
+        let end = offsets.get(rows.end).unwrap_or(first);
+        out.starts[number..].fill(end.minus(first).low());
+        out.lens[number..].fill(0);
+    }
 }
 
 /// Folds the ranges of these rows. The first of them begins at `start`.

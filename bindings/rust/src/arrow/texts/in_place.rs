@@ -1,8 +1,7 @@
 //! Predicates over texts that write the mask of a `where` in place.
 
 use super::Texts;
-use super::predicates::{ALL, MANY};
-use super::row::{self, Row};
+use super::test::{Contains, EndsWith, Equals, LessThan, StartsWith, Test};
 use super::wanted::Wanted;
 use crate::BitsMut;
 use crate::bits_mut::alike;
@@ -31,7 +30,7 @@ impl Texts<'_> {
     /// ```
     #[track_caller]
     pub fn and_equals(&self, text: impl AsRef<[u8]>, mask: BitsMut<'_>) {
-        self.and_test(mask, MANY, row::equals(text.as_ref()));
+        self.and_test(mask, &Equals::new(text.as_ref()));
     }
 
     /// Unsets the bits of rows that don't come before a text in the order of their bytes.
@@ -48,7 +47,7 @@ impl Texts<'_> {
     /// ```
     #[track_caller]
     pub fn and_less_than(&self, text: impl AsRef<[u8]>, mask: BitsMut<'_>) {
-        self.and_test(mask, MANY, row::less_than(text.as_ref()));
+        self.and_test(mask, &LessThan::new(text.as_ref()));
     }
 
     /// Unsets the bits of rows that don't begin with these bytes.
@@ -65,7 +64,7 @@ impl Texts<'_> {
     /// ```
     #[track_caller]
     pub fn and_starts_with(&self, start: impl AsRef<[u8]>, mask: BitsMut<'_>) {
-        self.and_test(mask, MANY, row::starts_with(start.as_ref()));
+        self.and_test(mask, &StartsWith::new(start.as_ref()));
     }
 
     /// Unsets the bits of rows that don't end with these bytes.
@@ -82,7 +81,7 @@ impl Texts<'_> {
     /// ```
     #[track_caller]
     pub fn and_ends_with(&self, end: impl AsRef<[u8]>, mask: BitsMut<'_>) {
-        self.and_test(mask, MANY, row::ends_with(end.as_ref()));
+        self.and_test(mask, &EndsWith::new(end.as_ref()));
     }
 
     /// Unsets the bits of rows that don't contain these bytes.
@@ -99,7 +98,7 @@ impl Texts<'_> {
     /// ```
     #[track_caller]
     pub fn and_contains(&self, part: impl AsRef<[u8]>, mask: BitsMut<'_>) {
-        self.and_test(mask, ALL, row::contains(part.as_ref()));
+        self.and_test(mask, &Contains(part.as_ref()));
     }
 
     /// Unsets the bits of rows that are none of the texts.
@@ -116,15 +115,14 @@ impl Texts<'_> {
     /// ```
     #[track_caller]
     pub fn and_is_in(&self, texts: impl IntoIterator<Item = impl AsRef<[u8]>>, mask: BitsMut<'_>) {
-        let wanted = Wanted::new(texts);
-        self.and_test(mask, ALL, |row| wanted.has(row));
+        self.and_test(mask, &Wanted::new(texts));
     }
 
     #[inline]
     #[track_caller]
-    fn and_test(&self, mut mask: BitsMut<'_>, many: u32, test: impl Fn(Row<'_>) -> bool) {
+    fn and_test(&self, mut mask: BitsMut<'_>, test: &impl Test) {
         alike(mask.len(), self.len());
         let own = |mask: &Written<'_>, start, len| only_word(mask.as_bits().part(start, len));
-        self.write(&mut mask.written(), own, many, test);
+        self.write(&mut mask.written(), own, test);
     }
 }

@@ -1,18 +1,16 @@
 //! Predicates over texts: bitmaps of the rows that pass.
 
-use super::row::{self, Row};
+use core::ops::Range;
+
+use super::block::Block;
+use super::row::Row;
+use super::test::{Contains, EndsWith, Equals, LessThan, StartsWith, Test};
 use super::wanted::Wanted;
 use super::{Rows, Texts, viewed};
 use crate::Bitmap;
-use crate::arrow::ranges::each_set;
+use crate::arrow::ranges::{Ranges, Spans, each_set};
 use crate::portable::{low, only_word};
 use crate::written::Written;
-
-/// From this number of rows of 64 on, a pass over all offsets is faster with a test that takes
-/// about as long as finding the row.
-pub(super) const MANY: u32 = 16;
-/// The same with a test that may take longer: only rows that are left are tested.
-pub(super) const ALL: u32 = 64;
 
 /// Predicates over the bytes of each row.
 ///
@@ -38,7 +36,7 @@ impl Texts<'_> {
     /// ```
     #[must_use]
     pub fn equals(&self, text: impl AsRef<[u8]>) -> Bitmap {
-        self.test(row::equals(text.as_ref()))
+        self.test(&Equals::new(text.as_ref()))
     }
 
     /// Returns a bitmap of the rows that come before a text in the order of their bytes. For UTF-8
@@ -54,7 +52,7 @@ impl Texts<'_> {
     /// ```
     #[must_use]
     pub fn less_than(&self, text: impl AsRef<[u8]>) -> Bitmap {
-        self.test(row::less_than(text.as_ref()))
+        self.test(&LessThan::new(text.as_ref()))
     }
 
     /// Returns a bitmap of the rows that begin with these bytes, as `like 'b%'`.
@@ -69,7 +67,7 @@ impl Texts<'_> {
     /// ```
     #[must_use]
     pub fn starts_with(&self, start: impl AsRef<[u8]>) -> Bitmap {
-        self.test(row::starts_with(start.as_ref()))
+        self.test(&StartsWith::new(start.as_ref()))
     }
 
     /// Returns a bitmap of the rows that end with these bytes, as `like '%b'`.
@@ -84,7 +82,7 @@ impl Texts<'_> {
     /// ```
     #[must_use]
     pub fn ends_with(&self, end: impl AsRef<[u8]>) -> Bitmap {
-        self.test(row::ends_with(end.as_ref()))
+        self.test(&EndsWith::new(end.as_ref()))
     }
 
     /// Returns a bitmap of the rows that contain these bytes, as `like '%b%'`. For each row it
@@ -100,12 +98,12 @@ impl Texts<'_> {
     /// ```
     #[must_use]
     pub fn contains(&self, part: impl AsRef<[u8]>) -> Bitmap {
-        self.test(row::contains(part.as_ref()))
+        self.test(&Contains(part.as_ref()))
     }
 
     /// Returns a bitmap of the rows that are one of the texts, as `in ('a', 'c')`. It sorts the
-    /// texts once. Among more than a few it then does a binary search for each row that is as long
-    /// as one of them.
+    /// texts once. Among more than a few it then does a binary search for each row that may be one
+    /// of them by its length and its first eight bytes.
     ///
     /// ```
     /// use vortex_bits::Bitmap;
@@ -117,31 +115,27 @@ impl Texts<'_> {
     /// ```
     #[must_use]
     pub fn is_in(&self, texts: impl IntoIterator<Item = impl AsRef<[u8]>>) -> Bitmap {
-        let wanted = Wanted::new(texts);
-        self.test(|row| wanted.has(row))
+        self.test(&Wanted::new(texts))
     }
 
-    /// Returns a bitmap of the valid rows that pass the test. It may call the test for null rows
-    /// too.
+    /// Returns a bitmap of the valid rows that pass the test.
     #[inline]
-    fn test(&self, test: impl Fn(Row<'_>) -> bool) -> Bitmap {
+    fn test(&self, test: &impl Test) -> Bitmap {
         Bitmap::make(self.len(), |mut out| {
-            self.write(&mut out.written(), |_, _, len| low(len), MANY, test);
+            self.write(&mut out.written(), |_, _, len| low(len), test);
         })
     }
 
     /// Writes which rows pass the test, of the valid rows of each word of bits that `selected`
-    /// returns for a window, the index of its first row, and the number of its rows. If at least
-    /// `many` rows of a word are left, it may call the test for others too.
+    /// returns for a window, the index of its first row, and the number of its rows.
     #[inline]
     pub(super) fn write(
         &self,
         out: &mut Written<'_>,
         selected: impl Fn(&Written<'_>, usize, usize) -> u64,
-        many: u32,
-        test: impl Fn(Row<'_>) -> bool,
+        test: &impl Test,
     ) {
-        let valid = self.valid.bits();
+        let (valid, mut spans) = (self.valid.bits(), None);
         for start in (0..self.len()).step_by(64) {
             let len = (self.len() - start).min(64);
             let valid = valid.map_or(u64::MAX, |valid| only_word(valid.part(start, len)));
@@ -149,15 +143,38 @@ impl Texts<'_> {
             let passed = match &self.rows {
                 _ if rows == 0 => 0,
                 Rows::Joined(ranges, bytes) => {
-                    let test = |range| test(Row::new(bytes, &range));
-                    ranges.test(start..start + len, rows, many, test)
+                    let all = start..start + len;
+                    joined(*ranges, bytes, all, rows, test, &mut spans)
                 }
                 Rows::Views(views, buffers) => each_set(rows, |row| {
                     let row = viewed(&views[start + row], buffers);
-                    row.is_some_and(|row| test(Row::whole(row)))
+                    row.is_some_and(|row| test.of_row(Row::whole(row)))
                 }),
             };
             out.write(start, len, passed & rows);
         }
     }
+}
+
+/// Returns which rows of a buffer pass the test, of those of a range that `wanted` has. Other bits
+/// are arbitrary.
+#[inline]
+fn joined<T: Test>(
+    ranges: Ranges<'_>,
+    bytes: &[u8],
+    rows: Range<usize>,
+    wanted: u64,
+    test: &T,
+    spans: &mut Option<Spans>,
+) -> u64 {
+    let start = rows.start;
+    if wanted.count_ones() >= T::MANY {
+        if let Some(block) = Block::new(ranges, rows, bytes, spans.get_or_insert_default()) {
+            return test.of_block(block, wanted);
+        }
+    }
+    each_set(wanted, |row| {
+        let range = ranges.get(start + row);
+        range.is_some_and(|range| test.of_row(Row::new(bytes, &range)))
+    })
 }

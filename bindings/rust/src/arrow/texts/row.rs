@@ -2,7 +2,7 @@
 
 use core::ops::Range;
 
-use crate::portable::{first_eight, low};
+use crate::portable::first_eight;
 
 /// A row: a range of the bytes of a buffer. Most tests fail by its length, so nothing is read
 /// before that. Eight bytes are read at once, even behind the row, unless the buffer ends.
@@ -42,8 +42,8 @@ impl<'a> Row<'a> {
     /// Returns the first eight bytes as a little-endian number, with others behind those that the
     /// row has.
     #[inline]
-    fn any_eight(self) -> u64 {
-        first_eight(self.buffer.get(self.start..).unwrap_or_default())
+    pub(super) fn any_eight(self) -> u64 {
+        eight_at(self.buffer, self.start)
     }
 
     /// Returns the first eight bytes as a little-endian number. Those that the row doesn't have
@@ -64,41 +64,10 @@ impl<'a> Row<'a> {
     }
 }
 
-/// Tests whether a row has exactly these bytes.
-#[inline]
-pub(super) fn equals(text: &[u8]) -> impl Fn(Row<'_>) -> bool {
-    move |row| row.len() == text.len() && row.bytes() == Some(text)
-}
-
-/// Tests whether a row comes before a text.
-#[inline]
-pub(super) fn less_than(text: &[u8]) -> impl Fn(Row<'_>) -> bool {
-    move |row| row.bytes().is_some_and(|row| row < text)
-}
-
-/// Tests whether a row begins with these bytes. It compares the first eight as a number.
-#[inline]
-pub(super) fn starts_with(start: &[u8]) -> impl Fn(Row<'_>) -> bool {
-    let (first, digits) = (first_eight(start), low(8 * start.len().min(8)));
-    move |row| {
-        row.len() >= start.len()
-            && (row.any_eight() ^ first) & digits == 0
-            && row
-                .bytes()
-                .is_some_and(|row| start.len() <= 8 || row.starts_with(start))
-    }
-}
-
-/// Tests whether a row ends with these bytes.
-#[inline]
-pub(super) fn ends_with(end: &[u8]) -> impl Fn(Row<'_>) -> bool {
-    move |row| row.len() >= end.len() && row.bytes().is_some_and(|row| row.ends_with(end))
-}
-
 /// Tests whether a row contains these bytes.
 #[inline]
-pub(super) fn contains(part: &[u8]) -> impl Fn(Row<'_>) -> bool {
-    move |row| match part {
+pub(super) fn contains(part: &[u8], row: Row<'_>) -> bool {
+    match part {
         [] => row.bytes().is_some(),
         [first, rest @ ..] => {
             let is_in = |row| has(row, *first, rest);
@@ -134,4 +103,21 @@ fn equal_to(word: u64, byte: u8) -> u64 {
     const ONES: u64 = u64::from_ne_bytes([1; 8]);
     let other = word ^ (ONES * u64::from(byte));
     other.wrapping_sub(ONES) & !other & ONES << 7
+}
+
+/// Returns eight bytes from a place on as a little-endian number. Missing bytes are 0. It tests
+/// only the end of the eight, but for those at the end of the bytes.
+#[inline]
+pub(super) fn eight_at(bytes: &[u8], place: usize) -> u64 {
+    let eight = bytes.get(place..place.wrapping_add(8));
+    match eight.and_then(|eight| eight.first_chunk()) {
+        Some(eight) => u64::from_le_bytes(*eight),
+        None => last_of(bytes, place),
+    }
+}
+
+/// Returns the bytes from a place on, fewer than eight, as a number.
+#[cold]
+fn last_of(bytes: &[u8], place: usize) -> u64 {
+    first_eight(bytes.get(place..).unwrap_or_default())
 }

@@ -3,62 +3,103 @@
 use alloc::vec::Vec;
 use core::cmp::Ordering;
 
+use super::block::Block;
 use super::row::Row;
+use super::test::Test;
+use crate::arrow::ranges::each_set;
 use crate::portable::first_eight;
 
-/// Texts, each behind its first eight bytes as a number. They are in the order of these numbers,
-/// and of their bytes if two numbers are equal.
+/// Texts, each behind its key. They are in the order of these keys, and of their bytes if two keys
+/// are equal.
 pub(super) struct Wanted<T> {
     texts: Vec<(u64, T)>,
     /// The bits of the texts' lengths.
     lengths: u64,
-    /// The bits of their first eight bytes.
-    firsts: u64,
+    /// The bits of the high ends of their keys.
+    highs: u64,
+    /// The index of the first text with each high end that a key has, if there are few texts.
+    places: [u8; 64],
+    /// The length of the shortest, and how much longer the longest is.
+    shortest: u32,
+    longer: u32,
 }
+
+/// A loop over at most this number of texts is faster than a binary search.
+const FEW: usize = 16;
 
 impl<T: AsRef<[u8]>> Wanted<T> {
     pub(super) fn new(texts: impl IntoIterator<Item = T>) -> Self {
-        let texts = texts.into_iter();
-        let mut texts: Vec<_> = texts.map(|it| (first_eight(it.as_ref()), it)).collect();
-        texts.sort_unstable_by(|one, (first, other)| order(one, *first, other.as_ref()));
-        let bits = texts
-            .iter()
-            .map(|(_, text)| length_bit(text.as_ref().len()));
-        let lengths = bits.fold(0, |all, bit| all | bit);
-        let bits = texts.iter().map(|(first, _)| first_bit(*first));
-        let firsts = bits.fold(0, |all, bit| all | bit);
-        Wanted {
+        let keyed = |text: T| (key(first_eight(text.as_ref())), text);
+        let mut texts: Vec<_> = texts.into_iter().map(keyed).collect();
+        texts.sort_unstable_by(|one, (key, other)| order(one, *key, other.as_ref()));
+        let mut wanted = Wanted {
+            lengths: 0,
+            highs: 0,
+            places: [0; 64],
+            shortest: u32::MAX,
+            longer: 0,
             texts,
-            lengths,
-            firsts,
-        }
+        };
+        wanted.note();
+        wanted
     }
 
-    /// Returns whether the row is one of the texts. Most rows have the length of none, or differ
-    /// from each in the first eight bytes.
+    /// Sets what is known of all texts.
+    fn note(&mut self) {
+        let mut longest = 0;
+        for (place, (key, text)) in self.texts.iter().enumerate().rev() {
+            let len = text.as_ref().len();
+            self.lengths |= length_bit(len);
+            self.highs |= 1 << high(*key);
+            self.places[high(*key)] = place.to_le_bytes()[0];
+            let len = u32::try_from(len).unwrap_or(u32::MAX);
+            (self.shortest, longest) = (self.shortest.min(len), longest.max(len));
+        }
+        self.longer = longest.saturating_sub(self.shortest);
+    }
+
+    /// Returns whether a text may have the key.
     #[inline]
-    pub(super) fn has(&self, row: Row<'_>) -> bool {
-        if self.lengths & length_bit(row.len()) == 0 {
-            return false;
-        }
-        let first = row.first_eight();
-        if self.firsts & first_bit(first) == 0 {
-            return false;
-        }
-        row.bytes().is_some_and(|row| self.finds(first, row))
+    fn may_have(&self, key: u64) -> bool {
+        self.highs >> high(key) & 1 == 1
     }
 
     /// It is a separate function, so that loops over rows that it isn't called for stay small.
     #[inline(never)]
-    fn finds(&self, first: u64, row: &[u8]) -> bool {
-        /// A loop over at most this number of texts is faster than a binary search.
-        const FEW: usize = 16;
+    fn finds(&self, key: u64, row: &[u8]) -> bool {
         if self.texts.len() <= FEW {
-            let mut texts = self.texts.iter();
-            return texts.any(|(own, text)| *own == first && is(text.as_ref(), row));
+            let texts = &self.texts[usize::from(self.places[high(key)])..];
+            let mut texts = texts.iter().take_while(|(own, _)| *own <= key);
+            return texts.any(|(own, text)| *own == key && is(text.as_ref(), row));
         }
-        let found = self.texts.binary_search_by(|it| order(it, first, row));
+        let found = self.texts.binary_search_by(|it| order(it, key, row));
         found.is_ok()
+    }
+}
+
+impl<T: AsRef<[u8]>> Test for Wanted<T> {
+    const MANY: u32 = 16;
+
+    /// Most rows have the length of none of the texts, or differ from each in the first eight
+    /// bytes.
+    #[inline]
+    fn of_row(&self, row: Row<'_>) -> bool {
+        if self.lengths & length_bit(row.len()) == 0 {
+            return false;
+        }
+        let key = key(row.first_eight());
+        self.may_have(key) && row.bytes().is_some_and(|row| self.finds(key, row))
+    }
+
+    fn of_block(&self, block: Block<'_>, rows: u64) -> u64 {
+        let (shortest, longer) = (self.shortest, self.longer);
+        let fit = rows & block.lens_that(|len| len.wrapping_sub(shortest) <= longer);
+        let key = |row| key(block.row(row).first_eight());
+        let found = each_set(fit, |row| self.may_have(key(row)));
+        each_set(found, |row| {
+            let bytes = block.row(row).bytes();
+            bytes.is_some_and(|bytes| self.finds(key(row), bytes))
+        })
     }
 }
 
@@ -69,14 +110,21 @@ fn is(text: &[u8], row: &[u8]) -> bool {
 }
 
 #[inline]
-fn order<T: AsRef<[u8]>>((own, text): &(u64, T), first: u64, row: &[u8]) -> Ordering {
-    own.cmp(&first).then_with(|| text.as_ref().cmp(row))
+fn order<T: AsRef<[u8]>>((own, text): &(u64, T), key: u64, row: &[u8]) -> Ordering {
+    own.cmp(&key).then_with(|| text.as_ref().cmp(row))
 }
 
-/// Returns one of 64 bits, by a hash of the first eight bytes.
+/// Returns a number that only texts with the same first eight bytes have, from these as a number.
+/// Its high end depends on all of them.
 #[inline]
-fn first_bit(first: u64) -> u64 {
-    1 << (first.wrapping_mul(0x9E37_79B9_7F4A_7C15) >> 58)
+fn key(first: u64) -> u64 {
+    first.wrapping_mul(0x9E37_79B9_7F4A_7C15)
+}
+
+/// Returns the highest six bits of a key.
+#[inline]
+fn high(key: u64) -> usize {
+    (key >> 58) as usize
 }
 
 /// Returns the bit of a length. All lengths from 63 on have the last one.
