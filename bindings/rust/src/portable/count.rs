@@ -1,11 +1,79 @@
 //! Read-only calls on windows: counts, searches and comparisons.
 
-use super::word::{byte_words, first_eight, low, only_word, quick_words, word_at, words};
+use super::word::{byte_words, eight_of, first_eight, low, only_word, quick_words, word_at, words};
 use crate::Bits;
 use crate::kernels::Operator;
 
 fn ones(word: u64) -> usize {
     word.count_ones() as usize
+}
+
+/// The number of bytes of a block, which has eight pairs of words. The compiler makes a vector of
+/// each pair.
+const SIZE: usize = 8 * size_of::<[u64; 2]>();
+
+/// The number of set bits of blocks. It adds up words digit by digit, so that it counts the bits of
+/// one word in eight: without an instruction for that, the bits of a word take a dozen.
+#[derive(Default)]
+struct Tally {
+    /// For each bit of a pair the lowest three digits of the number of pairs in which it is set.
+    ones: [u64; 2],
+    twos: [u64; 2],
+    fours: [u64; 2],
+    /// The rest of these numbers, in sum, by eights.
+    eights: [u64; 2],
+}
+
+impl Tally {
+    /// Adds a block. `word` returns the word at an index.
+    #[inline]
+    fn add(&mut self, word: impl Fn(usize) -> u64) {
+        for at in 0..2 {
+            let (ones, twos_a) = sum(self.ones[at], word(at), word(2 + at));
+            let (ones, twos_b) = sum(ones, word(4 + at), word(6 + at));
+            let (twos, fours_a) = sum(self.twos[at], twos_a, twos_b);
+            let (ones, twos_a) = sum(ones, word(8 + at), word(10 + at));
+            let (ones, twos_b) = sum(ones, word(12 + at), word(14 + at));
+            let (twos, fours_b) = sum(twos, twos_a, twos_b);
+            let (fours, eights) = sum(self.fours[at], fours_a, fours_b);
+            (self.ones[at], self.twos[at], self.fours[at]) = (ones, twos, fours);
+            self.eights[at] += u64::from(eights.count_ones());
+        }
+    }
+
+    #[inline]
+    fn total(self) -> usize {
+        let count = |words: [u64; 2]| ones(words[0]) + ones(words[1]);
+        // It is at most an eighth of the number of bits, which is a `usize`.
+        let eights = usize::try_from(self.eights[0] + self.eights[1]).unwrap_or(0);
+        8 * eights + 4 * count(self.fours) + 2 * count(self.twos) + count(self.ones)
+    }
+}
+
+/// Adds three digits at each bit: returns the lower digit of each sum, and the higher one.
+#[inline]
+fn sum(a: u64, b: u64, c: u64) -> (u64, u64) {
+    let some = a ^ b;
+    (some ^ c, a & b | some & c)
+}
+
+/// Returns the word at an index of a block.
+#[inline]
+fn word_of(block: &[u8], at: usize) -> u64 {
+    eight_of(&block[8 * at..][..8])
+}
+
+/// Calls `add` for each pair of blocks of two windows of bytes. In a separate function, with the
+/// tallies in memory, the compiler finds the vectors.
+#[inline(never)]
+fn add_blocks<T>(
+    tallies: &mut T,
+    (left, right): (&[u8], &[u8]),
+    add: impl Fn(&mut T, &[u8], &[u8]),
+) {
+    for (left, right) in left.chunks_exact(SIZE).zip(right.chunks_exact(SIZE)) {
+        add(tallies, left, right);
+    }
 }
 
 /// Counts whole bytes between the first byte that begins in the window and the last one that ends
@@ -15,11 +83,25 @@ pub fn count_ones(bits: Bits<'_>) -> usize {
     let whole = (bits.len() - head) / 8;
     let tail = head + 8 * whole;
     let first = (bits.offset() + head) / 8;
-    let words = bits.bytes()[first..first + whole].chunks_exact(8);
-    let rest = first_eight(words.remainder());
     let ends = [(0, head), (tail, bits.len() - tail)];
     let ends = ends.map(|(start, len)| ones(only_word(bits.part(start, len))));
-    words.map(first_eight).map(ones).sum::<usize>() + ones(rest) + ends[0] + ends[1]
+    ones_of_bytes(&bits.bytes()[first..first + whole]) + ends[0] + ends[1]
+}
+
+/// Counts whole blocks, and then words.
+fn ones_of_bytes(bytes: &[u8]) -> usize {
+    let (blocks, rest) = bytes.split_at(bytes.len() / SIZE * SIZE);
+    let words = rest.chunks_exact(8);
+    let last = ones(first_eight(words.remainder()));
+    let rest = words.map(eight_of).map(ones).sum::<usize>() + last;
+    if blocks.is_empty() {
+        return rest;
+    }
+    let mut tally = Tally::default();
+    add_blocks(&mut tally, (blocks, blocks), |tally, block, _| {
+        tally.add(|at| word_of(block, at));
+    });
+    tally.total() + rest
 }
 
 pub fn select(bits: Bits<'_>, n: usize) -> Option<usize> {
@@ -169,7 +251,11 @@ pub fn combined_count(left: Bits<'_>, right: Bits<'_>, operator: Operator) -> us
 /// Returns the number of set bits after `of` combines the words of two windows. `of` returns 0 for
 /// two zero bits.
 fn count_by(left: Bits<'_>, right: Bits<'_>, of: impl Fn(u64, u64) -> u64) -> usize {
-    fold(left, right, 0, |count, left, right| {
+    let mut tally = Tally::default();
+    let (left, right) = after_blocks(left, right, &mut tally, |tally, left, right| {
+        tally.add(|at| of(word_of(left, at), word_of(right, at)));
+    });
+    fold(left, right, tally.total(), |count, left, right| {
         count + ones(of(left, right))
     })
 }
@@ -177,10 +263,35 @@ fn count_by(left: Bits<'_>, right: Bits<'_>, of: impl Fn(u64, u64) -> u64) -> us
 /// Returns the number of bits set in both, and the number of those set on the left alone, for
 /// windows of one length.
 pub fn split_count(left: Bits<'_>, right: Bits<'_>) -> (usize, usize) {
-    let (both, all) = fold(left, right, (0, 0), |(both, all), left, right| {
+    let mut tallies = (Tally::default(), Tally::default());
+    let (left, right) = after_blocks(left, right, &mut tallies, |(both, all), left, right| {
+        both.add(|at| word_of(left, at) & word_of(right, at));
+        all.add(|at| word_of(left, at));
+    });
+    let first = (tallies.0.total(), tallies.1.total());
+    let (both, all) = fold(left, right, first, |(both, all), left, right| {
         (both + ones(left & right), all + ones(left))
     });
     (both, all - both)
+}
+
+/// Adds the whole blocks of two windows of one length, if both begin at the first bit of a byte.
+/// Returns the windows of the other bits.
+#[inline]
+fn after_blocks<'a, T>(
+    left: Bits<'a>,
+    right: Bits<'a>,
+    tallies: &mut T,
+    add: impl Fn(&mut T, &[u8], &[u8]),
+) -> (Bits<'a>, Bits<'a>) {
+    let size = left.len() / 8 / SIZE * SIZE;
+    if size == 0 || left.offset() % 8 > 0 || right.offset() % 8 > 0 {
+        return (left, right);
+    }
+    let bytes = |bits: Bits<'a>| &bits.bytes()[bits.offset() / 8..][..size];
+    add_blocks(tallies, (bytes(left), bytes(right)), add);
+    let rest = |bits: Bits<'a>| bits.part(8 * size, bits.len() - 8 * size);
+    (rest(left), rest(right))
 }
 
 /// Folds the words of two windows of one length, in their order. Where both begin at the same bit
