@@ -3,6 +3,9 @@
 use crate::error::{TakeError, expect};
 use crate::{Bits, BitsMut, Mask, kernels};
 
+#[cfg(feature = "alloc")]
+use crate::portable;
+
 /// A type of indices: the twelve integer types. A negative index, or one above `usize::MAX`, is out
 /// of bounds. Plain Rust processes indices of 128 bits.
 #[diagnostic::on_unimplemented(
@@ -25,6 +28,9 @@ pub(crate) mod sealed {
 
         /// Returns the index itself; `i128::MAX` if it is above that.
         fn number(self) -> i128;
+
+        /// Returns whether any of the indices isn't below `len`.
+        fn any_past(indices: &[Self], len: usize) -> bool;
     }
 
     macro_rules! indices {
@@ -43,6 +49,18 @@ pub(crate) mod sealed {
                 #[inline]
                 fn number(self) -> i128 {
                     i128::try_from(self).unwrap_or(i128::MAX)
+                }
+
+                // The comparisons have the width of the indices and no branch, so that the compiler
+                // makes vectors of them.
+                #[inline]
+                fn any_past(indices: &[$index], len: usize) -> bool {
+                    let last = match len.checked_sub(1).map(<$index>::try_from) {
+                        Some(Ok(last)) => last,
+                        Some(Err(_)) => <$index>::MAX,
+                        None => return !indices.is_empty(),
+                    };
+                    indices.iter().fold(false, |any, it| any | !(0..=last).contains(it))
                 }
             }
         )*};
@@ -215,11 +233,7 @@ pub(crate) fn all_below<I: BitIndex>(
     len: usize,
     validity: Option<Bits<'_>>,
 ) -> Result<(), TakeError> {
-    let is_bad = |&position: &usize| {
-        let counts = validity.is_none_or(|valid| valid[position]);
-        counts && indices[position].place().is_none_or(|place| place >= len)
-    };
-    match (0..indices.len()).find(is_bad) {
+    match portable::first_past(indices, validity, len) {
         Some(position) => Err(refused(indices, position, len)),
         None => Ok(()),
     }

@@ -106,11 +106,14 @@ fn add<I: BitIndex, V: Copy, S: Copy>(
 
 /// Returns the first selected row whose code isn't below `groups`.
 #[inline]
-fn first_past<I: BitIndex>(codes: &[I], mask: Option<Bits<'_>>, groups: usize) -> Option<usize> {
+pub fn first_past<I: BitIndex>(
+    codes: &[I],
+    mask: Option<Bits<'_>>,
+    groups: usize,
+) -> Option<usize> {
     let is_past = |code: &I| code.place().is_none_or(|place| place >= groups);
     codes.chunks(64).enumerate().find_map(|(i, codes)| {
-        // Tests all codes without a branch, so that the compiler makes vectors of the loop.
-        if !codes.iter().fold(false, |any, code| any | is_past(code)) {
+        if !I::any_past(codes, groups) {
             return None;
         }
         let past = first_set(selected(mask, i, codes.len()), |row| is_past(&codes[row]));

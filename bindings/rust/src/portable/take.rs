@@ -16,10 +16,8 @@ pub fn take<I: BitIndex>(
 ) -> Option<usize> {
     for (i, indices) in indices.chunks(64).enumerate() {
         let counts = validity.map_or(u64::MAX, |validity| word_at(validity, i));
-        let is_past = |index: &I| index.place().is_none_or(|place| place >= bits.len());
         // Indices of nulls are often out of bounds.
-        let may_be_past =
-            validity.is_some() || indices.iter().fold(false, |any, it| any | is_past(it));
+        let may_be_past = validity.is_some() || I::any_past(indices, bits.len());
         let (word, past) = if may_be_past {
             some_past(bits, indices)
         } else {
