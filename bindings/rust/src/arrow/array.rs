@@ -307,20 +307,11 @@ impl Array {
     /// Returns [`ArrowError::Type`] if the array isn't a struct, and [`ArrowError::NoColumn`] if no
     /// column has the name.
     pub fn column(&self, name: &str) -> Result<Array, ArrowError> {
-        self.is_struct()?;
-        // The fields have the names of the children, in their order. They are often those of many
-        // batches, and so in the cache where the children aren't.
-        let place = self
-            .node
-            .field
-            .children
-            .iter()
-            .position(|it| it.name == name);
-        let child = place.and_then(|place| self.node.children.get(place));
-        match child {
-            Some(child) => Ok(self.rows_of(child)),
-            None => Err(ArrowError::NoColumn { name: name.into() }),
-        }
+        self.has_columns()?;
+        // The names are those of the field, so that only the node of this column is read.
+        let found = self.field().fields().position(|it| it.name == name);
+        let place = found.ok_or_else(|| ArrowError::NoColumn { name: name.into() })?;
+        Ok(self.part(place))
     }
 
     /// Returns the columns of a struct, in their order. Each has the rows of the struct.
@@ -329,40 +320,42 @@ impl Array {
     ///
     /// Returns [`ArrowError::Type`] if the array isn't a struct.
     pub fn columns(&self) -> Result<impl ExactSizeIterator<Item = Array> + '_, ArrowError> {
-        self.is_struct()?;
+        self.has_columns()?;
         Ok(self.parts())
     }
 
-    fn is_struct(&self) -> Result<(), ArrowError> {
+    fn has_columns(&self) -> Result<(), ArrowError> {
         match self.node.field.layout {
             Layout::Struct => Ok(()),
             _ => Err(self.is_not("that of a struct")),
         }
     }
 
-    /// Returns these rows of a child.
-    fn rows_of(&self, child: &Arc<Node>) -> Array {
+    /// Returns the children: of a struct or a sparse union with these rows only, of other types
+    /// whole.
+    pub(super) fn parts(&self) -> impl ExactSizeIterator<Item = Array> + '_ {
+        (0..self.node.children.len()).map(|place| self.part(place))
+    }
+
+    /// Returns the child at an index as [`parts`](Array::parts) does.
+    ///
+    /// # Panics
+    ///
+    /// Panics if there is no such child.
+    pub(super) fn part(&self, place: usize) -> Array {
+        let child = &self.node.children[place];
+        let has_rows = match self.node.field.layout {
+            Layout::Union { is_sparse, .. } => is_sparse,
+            layout => layout == Layout::Struct,
+        };
+        if !has_rows {
+            return Array::whole(child);
+        }
         Array {
             node: Arc::clone(child),
             start: child.offset + self.start,
             len: self.len,
         }
-    }
-
-    /// Returns the children: of a struct or a sparse union with these rows only, of other types
-    /// whole.
-    pub(super) fn parts(&self) -> impl ExactSizeIterator<Item = Array> + '_ {
-        let has_rows = match self.node.field.layout {
-            Layout::Union { is_sparse, .. } => is_sparse,
-            layout => layout == Layout::Struct,
-        };
-        self.node.children.iter().map(move |child| {
-            if has_rows {
-                self.rows_of(child)
-            } else {
-                Array::whole(child)
-            }
-        })
     }
 
     /// Returns the items of the dictionary; None if the values aren't indices of one. The index of

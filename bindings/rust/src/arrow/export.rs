@@ -27,6 +27,7 @@ use crate::Bitmap;
 use crate::error::expect;
 
 pub use growing::TextsMut;
+use select::Owners;
 
 /// The words for an array and for a field in an error.
 const OF_ARRAY: Between = Between {
@@ -138,7 +139,7 @@ impl Export {
         let held = Held {
             buffers: [&[validity], values].concat(),
             below: Below::new([]),
-            _kept: (Some(kept), valid),
+            _kept: (Some(kept), valid, None),
         };
         Export {
             array: held.array(len, Some(nulls), offset),
@@ -355,7 +356,11 @@ fn shared(node: &Arc<Node>, start: usize, len: usize) -> Owned<ArrowArray> {
     let held = Held {
         buffers: node.buffers.clone(),
         below,
-        _kept: (Some(Arc::clone(node) as Arc<dyn Any + Send + Sync>), None),
+        _kept: (
+            Some(Arc::clone(node) as Arc<dyn Any + Send + Sync>),
+            None,
+            None,
+        ),
     };
     held.array(len, node.nulls_of(len), start)
 }
@@ -388,8 +393,12 @@ fn from_bit(bits: Bitmap, place: usize) -> Bitmap {
 struct Held {
     buffers: Vec<*const c_void>,
     below: Below<ArrowArray>,
-    /// The owner of the values, and the validity.
-    _kept: (Option<Arc<dyn Any + Send + Sync>>, Option<Bitmap>),
+    /// The owner of the values, and the validity; or the owners of new rows.
+    _kept: (
+        Option<Arc<dyn Any + Send + Sync>>,
+        Option<Bitmap>,
+        Option<Owners>,
+    ),
 }
 
 impl Held {

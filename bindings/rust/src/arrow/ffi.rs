@@ -210,16 +210,21 @@ impl<S: Raw> Drop for Owned<S> {
 /// The structs below an exported one. Each is freed with it, and released unless a consumer took it
 /// over before.
 pub(super) struct Below<S: Raw> {
+    /// The addresses of the owned children.
     pub children: Vec<*mut S>,
     /// Null if there is none.
     pub dictionary: *mut S,
+    /// All children in one allocation, which stays where it is.
+    _owned: Vec<Owned<S>>,
 }
 
 impl<S: Raw> Below<S> {
     pub(super) fn new(children: impl IntoIterator<Item = Owned<S>>) -> Below<S> {
+        let mut owned: Vec<Owned<S>> = children.into_iter().collect();
         Below {
-            children: children.into_iter().map(Owned::boxed).collect(),
+            children: owned.iter_mut().map(Owned::as_mut_ptr).collect(),
             dictionary: ptr::null_mut(),
+            _owned: owned,
         }
     }
 
@@ -239,10 +244,8 @@ impl<S: Raw> Owned<S> {
 
 impl<S: Raw> Drop for Below<S> {
     fn drop(&mut self) {
-        for &raw in self.children.iter().chain([&self.dictionary]) {
-            // SAFETY: `Owned::boxed` returned it, and only this frees it.
-            unsafe { free(raw) };
-        }
+        // SAFETY: `Owned::boxed` returned it, and only this frees it.
+        unsafe { free(self.dictionary) };
     }
 }
 

@@ -23,6 +23,7 @@ use crate::arrow::field::Field;
 use crate::arrow::layout::{Layout, Of};
 use crate::bytes::AlignedBytes;
 use crate::{BitIndex, Bits, Mask};
+pub(super) use made::Owners;
 use made::{Made, Nulls};
 use rows::{Rows, Runs};
 
@@ -264,10 +265,7 @@ fn selected(field: &Field, of: &[Array], rows: Rows<'_>) -> Result<Owned<ArrowAr
     let made = match (field.layout, &field.dictionary) {
         (Layout::Bits, _) => Made::of([fixed::bits(field, of, rows)?]),
         (Layout::Fixed(..), Some(items)) => nested::coded(field, items, of, rows)?,
-        (Layout::Fixed(_, width), None) => {
-            let bytes: Vec<&[u8]> = of.iter().map(Array::value_bytes).collect();
-            Made::of([fixed::values(field, width, &bytes, rows)?])
-        }
+        (Layout::Fixed(_, width), None) => Made::of([fixed::own_values(field, width, of, rows)?]),
         (Layout::Ranges(width, Of::Bytes), _) => {
             variable::texts(field, width, of, rows, nulls.valid(rows.len()))?
         }
@@ -294,6 +292,19 @@ fn below(field: &Field, place: usize, error: ArrowError) -> ArrowError {
     match &field.name {
         name if name.is_empty() => error,
         name => error.under(name),
+    }
+}
+
+/// Returns the result of `call` for a part of each array. The part of a single array gets no `Vec`:
+/// a batch of few rows takes as long for its allocations as for the rows.
+fn with_each<'a, T, R>(
+    of: &'a [Array],
+    part: impl Fn(&'a Array) -> Result<T, ArrowError>,
+    call: impl FnOnce(&[T]) -> Result<R, ArrowError>,
+) -> Result<R, ArrowError> {
+    match of {
+        [one] => call(&[part(one)?]),
+        _ => call(&of.iter().map(part).collect::<Result<Vec<T>, _>>()?),
     }
 }
 

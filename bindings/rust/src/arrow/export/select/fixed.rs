@@ -1,9 +1,7 @@
 //! Selects rows of bits and of fixed-width values.
 
-use alloc::vec::Vec;
-
 use super::rows::{Rows, Run};
-use super::zeroed;
+use super::{with_each, zeroed};
 use crate::arrow::array::Array;
 use crate::arrow::error::ArrowError;
 use crate::arrow::field::Field;
@@ -12,21 +10,22 @@ use crate::bytes::AlignedBytes;
 use crate::{Bits, BitsMut, Validity, Value, values};
 
 /// Returns the validity of the rows and the number of nulls; None if all are valid.
-pub(super) fn validity(
+pub(super) fn validity<'a>(
     field: &Field,
-    of: &[Array],
+    of: &'a [Array],
     rows: Rows<'_>,
 ) -> Result<Option<(AlignedBytes, usize)>, ArrowError> {
-    let bits = of.iter().map(|it| it.validity().map(Validity::bits));
-    let bits = bits.collect::<Result<Vec<_>, _>>()?;
     // Null rows of a column that allows no null are below a null row, and may be anything.
     let has_nulls = rows.has_nulls() && field.is_nullable();
-    if !has_nulls && bits.iter().all(Option::is_none) {
-        return Ok(None);
-    }
-    let kept = kept_bits(field, &bits, rows, !has_nulls)?;
-    let nulls = Bits::new(&kept, 0, rows.len()).count_zeros();
-    Ok((nulls > 0).then_some((kept, nulls)))
+    let bits = |one: &'a Array| one.validity().map(Validity::bits);
+    with_each(of, bits, |bits| {
+        if !has_nulls && bits.iter().all(Option::is_none) {
+            return Ok(None);
+        }
+        let kept = kept_bits(field, bits, rows, !has_nulls)?;
+        let nulls = Bits::new(&kept, 0, rows.len()).count_zeros();
+        Ok((nulls > 0).then_some((kept, nulls)))
+    })
 }
 
 /// Selects the rows of truth values.
@@ -35,8 +34,8 @@ pub(super) fn bits(
     of: &[Array],
     rows: Rows<'_>,
 ) -> Result<AlignedBytes, ArrowError> {
-    let bits = of.iter().map(|it| it.bits().map(Some));
-    kept_bits(field, &bits.collect::<Result<Vec<_>, _>>()?, rows, false)
+    let kept = |bits: &[Option<Bits<'_>>]| kept_bits(field, bits, rows, false);
+    with_each(of, |one| one.bits().map(Some), kept)
 }
 
 /// Selects rows of bits. Rows of an array without bits are true, and null rows are `of_null`.
@@ -71,6 +70,17 @@ fn kept_bits(
         ),
     }
     Ok(bytes)
+}
+
+/// Selects rows of the arrays' own values of `width` bytes, or of their views.
+pub(super) fn own_values(
+    field: &Field,
+    width: usize,
+    of: &[Array],
+    rows: Rows<'_>,
+) -> Result<AlignedBytes, ArrowError> {
+    let kept = |bytes: &[&[u8]]| values(field, width, bytes, rows);
+    with_each(of, |one| Ok(one.value_bytes()), kept)
 }
 
 /// Selects rows of values of `width` bytes. Null rows are 0.

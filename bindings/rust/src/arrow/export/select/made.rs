@@ -34,11 +34,23 @@ impl Nulls {
     }
 }
 
+/// The greatest number of new buffers of a type, without that of the validity.
+const MOST: usize = 2;
+
+/// The owners of the buffers of new rows: of the validity, of the other new ones, and of those that
+/// `Made::shared` has.
+pub(in crate::arrow::export) type Owners = (
+    Option<AlignedBytes>,
+    [Option<AlignedBytes>; MOST],
+    Vec<AlignedBytes>,
+    Vec<Arc<Node>>,
+);
+
 /// The parts of new rows, except their validity.
 #[derive(Default)]
 pub(super) struct Made {
     /// New buffers, in their order.
-    pub buffers: Vec<AlignedBytes>,
+    buffers: [Option<AlignedBytes>; MOST],
     /// Buffers after the new ones, which `kept` and `nodes` own.
     pub shared: Vec<*const c_void>,
     pub kept: Vec<AlignedBytes>,
@@ -48,9 +60,11 @@ pub(super) struct Made {
 }
 
 impl Made {
-    pub(super) fn of(buffers: impl IntoIterator<Item = AlignedBytes>) -> Made {
+    pub(super) fn of<const N: usize>(new: [AlignedBytes; N]) -> Made {
+        const { assert!(N <= MOST) };
+        let mut new = new.into_iter();
         Made {
-            buffers: buffers.into_iter().collect(),
+            buffers: [(); MOST].map(|()| new.next()),
             ..Made::default()
         }
     }
@@ -60,23 +74,40 @@ impl Made {
     }
 
     /// Adds the selected rows of each child.
-    pub(super) fn children<'a>(
+    pub(super) fn children<'a, A: AsRef<[Array]>>(
         &mut self,
         field: &Field,
-        of: impl Fn(usize) -> Vec<Array>,
+        of: impl Fn(usize) -> A,
         rows: impl Fn(usize) -> Rows<'a>,
     ) -> Result<(), ArrowError> {
+        self.below.reserve_exact(field.children.len());
         for (place, child) in field.children.iter().enumerate() {
-            let made = selected(child, &of(place), rows(place));
+            let made = selected(child, of(place).as_ref(), rows(place));
             self.below
                 .push(made.map_err(|error| below(field, place, error))?);
         }
         Ok(())
     }
 
+    /// Adds the same rows of each child, for a struct or a sparse union.
+    pub(super) fn columns(
+        &mut self,
+        field: &Field,
+        of: &[Array],
+        rows: Rows<'_>,
+    ) -> Result<(), ArrowError> {
+        match of {
+            [one] => self.children(field, |place| [one.part(place)], |_| rows),
+            _ => {
+                let column = |place| of.iter().map(|it| it.part(place)).collect::<Vec<_>>();
+                self.children(field, column, |_| rows)
+            }
+        }
+    }
+
     /// Returns an array of `len` rows.
     pub(super) fn array(self, len: usize, nulls: Nulls) -> Owned<ArrowArray> {
-        let mut buffers: Vec<*const c_void> = Vec::new();
+        let mut buffers = Vec::with_capacity(1 + MOST + self.shared.len());
         let (number, valid) = match nulls {
             Nulls::Unmarked(number) => (number, None),
             Nulls::Marked(valid) => {
@@ -85,17 +116,21 @@ impl Made {
                 (number, valid)
             }
         };
-        buffers.extend(self.buffers.iter().map(|it| it.as_ptr().cast::<c_void>()));
+        let own = self.buffers.iter().flatten();
+        buffers.extend(own.map(|it| it.as_ptr().cast::<c_void>()));
         buffers.extend(self.shared);
         let mut below = Below::new(self.below);
         if let Some(dictionary) = self.dictionary {
             below.set_dictionary(dictionary);
         }
-        let kept = (valid, self.buffers, self.kept, self.nodes);
         let held = Held {
             buffers,
             below,
-            _kept: (Some(Arc::new(kept)), None),
+            _kept: (
+                None,
+                None,
+                Some((valid, self.buffers, self.kept, self.nodes)),
+            ),
         };
         held.array(len, Some(number), 0)
     }

@@ -16,9 +16,7 @@ use crate::arrow::node::Node;
 /// Selects rows of structs: the same rows of each column.
 pub(super) fn structs(field: &Field, of: &[Array], rows: Rows<'_>) -> Result<Made, ArrowError> {
     let mut made = Made::default();
-    let columns: Vec<Vec<Array>> = of.iter().map(|it| it.parts().collect()).collect();
-    let column = |place: usize| columns.iter().map(|it| it[place].clone()).collect();
-    made.children(field, column, |_| rows)?;
+    made.columns(field, of, rows)?;
     Ok(made)
 }
 
@@ -134,8 +132,7 @@ pub(super) fn coded(
         .first()
         .filter(|_| dictionaries.windows(2).all(is_same));
     if let Some(one) = one {
-        let bytes: Vec<&[u8]> = of.iter().map(Array::value_bytes).collect();
-        let mut made = Made::of([fixed::values(field, width, &bytes, rows)?]);
+        let mut made = Made::of([fixed::own_values(field, width, of, rows)?]);
         let Node { offset, len, .. } = *one.node;
         made.dictionary = Some(shared(&one.node, offset, len));
         // If there is no item, no row can name one.

@@ -63,9 +63,7 @@ pub(super) fn sparse(field: &Field, of: &[Array], rows: Rows<'_>) -> Result<Made
         rows.try_for_each(|(row, id)| ids.child(one, row, *id).map(drop))
     })?;
     let mut made = Made::of([types]);
-    let columns: Vec<Vec<Array>> = of.iter().map(|it| it.parts().collect()).collect();
-    let column = |place: usize| columns.iter().map(|it| it[place].clone()).collect();
-    made.children(field, column, |_| rows)?;
+    made.columns(field, of, rows)?;
     Ok(made)
 }
 

@@ -111,31 +111,29 @@ pub(super) fn long(field: &Field, mut ends: impl Iterator<Item = usize>) -> Arro
 /// Selects rows of views: the views, and the buffers of all arrays.
 pub(super) fn views(field: &Field, of: &[Array], rows: Rows<'_>) -> Result<Made, ArrowError> {
     let width = size_of::<View>();
-    let bytes: Vec<&[u8]> = of.iter().map(Array::value_bytes).collect();
     if let [one] = of {
-        let mut made = Made::of([fixed::values(field, width, &bytes, rows)?]);
+        let mut made = Made::of([fixed::own_values(field, width, of, rows)?]);
         made.shared.extend_from_slice(&one.node.buffers[2..]);
         made.keep(of);
         return Ok(made);
     }
-    let mut made = Made::default();
-    let (mut moved, mut sizes) = (Vec::new(), Vec::new());
+    let (mut moved, mut sizes, mut shared) = (Vec::new(), Vec::new(), Vec::new());
     for one in of {
         let before = sizes.len();
         moved.push(moved_views(field, one, before)?);
         for buffer in one.view_buffers()? {
-            made.shared.push(buffer.as_ptr().cast());
+            shared.push(buffer.as_ptr().cast());
             sizes.push(buffer.len());
         }
     }
     let moved: Vec<&[u8]> = moved.iter().map(Vec::as_slice).collect();
-    made.buffers
-        .push(fixed::values(field, width, &moved, rows)?);
+    let mut made = Made::of([fixed::values(field, width, &moved, rows)?]);
     let mut numbers = zeroed(field, sizes.len(), size_of::<i64>())?;
     for (place, size) in sizes.into_iter().enumerate() {
         put(&mut numbers, place, size_of::<i64>(), size);
     }
-    made.shared.push(numbers.as_ptr().cast::<c_void>());
+    shared.push(numbers.as_ptr().cast::<c_void>());
+    made.shared = shared;
     made.kept.push(numbers);
     made.keep(of);
     Ok(made)
