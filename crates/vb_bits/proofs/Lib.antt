@@ -11,6 +11,7 @@ pub mod WindowLemmas
 pub mod WrittenLemmas
 pub mod WordLemmas
 pub mod WritesLemmas
+pub mod PackedLemmas
 pub mod MasksLemmas
 pub mod OperatorsLemmas
 pub mod RunsLemmas

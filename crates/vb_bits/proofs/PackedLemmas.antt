@@ -19,13 +19,13 @@ with_false p i =
     let none : 0 * 2 ^ i ≡ 0 = omega arith in
     ap (λ x. bit_or p (x % 2 ^ 64)) none ∙ or_zero_r p
 
-digit_other : (p i : ℕ) (b : Bool) (j : ℕ)
+pub digit_other : (p i : ℕ) (b : Bool) (j : ℕ)
     → i < 64 → j < i → has_bit (with_digit p i b) j ≡ has_bit p j
 digit_other p i true j within h =
     ap (λ x. eqb x 1) (bit_at_set_other w64 p i within j (omega arith))
 digit_other p i false j within h = ap (λ x. has_bit x j) (with_false p i)
 
-digit_same : (p i : ℕ) (b : Bool) → i < 64 → p < 2 ^ i → has_bit (with_digit p i b) i ≡ b
+pub digit_same : (p i : ℕ) (b : Bool) → i < 64 → p < 2 ^ i → has_bit (with_digit p i b) i ≡ b
 digit_same p i true within small = ap (λ x. eqb x 1) (bit_at_set_same w64 p i within)
 digit_same p i false within small = ap (λ x. has_bit x i) (with_false p i)
     ∙ ap (λ x. eqb x 1) (bit_at_above p i i small (omega arith))

@@ -1,6 +1,7 @@
-//! Bits copied to the bytes of a window, also within one slice.
+//! Bits written to the bytes of a window: those of another one, also within one slice, or of a word.
 ghost use Rattle.std.specs.Prelude.{◌≡◌, ◌*◌, ◌≤◌, length};
 ghost use Rattle.vb_bits.specs.Bits.{bits};
+ghost use Rattle.vb_bits.specs.Digits.{digits};
 ghost use Rattle.vb_bits.specs.InBytes.{InBytes};
 ghost use Rattle.vb_bits.specs.Writes.{Writes};
 
@@ -17,6 +18,18 @@ pub fn copy_to_window(dst: &mut [u8], d: usize, src: &[u8], s: usize, len: usize
 {
     let end = (d + len).div_ceil(8);
     vb_bits::copy_bits(&mut dst[d / 8..end], d % 8, src, s, len);
+}
+
+/// Writes the `count` lowest digits of `word`, at most 64, to the bits of `dst` from bit `d` on.
+/// They must be in the bytes, and their end must fit in a `usize`. Every other bit of `dst` is
+/// unchanged, and only the bytes that have a bit of the window are stored.
+pub fn write_to_window(dst: &mut [u8], d: usize, count: usize, word: u64)
+    requires in_word { count ≤ 64 }
+    requires into { InBytes dst.old d count }
+    ensures { Writes dst.old dst.new d (digits word 0 count) }
+{
+    let end = (d + count).div_ceil(8);
+    vb_bits::write_digits(&mut dst[d / 8..end], d % 8, count, word);
 }
 
 /// The number of bits that [`move_to_window`] copies at once.

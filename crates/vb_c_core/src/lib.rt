@@ -6,6 +6,6 @@ mod copy;
 mod place;
 mod taken;
 
-pub use copy::{copy_to_window, move_to_window};
+pub use copy::{copy_to_window, move_to_window, write_to_window};
 pub use place::Place;
 pub use taken::Taken;

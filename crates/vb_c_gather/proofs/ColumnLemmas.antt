@@ -17,12 +17,10 @@ use Rattle.vb_c_gather.specs.Columns.{WritesColumn, column_at}
 
 -- a column is that of the view and the validity built from it
 pub column_of : (b : List ℕ) (o : ℕ) (all : Bool) (w : List ℕ) (v n : ℕ) (l : List Bool)
-    (m : Option (List Bool)) → l ≡ bits b o n → m ≡ validity_of all w (v + 0) n
+    (m : Option (List Bool)) → l ≡ bits b o n → m ≡ validity_of all w v n
     → truths l m ≡ column_at b o all w v n
 column_of b o all w v n l m values valid =
-    let here : v + 0 ≡ v = omega arith in
-    ap (λ k. truths k m) values ∙ ap (truths (bits b o n)) (valid
-    ∙ ap (λ k. validity_of all w k n) here)
+    ap (λ k. truths k m) values ∙ ap (truths (bits b o n)) valid
 
 -- the combination of two columns, by views of both
 pub columns_combined : {l r x y : List (Option Bool)} {b c d e : List ℕ} {t v : ℕ}

@@ -1,3 +1,2 @@
 mod ColumnLemmas
 mod FrontLemmas
-mod TakenBlocks

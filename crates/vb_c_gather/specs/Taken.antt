@@ -12,7 +12,3 @@ pub record TakesAt (l : List Bool) (indices : List ℤ) (validity : Option (List
   pub taken : answer.out_of_range ≡ false → IsTaken l indices validity (bits new o (length indices))
   pub past : answer.out_of_range ≡ true → IsFirstPast l indices validity answer.position
   pub others : Writes old new o (bits new o (length indices))
-
--- the same from bit 0 on
-abbrev pub Takes : List Bool → List ℤ → Option (List Bool) → List ℕ → List ℕ → Taken → Type 0
-Takes l indices validity old new answer = TakesAt l indices validity old new 0 answer

@@ -1,13 +1,14 @@
 //! Bits that a mask selects.
-ghost use Rattle.std.specs.Prelude.{◌≡◌};
+ghost use Rattle.std.specs.Prelude.{◌≡◌, ◌≤◌};
 ghost use Rattle.vb_bits.specs.Bits.{bits, count};
 ghost use Rattle.vb_bits.specs.InBytes.{InBytes};
 ghost use Rattle.vb_c_gather.specs.Filtered.{FiltersBitsAt, KeptFitsAt};
 ghost use Rattle.vb_c_core.specs.Fits.{DoneIf};
 
 use vb_bits::window_fits;
+use vb_c_core::write_to_window;
 use vb_count::count_ones_wide;
-use vb_filter::{filter_into, filter_into_at};
+use vb_filter::{filter_into, filter_into_at, filter_word};
 use vb_view::BitBufferView;
 
 /// Writes those of the `len` bits of `bytes` from bit `offset` on whose bit of `mask` from bit `m`
@@ -28,6 +29,9 @@ pub extern "C" fn vb_filter_bits(
     ensures { FiltersBitsAt (bits mask.now m len) (bits bytes.now offset len)
         out.old out.new o result }
 {
+    if len <= 64 {
+        return filter_few(out, o, bytes, offset, mask, m, len);
+    }
     let kept = count_ones_wide(mask, m, len);
     filter_at(out, o, kept, bytes, offset, mask, m, len)
 }
@@ -58,8 +62,36 @@ pub extern "C" fn vb_try_filter_bits(
     if !window_fits(out, o, kept) {
         return false;
     }
-    *written = filter_at(out, o, kept, bytes, offset, mask, m, len);
+    *written = if len <= 64 {
+        filter_few(out, o, bytes, offset, mask, m, len)
+    } else {
+        filter_at(out, o, kept, bytes, offset, mask, m, len)
+    };
     true
+}
+
+/// Does what [`vb_filter_bits`] does for at most 64 bits. The bits to write are counted in the word
+/// of the mask that selects them: a count before would read it twice.
+fn filter_few(
+    out: &mut [u8],
+    o: usize,
+    bytes: &[u8],
+    offset: usize,
+    mask: &[u8],
+    m: usize,
+    len: usize,
+) -> usize
+    requires few { len ≤ 64 }
+    requires window { InBytes bytes.now offset len }
+    requires mask { KeptFitsAt out.old o mask.now m len }
+    ensures { FiltersBitsAt (bits mask.now m len) (bits bytes.now offset len)
+        out.old out.new o result }
+{
+    let values = BitBufferView::new_with_offset(bytes, len, offset);
+    let mask = BitBufferView::new_with_offset(mask, len, m);
+    let (word, kept) = filter_word(values, mask);
+    write_to_window(out, o, kept, word);
+    kept
 }
 
 /// Does what [`vb_filter_bits`] does, if the mask selects `kept` bits. The kernel gets only the

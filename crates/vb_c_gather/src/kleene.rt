@@ -50,12 +50,11 @@ pub extern "C" fn vb_and_kleene(
         (column_at right.now r right_all_valid right_validity.now right_validity_offset len))
         trues.old trues.new t valid.old valid.new v }
 {
-    let left_valid = valid_part(left_all_valid, left_validity, left_validity_offset, 0, len);
+    let left_valid = valid_part(left_all_valid, left_validity, left_validity_offset, len);
     let right_valid = valid_part(
         right_all_valid,
         right_validity,
         right_validity_offset,
-        0,
         len,
     );
     let left = BitBufferView::new_with_offset(left, len, l);
@@ -158,12 +157,11 @@ pub extern "C" fn vb_or_kleene(
         (column_at right.now r right_all_valid right_validity.now right_validity_offset len))
         trues.old trues.new t valid.old valid.new v }
 {
-    let left_valid = valid_part(left_all_valid, left_validity, left_validity_offset, 0, len);
+    let left_valid = valid_part(left_all_valid, left_validity, left_validity_offset, len);
     let right_valid = valid_part(
         right_all_valid,
         right_validity,
         right_validity_offset,
-        0,
         len,
     );
     let left = BitBufferView::new_with_offset(left, len, l);

@@ -8,7 +8,6 @@
 //! good, and leaves everything unchanged if they aren't. No function allocates.
 #![tactic(auto)]
 
-mod block;
 pub mod deposit;
 pub mod filter;
 pub mod kleene;

@@ -7,15 +7,13 @@ ghost use Rattle.vb_bits.specs.InBytes.{InBytes};
 ghost use Rattle.vb_bits.specs.Writes.{Writes};
 ghost use Rattle.vb_c_core.specs.Fits.{DoneIf};
 ghost use Rattle.vb_c_core.specs.Validity.{HasValidity, validity_of};
-ghost use Rattle.vb_c_gather.specs.Taken.{Takes, TakesAt};
-ghost use Rattle.vb_take.specs.Takes.{IsTaken, IsFirstPast};
+ghost use Rattle.vb_c_gather.specs.Taken.{TakesAt};
 ghost use Rattle.vb_view.specs.View.{bits_of};
 
-use crate::block::COPIED_BITS;
-use vb_bits::{copy_bits, window_fits};
+use vb_bits::window_fits;
 use vb_c_core::Taken;
 use vb_core::BitIndex;
-use vb_take::take_into;
+use vb_take::take_into_at;
 use vb_view::BitBufferView;
 
 /// Takes (gathers) bits at indices of 8 bits: writes the bits at the indices of the window of `len`
@@ -263,99 +261,40 @@ fn take<I: BitIndex>(
 {
     let end = (o + indices.len()).div_ceil(8);
     let part = &mut out[o / 8..end];
-    take_within(part, o % 8, window, indices, all_valid, validity, v)
+    let valid = valid_part(all_valid, validity, v, indices.len());
+    take_from(part, o % 8, window, indices, valid)
 }
 
-/// Does [`take`], and may store any byte of `out`.
-fn take_within<I: BitIndex>(
+/// Does [`take`] with a view of the validity, and may store any byte of `out`.
+fn take_from<I: BitIndex>(
     out: &mut [u8],
     o: usize,
     window: BitBufferView<'_>,
     indices: &[I],
-    all_valid: bool,
-    validity: &[u8],
-    v: usize,
-) -> Taken
-    requires room { InBytes out.old o (length indices.now) }
-    requires validity { HasValidity all_valid validity.now v (length indices.now) }
-    ensures { TakesAt (bits_of window.entry) (map I.number indices.now)
-        (validity_of all_valid validity.now v (length indices.now)) out.old out.new o result }
-{
-    if o == 0 {
-        let valid = valid_part(all_valid, validity, v, 0, indices.len());
-        return take_to_front(out, window, indices, valid);
-    }
-    take_by_blocks(out, o, window, indices, all_valid, validity, v)
-        .err()
-        .into()
-}
-
-/// Does [`take`] at bit 0, and may store any byte of `out`.
-fn take_to_front<I: BitIndex>(
-    out: &mut [u8],
-    window: BitBufferView<'_>,
-    indices: &[I],
     validity: Option<BitBufferView<'_>>,
 ) -> Taken
-    requires room { length indices.now ≤ 8 * length out.old }
+    requires room { InBytes out.old o (length indices.now) }
     requires validity { ForSome validity (λ v. length (bits_of v) ≡ length indices.now) }
-    ensures { Takes (bits_of window.entry) (map I.number indices.now)
-        (option_map bits_of validity.entry) out.old out.new result }
+    ensures { TakesAt (bits_of window.entry) (map I.number indices.now)
+        (option_map bits_of validity.entry) out.old out.new o result }
 {
-    take_into(out, window, indices, validity).err().into()
+    take_into_at(out, o, window, indices, validity).err().into()
 }
 
-/// Returns the validity of `n` positions from `start` on; `None` if each position counts.
+/// Returns the validity of `n` positions; `None` if each counts.
 pub(crate) fn valid_part(
     all_valid: bool,
     validity: &[u8],
     v: usize,
-    start: usize,
     n: usize,
 ) -> Option<BitBufferView<'_>>
-    requires { HasValidity all_valid validity.now v (start + n) }
-    ensures valid { option_map bits_of result
-        ≡ validity_of all_valid validity.now (v + start) n }
+    requires { HasValidity all_valid validity.now v n }
+    ensures valid { option_map bits_of result ≡ validity_of all_valid validity.now v n }
     ensures len { ForSome result (λ view. length (bits_of view) ≡ n) }
 {
     if all_valid {
         None
     } else {
-        Some(BitBufferView::new_with_offset(validity, n, v + start))
+        Some(BitBufferView::new_with_offset(validity, n, v))
     }
-}
-
-/// Does [`take`], a block of the indices at a time. Returns `Err(k)` for the first position `k`
-/// that takes no bit.
-fn take_by_blocks<I: BitIndex>(
-    out: &mut [u8],
-    o: usize,
-    window: BitBufferView<'_>,
-    indices: &[I],
-    all_valid: bool,
-    validity: &[u8],
-    v: usize,
-) -> Result<(), usize>
-    requires room { InBytes out.old o (length indices.now) }
-    requires validity { HasValidity all_valid validity.now v (length indices.now) }
-    ensures taken { IfOk result (λ _. IsTaken (bits_of window.entry) (map I.number indices.now)
-        (validity_of all_valid validity.now v (length indices.now))
-        (bits out.new o (length indices.now))) }
-    ensures past { IfErr result (λ p. IsFirstPast (bits_of window.entry)
-        (map I.number indices.now)
-        (validity_of all_valid validity.now v (length indices.now)) p) }
-    ensures others { Writes out.old out.new o (bits out.new o (length indices.now)) }
-{
-    let mut made = [0u8; COPIED_BITS / 8];
-    let mut done = 0;
-    while done < indices.len() {
-        let n = (indices.len() - done).min(COPIED_BITS);
-        let valid = valid_part(all_valid, validity, v, done, n);
-        if let Err(position) = take_into(&mut made, window, &indices[done..done + n], valid) {
-            return Err(done + position);
-        }
-        copy_bits(out, o + done, &made, 0, n);
-        done += n;
-    }
-    Ok(())
 }

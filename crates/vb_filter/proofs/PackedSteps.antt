@@ -13,7 +13,7 @@ use Rattle.std.specs.Int.{bit_at, trailing_zeros, w64}
 use Rattle.std.specs.Int.Bits.{bit_and, bit_or, bit_xor, or_zero_r}
 use Rattle.vb_bits.specs.Bits.{count}
 use Rattle.vb_bits.specs.Digits.{digits, has_bit}
-use Rattle.vb_pack.proofs.PackedLemmas.{with_digit, digits_packed, packed_below}
+use Rattle.vb_bits.proofs.PackedLemmas.{with_digit, digits_packed, packed_below}
 use Rattle.vb_walk.proofs.OnesLemmas.{lowest_off}
 use Rattle.vb_filter.proofs.PackedDigits.{kept_digits}
 use Rattle.vb_filter.proofs.PackedOnes.{kept_digits-zero, kept_digits-first, ones_so_far}

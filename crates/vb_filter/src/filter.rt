@@ -51,6 +51,19 @@ pub fn filter_into_at(
     filter_behind(out, pending, offset, values, mask)
 }
 
+/// Returns the bits whose bit in the mask is true, in order, as the lowest digits of a word, and
+/// their number. The mask must be as long as the bits, at most 64. Reads both windows once.
+pub fn filter_word(values: BitBufferView<'_>, mask: BitBufferView<'_>) -> (u64, usize)
+    requires few { length (bits_of mask) ≤ 64 }
+    requires same_len { length (bits_of values) ≡ length (bits_of mask) }
+    ensures count { result.1 ≡ count (bits_of mask.entry) }
+    ensures few { result.1 ≤ 64 }
+    ensures kept { digits result.0 0 result.1
+        ≡ kept_by (bits_of mask.entry) (bits_of values.entry) }
+{
+    kept_digits(values, mask, 0, mask.len())
+}
+
 /// Does what [`filter_into_at`] does; `pending` has the bits before bit `offset` that are in its
 /// word.
 #[inline(always)]

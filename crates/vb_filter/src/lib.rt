@@ -17,7 +17,7 @@ mod spread;
 mod spread_table;
 
 pub use deposit::deposit_into;
-pub use filter::{filter_into, filter_into_at};
+pub use filter::{filter_into, filter_into_at, filter_word};
 pub use filter_elements::filter_elements_into;
 pub use filter_values::{filter_values_into, filter_word_into};
 pub use retain::retain_values;

@@ -4,7 +4,9 @@ use crate::compared::{answers, equal, holds};
 use crate::made::taken;
 use std::alloc::{Allocator, Global};
 use std::process::Abort;
+use vb_bits::get_bit;
 use vb_set::{BitBuffer, BitBufferMut, BitBufferView, BitIndex, BufferError};
+use vb_take::take_into_at;
 
 /// Bits without a pattern.
 fn scattered<A: Allocator + Clone>(rt: &impl Abort, alloc: A, len: usize) -> BitBuffer<A> {
@@ -115,6 +117,31 @@ fn the_first_bad_position_is_named(rt: HostRuntime) {
         indices[later] = 300;
         let made = taken(rt.alloc(), set.as_view(), &indices, None);
         answers(&rt, made, Err(BufferError::TakeOutOfRange { position }));
+    }
+    drop(set);
+}
+
+/// Two words and the start of a third, each across two words of bytes; the other bits stay.
+#[test]
+fn takes_write_from_any_bit_on(rt: HostRuntime) {
+    const OLD: [u8; 19] = [0xA5; 19];
+    let set = scattered(&rt, rt.alloc(), 300);
+    let mut indices = [0u16; 130];
+    for k in 0..130u16 {
+        indices[k as usize] = 2 * k;
+    }
+    for o in 0..9 {
+        let mut out = OLD;
+        let done = take_into_at(&mut out, o, set.as_view(), &indices, None);
+        holds(&rt, done.is_ok());
+        for i in 0..152 {
+            let wanted = if i < o || o + 130 <= i {
+                get_bit(&OLD, i)
+            } else {
+                bit_at(set.as_view(), Some(2 * (i - o)))
+            };
+            equal(&rt, get_bit(&out, i), wanted);
+        }
     }
     drop(set);
 }

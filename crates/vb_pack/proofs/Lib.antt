@@ -1,7 +1,6 @@
 pub mod AnswersLemmas
 pub mod BytesLemmas
 pub mod MaskLemmas
-pub mod PackedLemmas
 pub mod SpliceLemmas
 pub mod TruthLemmas
 pub mod WordsLemmas

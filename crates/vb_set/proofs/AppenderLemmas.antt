@@ -5,7 +5,7 @@ use Rattle.std.proofs.lemmas.List.{length-append}
 use Rattle.std.specs.declared.clone.Clone.{Ghosts}
 use Rattle.vb_bits.specs.Digits.{digits}
 use Rattle.vb_bits.proofs.DigitsLemmas.{length-digits, digits_none}
-use Rattle.vb_pack.proofs.PackedLemmas.{packed_below}
+use Rattle.vb_bits.proofs.PackedLemmas.{packed_below}
 use Rattle.vb_set.specs.Appender.{set_of, pending_of, IsReady, HasAdded}
 use Rattle.vb_set.specs.OpenSet.{OpenSet, AddsBits, KeepsStart}
 use Rattle.vb_set.specs.declared.bit_appender.BitAppender.{BitAppender}

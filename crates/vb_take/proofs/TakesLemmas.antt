@@ -2,7 +2,7 @@
 use Rattle.std.proofs.Common.{◌≡◌, inl, inr, ℕ, ℤ, negsuc, ◌+◌, ◌-◌, ◌*◌, ◌^◌, ◌<◌, ◌≤◌, Bool, true}
 use Rattle.std.proofs.Common.{false, cond, min, List, [], ◌∷◌, map, length, get_or, slice_get}
 use Rattle.std.proofs.Common.{Option, Some, None, refl, sym, ap, subst, ◌∙◌, arith, zero-add}
-use Rattle.std.specs.Prelude.{IsSome, Ok, Err}
+use Rattle.std.specs.Prelude.{IsSome, Result, Ok, Err}
 use Rattle.std.specs.Option.{option_and_then, unwrap_or}
 use Rattle.std.proofs.lemmas.Bool.{cases_lt}
 use Rattle.std.proofs.lemmas.List.{get_or-map, length-map}
@@ -13,8 +13,10 @@ use Rattle.vb_bits.specs.Digits.{has_bit, digits}
 use Rattle.vb_bits.specs.Writes.{Writes}
 use Rattle.vb_bits.proofs.BitsLemmas.{length-bits, at-bits}
 use Rattle.vb_bits.proofs.DigitsLemmas.{length-digits, at-digits}
+use Rattle.vb_bits.proofs.PackedLemmas.{with_digit, digit_other, digit_same}
 use Rattle.vb_bits.proofs.WritesLemmas.{Writes-at}
-use Rattle.vb_take.specs.Takes.{is_valid, value_at, taken_at, TakenTo, IsTaken, IsFirstPast}
+use Rattle.vb_take.specs.Takes.{is_valid, value_at, taken_at, TakenTo, TakesPart, IsTaken}
+use Rattle.vb_take.specs.Takes.{IsFirstPast}
 use Rattle.vb_take.specs.Blocks.{narrow_place, TakesBlock}
 
 -- ---- one position
@@ -47,20 +49,52 @@ taken_here f l xs v k x r t h read valid e =
     ap (λ z. cond (is_valid v k) (value_at l z) (Some false)) index
     ∙ ap (λ b. cond b (value_at l (f x)) (Some false)) (sym valid) ∙ sym e
 
--- ---- one after the other
+-- ---- up to 64 positions
 -- one more position has the value that it takes
-pub TakenTo-bit : (k : ℕ) (l : List Bool) (xs : List ℤ) (v : Option (List Bool))
-    (out new : List ℕ) (b : Bool) → TakenTo k (taken_at l xs v) (bit_of out)
-    → taken_at l xs v k ≡ Some b → Writes out new k (b ∷ [])
-    → TakenTo (k + 1) (taken_at l xs v) (bit_of new)
-TakenTo-bit k l xs v out new b before here w = λ i h. elim (cases_lt i k) [
-  | inl low ↦ before i low ∙ ap Some (sym (w.others i (inl low)))
+pub TakenTo-digit : (k word : ℕ) (taken : ℕ → Option Bool) (b : Bool) → k < 64 → word < 2 ^ k
+    → TakenTo k taken (has_bit word) → taken k ≡ Some b
+    → TakenTo (k + 1) taken (has_bit (with_digit word k b))
+TakenTo-digit k word taken b in_word small before here = λ i h. elim (cases_lt i k) [
+  | inl low ↦ before i low ∙ ap Some (sym (digit_other word k b i in_word low))
   | inr high ↦
       let same : i ≡ k = omega arith in
-      let bit : bit_of new (k + 0) ≡ b = Writes-at out new k 0 (b ∷ []) false w (omega arith) in
-      let place : k + 0 ≡ i = omega arith in
-      ap (taken_at l xs v) same ∙ here ∙ ap Some (sym bit ∙ ap (bit_of new) place)
+      ap taken same ∙ here ∙ ap Some (sym (digit_same word k b in_word small)
+      ∙ ap (has_bit (with_digit word k b)) (sym same))
 ]
+
+-- m more positions have the values that they take
+pub TakenTo-word : (o n m : ℕ) (taken : ℕ → Option Bool) (out new : List ℕ) (word : ℕ)
+    → TakenTo n taken (λ i. bit_of out (o + i)) → TakenTo m (λ k. taken (n + k)) (has_bit word)
+    → Writes out new (o + n) (digits word 0 m) → TakenTo (n + m) taken (λ i. bit_of new (o + i))
+TakenTo-word o n m taken out new word before takes w = λ i h. elim (cases_lt i n) [
+  | inl low ↦ before i low ∙ ap Some (sym (w.others (o + i) (inl (omega arith))))
+  | inr high ↦
+      let k : ℕ = i - n in
+      let small : k < m = omega arith in
+      let here : n + k ≡ i = omega arith in
+      let place : o + n + k ≡ o + i = omega arith in
+      let bit : bit_of new (o + n + k) ≡ has_bit word (0 + k) =
+      Writes-at out new (o + n) k (digits word 0 m) false w (omega (arith, length-digits word 0 m))
+      ∙ at-digits word 0 m k false small in
+      ap taken (sym here) ∙ takes k small
+      ∙ ap Some (ap (has_bit word) (sym (zero-add k)) ∙ sym bit ∙ ap (bit_of new) place)
+]
+
+-- the first of m positions that takes no value is the first of all
+pub IsFirstPast-part : (l : List Bool) (xs : List ℤ) (v : Option (List Bool)) (n m p : ℕ)
+    (has : ℕ → Bool) → TakenTo n (taken_at l xs v) has → n + m ≤ length xs
+    → TakesPart (λ k. taken_at l xs v (n + k)) m (Err p) → IsFirstPast l xs v (n + p)
+IsFirstPast-part l xs v n m p has before within takes = record {
+  within = omega (arith, takes.0);
+  past = takes.1;
+  before = λ i h. elim (cases_lt i n) [
+    | inl low ↦ some_taken (taken_at l xs v i) (has i) (before i low)
+    | inr high ↦
+        let k : ℕ = i - n in
+        let here : n + k ≡ i = omega arith in
+        subst IsSome (ap (taken_at l xs v) here) (takes.2 k (omega arith))
+  ];
+}
 
 -- ---- blocks of 64
 -- the value that a position of a block takes
@@ -74,58 +108,27 @@ taken_in_block l xs v block valid a k few narrow counts =
     (value_at-narrow_place l (get_or xs (a + k) (negsuc 0)) few ∙ ap (slice_get l) (sym narrow))
     ∙ ap (λ b. cond b (slice_get l (get_or block k 0)) (Some false)) (sym counts)
 
--- 64 more positions have the values that they take
-pub TakenTo-word : (t : ℕ) (l : List Bool) (xs : List ℤ)
-    (v : Option (List Bool)) (out new block : List ℕ) (valid word : ℕ) → length l < 2 ^ 32
-    → ((k : ℕ) → k < 64 → get_or block k 0 ≡ narrow_place (get_or xs (64 * t + k) (negsuc 0)))
-    → ((k : ℕ) → k < 64 → has_bit valid k ≡ is_valid v (64 * t + k))
-    → TakenTo (64 * t) (taken_at l xs v) (bit_of out) → TakesBlock l block valid (Ok word)
-    → Writes out new (8 * (8 * t)) (digits word 0 64)
-    → TakenTo (64 * (t + 1)) (taken_at l xs v) (bit_of new)
-TakenTo-word t l xs v out new block valid word few narrow counts before takes w = λ i h.
-    let size : length (digits word 0 64) ≡ 64 = length-digits word 0 64 in
-    elim (cases_lt i (64 * t)) [
-      | inl low ↦ before i low ∙ ap Some (sym (w.others i (inl (omega arith))))
-      | inr high ↦
-          let k : ℕ = i - 64 * t in
-          let small : k < 64 = omega arith in
-          let here : 64 * t + k ≡ i = omega arith in
-          let place : 8 * (8 * t) + k ≡ i = omega arith in
-          let bit : bit_of new (8 * (8 * t) + k) ≡ has_bit word (0 + k) =
-          Writes-at out new (8 * (8 * t)) k (digits word 0 64) false w (omega arith)
-          ∙ at-digits word 0 64 k false small in
-          ap (taken_at l xs v) (sym here) ∙ taken_in_block l xs v block valid
-          (64 * t) k few (narrow k small) (counts k small) ∙ takes k small
-          ∙ ap Some (ap (has_bit word) (sym (zero-add k)) ∙ sym bit ∙ ap (bit_of new) place)
-    ]
-
--- the first position of a block that takes no value
-pub IsFirstPast-block : (t p : ℕ) (l : List Bool)
-    (xs : List ℤ) (v : Option (List Bool)) (out block : List ℕ) (valid : ℕ) → length l < 2 ^ 32
-    → ((k : ℕ) → k < 64 → get_or block k 0 ≡ narrow_place (get_or xs (64 * t + k) (negsuc 0)))
-    → ((k : ℕ) → k < 64 → has_bit valid k ≡ is_valid v (64 * t + k))
-    → TakenTo (64 * t) (taken_at l xs v) (bit_of out) → 64 * t + 64 ≤ length xs
-    → TakesBlock l block valid (Err p) → IsFirstPast l xs v (64 * t + p)
-IsFirstPast-block t p l xs v out block valid few narrow counts before within takes =
+-- a block of 64 takes what its positions take
+pub TakesPart-block : (l : List Bool) (xs : List ℤ) (v : Option (List Bool)) (block : List ℕ)
+    (valid a : ℕ) (r : Result ℕ ℕ) → length l < 2 ^ 32
+    → ((k : ℕ) → k < 64 → get_or block k 0 ≡ narrow_place (get_or xs (a + k) (negsuc 0)))
+    → ((k : ℕ) → k < 64 → has_bit valid k ≡ is_valid v (a + k))
+    → TakesBlock l block valid r → TakesPart (λ k. taken_at l xs v (a + k)) 64 r
+TakesPart-block l xs v block valid a (Ok word) few narrow counts takes = λ k h.
+    taken_in_block l xs v block valid a k few (narrow k h) (counts k h) ∙ takes k h
+TakesPart-block l xs v block valid a (Err p) few narrow counts takes =
     let inside : p < 64 = takes.0 in
-    record {
-      within = omega arith;
-      past =
-          taken_in_block l xs v block valid (64 * t) p few (narrow p inside) (counts p inside)
-          ∙ ap (λ b. cond b (slice_get l (get_or block p 0)) (Some false)) takes.1
-          ∙ slice_get_past l (get_or block p 0) takes.2;
-      before = λ i h. elim (cases_lt i (64 * t)) [
-        | inl low ↦ some_taken (taken_at l xs v i) (bit_of out i) (before i low)
-        | inr high ↦
-            let k : ℕ = i - 64 * t in
-            let first : k < p = omega arith in
-            let small : k < 64 = omega arith in
-            let here : 64 * t + k ≡ i = omega arith in
-            subst IsSome (sym (ap (taken_at l xs v) (sym here) ∙ taken_in_block l xs v block valid
-            (64 * t) k few (narrow k small) (counts k small)))
-            (some_of (has_bit valid k) k (takes.3 k first))
-      ];
-    }
+    (
+      inside,
+      taken_in_block l xs v block valid a p few (narrow p inside) (counts p inside)
+      ∙ ap (λ b. cond b (slice_get l (get_or block p 0)) (Some false)) takes.1
+      ∙ slice_get_past l (get_or block p 0) takes.2,
+      λ k h.
+      let small : k < 64 = omega arith in
+      subst IsSome
+      (sym (taken_in_block l xs v block valid a k few (narrow k small) (counts k small)))
+      (some_of (has_bit valid k) k (takes.3 k h)),
+    )
   where
     some_of : (b : Bool) (k : ℕ) → (b ≡ true → get_or block k 0 < length l)
         → IsSome (cond b (slice_get l (get_or block k 0)) (Some false))
@@ -135,16 +138,14 @@ IsFirstPast-block t p l xs v out block valid few narrow counts before within tak
 
 -- ---- all positions
 -- the bits are those taken
-pub IsTaken-all : {X : Type 0}
-    (f : X → ℤ) (l : List Bool) (xs : List X) (v : Option (List Bool)) (out : List ℕ) (k : ℕ)
-    → length xs ≤ k → TakenTo k (taken_at l (map f xs) v) (bit_of out)
-    → IsTaken l (map f xs) v (bits out 0 (length xs))
-IsTaken-all f l xs v out k enough all =
+pub IsTaken-all : {X : Type 0} (f : X → ℤ) (l : List Bool) (xs : List X) (v : Option (List Bool))
+    (out : List ℕ) (o : ℕ) → TakenTo (length xs) (taken_at l (map f xs) v) (λ i. bit_of out (o + i))
+    → IsTaken l (map f xs) v (bits out o (length xs))
+IsTaken-all f l xs v out o all =
     let size : length (map f xs) ≡ length xs = length-map xs f in
     record {
-      same_len = length-bits out 0 (length xs) ∙ sym size;
+      same_len = length-bits out o (length xs) ∙ sym size;
       each = λ i h.
-          let low : i < length xs = omega arith in
-          all i (omega arith) ∙ ap Some
-          (ap (bit_of out) (sym (zero-add i)) ∙ sym (at-bits out 0 (length xs) i false low));
+          let low : i < length xs = omega (arith, size) in
+          all i low ∙ ap Some (sym (at-bits out o (length xs) i false low));
     }

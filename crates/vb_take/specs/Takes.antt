@@ -1,9 +1,10 @@
 -- Bits taken at indices.
 use Rattle.std.specs.Prelude.{◌≡◌, ℕ, ℤ, negsuc, ◌<◌, ◌⊎◌, Bool, true, false, List, length}
 use Rattle.std.specs.Prelude.{slice_get, slice_index_or, Option, Some, None, IsSome}
-use Rattle.std.specs.Prelude.{if◌then◌else◌}
+use Rattle.std.specs.Prelude.{Result, Ok, Err, if◌then◌else◌}
 use Rattle.std.specs.Option.{option_and_then}
 use Rattle.vb_bits.specs.Bits.{at}
+use Rattle.vb_bits.specs.Digits.{has_bit}
 use Rattle.vb_core.specs.Indices.{place_of}
 use Rattle.vb_core.specs.declared.error.BufferError.{BufferError}
 use Rattle.vb_core.specs.declared.error.BufferError.TheVariants.{OutOfMemory, TakeOutOfRange}
@@ -26,6 +27,12 @@ value_at l index = option_and_then (slice_get l) (place_of index)
 abbrev pub taken_at : List Bool → List ℤ → Option (List Bool) → ℕ → Option Bool
 taken_at l indices validity i =
     if is_valid validity i then value_at l (slice_index_or indices i (negsuc 0)) else Some false
+
+-- the lowest bits of the word are the values that n positions take; or p is the first of these
+-- positions that takes none
+abbrev pub TakesPart : (ℕ → Option Bool) → ℕ → Result ℕ ℕ → Type 0
+TakesPart taken n (Ok word) = TakenTo n taken (has_bit word)
+TakesPart taken n (Err p) = (p < n) × (taken p ≡ None) × ((k : ℕ) → k < p → IsSome (taken k))
 
 -- these are the values taken, one for each index
 pub record IsTaken (l : List Bool) (indices : List ℤ) (validity : Option (List Bool))

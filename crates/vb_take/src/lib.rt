@@ -11,6 +11,6 @@ mod take;
 mod take_values;
 mod valid;
 
-pub use take::take_into;
+pub use take::{take_into, take_into_at};
 pub use take_values::take_values_into;
 pub use vb_bits::set_bits_at;

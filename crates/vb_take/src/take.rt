@@ -1,16 +1,16 @@
 //! Bits taken at indices.
-ghost use Rattle.std.specs.Prelude.{◌≡◌, ℕ, ◌+◌, ◌*◌, ◌^◌, ◌<◌, ◌≤◌, Some, false, length, map};
+ghost use Rattle.std.specs.Prelude.{◌≡◌, ℕ, ◌+◌, ◌^◌, ◌<◌, ◌≤◌, ◌*◌, Some, false, length, map};
 ghost use Rattle.std.specs.Prelude.{IfOk, IfErr, if◌then◌else◌};
 ghost use Rattle.std.specs.Option.{ForSome, option_map};
-ghost use Rattle.vb_bits.specs.Bits.{at, bit_of, bits as window};
-ghost use Rattle.vb_bits.specs.Digits.{has_bit};
-ghost use Rattle.vb_bits.specs.Writes.{Writes, KeepsBehind};
+ghost use Rattle.vb_bits.specs.Bits.{at, bits as window};
+ghost use Rattle.vb_bits.specs.InBytes.{InBytes};
+ghost use Rattle.vb_bits.specs.Writes.{Writes};
 ghost use Rattle.vb_view.specs.View.{bits_of};
-ghost use Rattle.vb_take.specs.Takes.{is_valid, value_at, taken_at, TakenTo, IsTaken, IsFirstPast};
+ghost use Rattle.vb_take.specs.Takes.{value_at, taken_at, TakesPart, IsTaken, IsFirstPast};
 
 use crate::block::{narrow_block, take_block};
-use crate::valid::{is_valid, valid_word};
-use vb_bits::{set_bit_to, write_word};
+use crate::valid::valid_word;
+use vb_bits::{digit, write_digits};
 use vb_core::BitIndex;
 use vb_view::BitBufferView;
 
@@ -44,74 +44,90 @@ pub fn take_into<I: BitIndex>(
         (option_map bits_of validity.entry) p) }
     ensures others { Writes out.old out.new 0 (window out.new 0 (length indices.now)) }
 {
-    let words = if 0 < bits.len() && bits.len() < NARROW {
-        indices.len() / 64
-    } else {
-        0
-    };
-    take_words(out, bits, indices, validity, words)?;
-    take_rest(out, bits, indices, validity, 64 * words)
+    take_into_at(out, 0, bits, indices, validity)
 }
 
-/// Does [`take_into`] for the first `64 * words` positions.
-fn take_words<I: BitIndex>(
+/// Does what [`take_into`] does, but writes to `out` from bit `o` on: bit `o + k` is the one at
+/// `indices[k]`. Every bit of `out` outside of these, one for each index, keeps its value. They
+/// must be in bounds, and `o + indices.len()` must fit in a `usize`.
+pub fn take_into_at<I: BitIndex>(
     out: &mut [u8],
+    o: usize,
     bits: BitBufferView<'_>,
     indices: &[I],
     validity: Option<BitBufferView<'_>>,
-    words: usize,
 ) -> Result<(), usize>
-    requires room { length indices.now ≤ 8 * length out.old }
+    requires room { InBytes out.old o (length indices.now) }
     requires validity { ForSome validity (λ v. length (bits_of v) ≡ length indices.now) }
-    requires words { 64 * words ≤ length indices.now }
-    requires some { 0 < words → 0 < length (bits_of bits) }
-    requires few { 0 < words → length (bits_of bits) + 8 < 2 ^ 32 }
-    ensures taken { IfOk result (λ _. TakenTo (64 * words) (taken_at (bits_of bits.entry)
-        (map I.number indices.now) (option_map bits_of validity.entry)) (bit_of out.new)) }
+    ensures taken { IfOk result (λ _. IsTaken (bits_of bits.entry) (map I.number indices.now)
+        (option_map bits_of validity.entry) (window out.new o (length indices.now))) }
     ensures past { IfErr result (λ p. IsFirstPast (bits_of bits.entry) (map I.number indices.now)
         (option_map bits_of validity.entry) p) }
-    ensures keeps { KeepsBehind (length indices.now) out.old out.new }
+    ensures others { Writes out.old out.new o (window out.new o (length indices.now)) }
 {
-    for t in 0..words {
-        let block = narrow_block(indices, 64 * t);
-        match take_block(bits, &block, valid_word(validity, 64 * t)) {
-            Ok(word) => write_word(out, 8 * t, word),
-            Err(k) => return Err(64 * t + k),
+    for t in 0..indices.len().div_ceil(64) {
+        let at = 64 * t;
+        let count = (indices.len() - at).min(64);
+        match take_part(bits, indices, validity, at, count) {
+            Ok(word) => write_digits(out, o + at, count, word),
+            Err(k) => return Err(at + k),
         }
     }
     Ok(())
 }
 
-/// Does [`take_into`] for the positions from `from` on, one by one; those before them must be done.
-fn take_rest<I: BitIndex>(
-    out: &mut [u8],
+/// Returns a word whose lowest bits are those that the `count` positions from `at` on take. Returns
+/// `Err(k)` for the first `k` whose position `at + k` takes none.
+#[inline(always)]
+fn take_part<I: BitIndex>(
     bits: BitBufferView<'_>,
     indices: &[I],
     validity: Option<BitBufferView<'_>>,
-    from: usize,
-) -> Result<(), usize>
-    requires room { length indices.now ≤ 8 * length out.old }
+    at: usize,
+    count: usize,
+) -> Result<u64, usize>
+    requires few { count ≤ 64 }
+    requires inside { at + count ≤ length indices.now }
     requires validity { ForSome validity (λ v. length (bits_of v) ≡ length indices.now) }
-    requires begun { from ≤ length indices.now }
-    requires before { TakenTo from (taken_at (bits_of bits) (map I.number indices.now)
-        (option_map bits_of validity)) (bit_of out.old) }
-    ensures taken { IfOk result (λ _. IsTaken (bits_of bits.entry) (map I.number indices.now)
-        (option_map bits_of validity.entry) (window out.new 0 (length indices.now))) }
-    ensures past { IfErr result (λ p. IsFirstPast (bits_of bits.entry) (map I.number indices.now)
-        (option_map bits_of validity.entry) p) }
-    ensures keeps { KeepsBehind (length indices.now) out.old out.new }
+    ensures { TakesPart (λ k. taken_at (bits_of bits.entry) (map I.number indices.now)
+        (option_map bits_of validity.entry) (at + k)) count result }
 {
-    for k in from..indices.len() {
-        match taken_value(bits, indices[k], is_valid(validity, k)) {
-            Some(value) => set_bit_to(out, k, value),
+    if count == 64 && 0 < bits.len() && bits.len() < NARROW {
+        let block = narrow_block(indices, at);
+        take_block(bits, &block, valid_word(validity, at, 64))
+    } else {
+        take_few(bits, indices, validity, at, count)
+    }
+}
+
+/// Does [`take_part`] one by one.
+fn take_few<I: BitIndex>(
+    bits: BitBufferView<'_>,
+    indices: &[I],
+    validity: Option<BitBufferView<'_>>,
+    at: usize,
+    count: usize,
+) -> Result<u64, usize>
+    requires few { count ≤ 64 }
+    requires inside { at + count ≤ length indices.now }
+    requires validity { ForSome validity (λ v. length (bits_of v) ≡ length indices.now) }
+    ensures { TakesPart (λ k. taken_at (bits_of bits.entry) (map I.number indices.now)
+        (option_map bits_of validity.entry) (at + k)) count result }
+{
+    let valid = valid_word(validity, at, count);
+    let mut word = 0;
+    for k in 0..count {
+        match taken_value(bits, indices[at + k], digit(valid, k)) {
+            Some(value) => word |= u64::from(value) << k,
             None => return Err(k),
         }
     }
-    Ok(())
+    Ok(word)
 }
 
 /// Returns the bit that a position takes: false if it isn't valid, else the bit at `index`. Returns
 /// `None` if it is valid and the index is out of range.
+#[inline(always)]
 fn taken_value<I: BitIndex>(bits: BitBufferView<'_>, index: I, valid: bool) -> Option<bool>
     ensures { result
         ≡ (if valid then value_at (bits_of bits.entry) (I.number index) else Some false) }
@@ -124,6 +140,7 @@ fn taken_value<I: BitIndex>(bits: BitBufferView<'_>, index: I, valid: bool) -> O
 }
 
 /// Returns the bit at `index`; `None` if the index is out of range.
+#[inline(always)]
 fn value_at<I: BitIndex>(bits: BitBufferView<'_>, index: I) -> Option<bool>
     ensures { result ≡ value_at (bits_of bits.entry) (I.number index) }
 {

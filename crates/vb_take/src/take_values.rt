@@ -102,7 +102,7 @@ fn take_block<T: Element, I: BitIndex>(
     ensures stays { IfErr result (λ p. drop p out.new ≡ drop p out.old) }
     ensures others { drop (length indices.now) out.new ≡ drop (length indices.now) out.old }
 {
-    let word = valid_word(Some(valid), at);
+    let word = valid_word(Some(valid), at, 64);
     if word == u64::MAX {
         put_full(out, values, indices, at)
     } else if word.count_ones() <= MAX_ONES_READ_TWICE && all_named(values, indices, at, word) {

@@ -19,15 +19,16 @@ pub(crate) fn is_valid(validity: Option<BitBufferView<'_>>, i: usize) -> bool
     }
 }
 
-/// Returns a word whose bit `k` says whether position `at + k` counts.
+/// Returns a word whose bit `k`, for each `k` below `n`, says whether position `at + k` counts.
 #[inline(always)]
-pub(crate) fn valid_word(validity: Option<BitBufferView<'_>>, at: usize) -> u64
-    requires { ForSome validity (λ v. at + 64 ≤ length (bits_of v)) }
-    ensures { (k : ℕ) → k < 64 → has_bit result k
+pub(crate) fn valid_word(validity: Option<BitBufferView<'_>>, at: usize, n: usize) -> u64
+    requires few { n ≤ 64 }
+    requires inside { ForSome validity (λ v. at + n ≤ length (bits_of v)) }
+    ensures { (k : ℕ) → k < n → has_bit result k
         ≡ is_valid (option_map bits_of validity.entry) (at + k) }
 {
     match validity {
-        Some(bits) => view_word(bits, at, 64),
+        Some(bits) => view_word(bits, at, n),
         None => u64::MAX,
     }
 }

@@ -4,7 +4,7 @@ use Rattle.std.proofs.Common.{sym, ap, ◌∙◌, lit<, false}
 use mir.Val.{bool_byte}
 use Rattle.std.proofs.lemmas.List.{length-drop, get_or-drop, take_more}
 use Rattle.vb_bits.proofs.DigitsLemmas.{digits_none}
-use Rattle.vb_pack.proofs.PackedLemmas.{digits_packed, packed_below}
+use Rattle.vb_bits.proofs.PackedLemmas.{digits_packed, packed_below}
 use Rattle.vb_compare.proofs.few.one_by_one.Goals as goal
 
 pub loop-k-init : goal.loop-k-init

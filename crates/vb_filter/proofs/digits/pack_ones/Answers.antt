@@ -6,7 +6,7 @@ use Rattle.std.proofs.lemmas.List.{append-nil}
 use Rattle.vb_bits.specs.Bits.{count}
 use Rattle.vb_bits.specs.Digits.{digits}
 use Rattle.vb_bits.proofs.DigitsLemmas.{digits_none}
-use Rattle.vb_pack.proofs.PackedLemmas.{digits_packed, packed_below}
+use Rattle.vb_bits.proofs.PackedLemmas.{digits_packed, packed_below}
 use Rattle.vb_walk.proofs.OnesLemmas.{lowest_below}
 use Rattle.vb_filter.proofs.PackedDigits.{kept_digits}
 use Rattle.vb_filter.proofs.PackedOnes.{kept_digits-zero, kept_digits-first, ones_so_far}

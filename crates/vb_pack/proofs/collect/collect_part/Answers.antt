@@ -4,7 +4,7 @@ use Rattle.vb_bits.proofs.DigitsLemmas.{digits_none}
 use Rattle.vb_pack.specs.Asked.{Answers, span}
 use Rattle.vb_pack.specs.Digits.{digits}
 use Rattle.vb_pack.proofs.AnswersLemmas.{Answers_none, Answers-push, CanAsk_next, CanAsk_after}
-use Rattle.vb_pack.proofs.PackedLemmas.{digits_packed, packed_below}
+use Rattle.vb_bits.proofs.PackedLemmas.{digits_packed, packed_below}
 use Rattle.vb_pack.proofs.collect.collect_part.Goals as goal
 
 pub loop-i-init : goal.loop-i-init

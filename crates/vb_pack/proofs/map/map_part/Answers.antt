@@ -6,7 +6,7 @@ use Rattle.vb_bits.proofs.ReadLemmas.{has_bit-bits}
 use Rattle.vb_pack.specs.Bits.{bit_of}
 use Rattle.vb_pack.specs.Digits.{digits}
 use Rattle.vb_pack.proofs.AnswersLemmas.{Answers_none, Answers-push, CanAsk_next, CanAsk_after}
-use Rattle.vb_pack.proofs.PackedLemmas.{digits_packed, packed_below}
+use Rattle.vb_bits.proofs.PackedLemmas.{digits_packed, packed_below}
 use Rattle.vb_pack.proofs.map.map_part.Goals as goal
 
 pub loop-i-init : goal.loop-i-init

@@ -3,7 +3,7 @@ use Rattle.std.proofs.Common.{sym, ap, ◌∙◌, lit<, false}
 use mir.Val.{bool_byte}
 use Rattle.std.proofs.lemmas.List.{length-map, get_or-map, take_more}
 use Rattle.vb_bits.proofs.DigitsLemmas.{digits_none}
-use Rattle.vb_pack.proofs.PackedLemmas.{digits_packed, packed_below}
+use Rattle.vb_bits.proofs.PackedLemmas.{digits_packed, packed_below}
 use Rattle.vb_pack.proofs.truths.few_word.Goals as goal
 
 pub loop-i-init : goal.loop-i-init

@@ -1,7 +1,7 @@
 use Rattle.std.proofs.Common.{◌+◌, ◌*◌, ◌%◌, ◌^◌, ap, ◌∙◌, arith}
 use Rattle.std.specs.Int.Bits.{bit_or}
 use Rattle.vb_bits.specs.Digits.{digits}
-use Rattle.vb_pack.proofs.PackedLemmas.{digits_packed}
+use Rattle.vb_bits.proofs.PackedLemmas.{digits_packed}
 use Rattle.vb_set.proofs.bit_appender.BitAppender.push.Goals as goal
 
 pub returns-clause-pending : goal.returns-clause-pending
