@@ -13,6 +13,8 @@ mod huge;
 mod import;
 mod made;
 mod malformed;
+#[cfg(not(miri))]
+mod memory;
 mod nested;
 mod offsets;
 #[cfg(feature = "std")]

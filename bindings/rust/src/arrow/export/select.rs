@@ -4,6 +4,7 @@
 mod fixed;
 mod joined;
 mod made;
+mod memory;
 mod nested;
 mod rows;
 mod runs;
@@ -21,10 +22,10 @@ use crate::arrow::error::ArrowError;
 use crate::arrow::ffi::{ArrowArray, Owned};
 use crate::arrow::field::Field;
 use crate::arrow::layout::{Layout, Of};
-use crate::bytes::AlignedBytes;
 use crate::{BitIndex, Bits, Mask};
 pub(super) use made::Owners;
 use made::{Made, Nulls};
+use memory::reserved;
 use rows::{Rows, Runs};
 
 /// Rows of any type.
@@ -175,20 +176,33 @@ impl Array {
             is_wrong |= row >= self.len;
             row
         };
-        let rows = indices.iter().map(row).collect();
-        if !is_wrong {
-            return Ok(rows);
+        let mut rows = reserved(self.field(), indices.len())?;
+        rows.extend(indices.iter().map(row));
+        if is_wrong {
+            self.are_names(indices, valid, &mut rows)?;
         }
-        let place = |(position, index): (usize, &I)| {
-            if valid.is_some_and(|valid| !valid[position]) {
-                return Ok(0);
+        Ok(rows)
+    }
+
+    /// Sets the rows of indices that aren't valid and name none to 0. Returns an error for the first
+    /// valid index that names none.
+    #[cold]
+    fn are_names<I: BitIndex>(
+        &self,
+        indices: &[I],
+        valid: Option<Bits<'_>>,
+        rows: &mut [usize],
+    ) -> Result<(), ArrowError> {
+        for (position, (row, index)) in rows.iter_mut().zip(indices).enumerate() {
+            if *row < self.len {
+                continue;
             }
-            index
-                .place()
-                .filter(|row| *row < self.len)
-                .ok_or_else(|| self.lost(position, index.number(), self.len))
-        };
-        indices.iter().enumerate().map(place).collect()
+            if valid.is_none_or(|valid| valid[position]) {
+                return Err(self.lost(position, index.number(), self.len));
+            }
+            *row = 0;
+        }
+        Ok(())
     }
 }
 
@@ -235,11 +249,7 @@ impl Export {
                 return Err(ArrowError::Field { column, difference });
             }
         }
-        let all = Runs::whole(arrays.iter().map(Array::len));
-        let all = all.ok_or_else(|| ArrowError::Memory {
-            column: field.name.clone(),
-            bytes: usize::MAX,
-        })?;
+        let all = Runs::whole(field, arrays.iter().map(Array::len))?;
         export(field.clone(), arrays, all.rows())
     }
 }
@@ -315,25 +325,6 @@ fn whole(of: &[Array], place: usize) -> Vec<Array> {
         .collect()
 }
 
-/// Allocates `len` values of `width` bytes, all 0.
-fn zeroed(field: &Field, len: usize, width: usize) -> Result<AlignedBytes, ArrowError> {
-    let bytes = len.checked_mul(width);
-    bytes
-        .and_then(AlignedBytes::try_zeroed)
-        .ok_or_else(|| ArrowError::Memory {
-            column: field.name.clone(),
-            bytes: bytes.unwrap_or(usize::MAX),
-        })
-}
-
-/// Allocates capacity for `bytes` bytes, without contents.
-fn with_room(field: &Field, bytes: usize) -> Result<AlignedBytes, ArrowError> {
-    AlignedBytes::try_with_capacity(bytes).ok_or_else(|| ArrowError::Memory {
-        column: field.name.clone(),
-        bytes,
-    })
-}
-
 /// Writes an integer of `width` bytes. The caller has tested that it fits.
 fn put(bytes: &mut [u8], place: usize, width: usize, number: usize) {
     let number = u64::try_from(number).unwrap_or(u64::MAX);
@@ -343,14 +334,6 @@ fn put(bytes: &mut [u8], place: usize, width: usize, number: usize) {
         8 => out.copy_from_slice(&number.to_ne_bytes()),
         2 => out.copy_from_slice(&u16::try_from(number).unwrap_or(u16::MAX).to_ne_bytes()),
         _ => out.fill(u8::try_from(number).unwrap_or(u8::MAX)),
-    }
-}
-
-#[cold]
-fn too_many(field: &Field) -> ArrowError {
-    ArrowError::Memory {
-        column: field.name.clone(),
-        bytes: usize::MAX,
     }
 }
 

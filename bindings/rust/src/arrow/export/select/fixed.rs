@@ -1,7 +1,8 @@
 //! Selects rows of bits and of fixed-width values.
 
+use super::memory::zeroed;
 use super::rows::{Rows, Run};
-use super::{with_each, zeroed};
+use super::with_each;
 use crate::arrow::array::Array;
 use crate::arrow::error::ArrowError;
 use crate::arrow::field::Field;

@@ -2,9 +2,9 @@
 //! are long.
 
 use super::made::Made;
+use super::memory::with_room;
 use super::rows::Rows;
 use super::variable::long;
-use super::with_room;
 use crate::arrow::array::Array;
 use crate::arrow::error::ArrowError;
 use crate::arrow::field::Field;

@@ -4,14 +4,16 @@ use alloc::sync::Arc;
 use alloc::vec::Vec;
 
 use super::made::Made;
+use super::memory::{copied, too_many, zeroed};
 use super::rows::{Rows, Run, Runs};
-use super::{fixed, put, selected, too_long, too_many, whole};
+use super::{fixed, put, selected, too_long, whole};
 use crate::arrow::array::Array;
 use crate::arrow::error::{ArrowError, Fault};
 use crate::arrow::export::shared;
 use crate::arrow::field::Field;
 use crate::arrow::layout::{Kind, Layout};
 use crate::arrow::node::Node;
+use crate::bytes::AlignedBytes;
 
 /// Selects rows of structs: the same rows of each column.
 pub(super) fn structs(field: &Field, of: &[Array], rows: Rows<'_>) -> Result<Made, ArrowError> {
@@ -36,13 +38,10 @@ pub(super) fn fixed_lists(
              len,
          }| {
             let before = one.map_or(0, |one| of[one].start);
-            let run = len.checked_mul(each).map(|len| Run {
-                of: one,
-                start: (before + start) * each,
-                len,
-            });
-            let added = run.and_then(|run| items.push(run));
-            added.ok_or_else(|| too_many(field))
+            let len = len.checked_mul(each).ok_or_else(|| too_many(field))?;
+            let start = (before + start) * each;
+            let of = one;
+            items.push(field, Run { of, start, len })
         },
     )?;
     let mut made = Made::default();
@@ -94,7 +93,7 @@ fn moved_offsets(
     before: usize,
 ) -> Result<Vec<u8>, ArrowError> {
     let [offsets, sizes] = of.list_view_numbers(width);
-    let mut moved = offsets.to_vec();
+    let mut moved = copied(of.field(), offsets)?;
     for row in 0..of.len() {
         let (start, size) = (signed(offsets, row, width), signed(sizes, row, width));
         let end = start.saturating_add(size);
@@ -147,7 +146,7 @@ pub(super) fn coded(
         moved.push(moved_indices(field, one, before)?);
         before = items.len().saturating_add(before);
     }
-    let bytes: Vec<&[u8]> = moved.iter().map(Vec::as_slice).collect();
+    let bytes: Vec<&[u8]> = moved.iter().map(|it| &it[..]).collect();
     let mut made = Made::of([fixed::values(field, width, &bytes, rows)?]);
     let all = all_rows(field, &dictionaries)?;
     let items = selected(items, &dictionaries, all.rows());
@@ -156,11 +155,11 @@ pub(super) fn coded(
 }
 
 /// Returns the indices of an array, with `before` items in front of its own; 0 for null rows.
-fn moved_indices(field: &Field, of: &Array, before: usize) -> Result<Vec<u8>, ArrowError> {
+fn moved_indices(field: &Field, of: &Array, before: usize) -> Result<AlignedBytes, ArrowError> {
     let (width, valid) = (field.layout.widest().0, of.validity()?);
     let is_signed = matches!(field.layout, Layout::Fixed(Kind::Signed, _));
     let most = u64::MAX >> (64 - 8 * width + usize::from(is_signed));
-    let mut moved = alloc::vec![0; of.len() * width];
+    let mut moved = zeroed(field, of.len(), width)?;
     for (row, index) in of.dictionary_indices()?.into_iter().enumerate() {
         let index = if valid.get(row) == Some(true) {
             index.saturating_add(before)
@@ -179,5 +178,5 @@ fn moved_indices(field: &Field, of: &Array, before: usize) -> Result<Vec<u8>, Ar
 
 /// Returns all rows of the arrays.
 fn all_rows(field: &Field, of: &[Array]) -> Result<Runs, ArrowError> {
-    Runs::whole(of.iter().map(Array::len)).ok_or_else(|| too_many(field))
+    Runs::whole(field, of.iter().map(Array::len))
 }

@@ -2,7 +2,10 @@
 
 use alloc::vec::Vec;
 
+use super::memory::{push, too_many};
 use crate::Bits;
+use crate::arrow::error::ArrowError;
+use crate::arrow::field::Field;
 
 /// Consecutive rows of one of several arrays. They are null if `of` is None.
 #[derive(Clone, Copy)]
@@ -90,17 +93,18 @@ pub(super) struct Runs {
 }
 
 impl Runs {
-    /// Returns all rows of arrays of these lengths; None if their number isn't a `usize`.
-    pub(super) fn whole(lens: impl IntoIterator<Item = usize>) -> Option<Runs> {
+    /// Returns all rows of arrays of these lengths. It returns an error if their number isn't a
+    /// `usize`, or if memory runs out.
+    pub(super) fn whole(
+        field: &Field,
+        lens: impl IntoIterator<Item = usize>,
+    ) -> Result<Runs, ArrowError> {
         let mut runs = Runs::default();
         for (of, len) in lens.into_iter().enumerate() {
-            runs.push(Run {
-                of: Some(of),
-                start: 0,
-                len,
-            })?;
+            let (of, start) = (Some(of), 0);
+            runs.push(field, Run { of, start, len })?;
         }
-        Some(runs)
+        Ok(runs)
     }
 
     pub(super) fn len(&self) -> usize {
@@ -111,15 +115,18 @@ impl Runs {
         Rows::Runs(&self.runs, self.len)
     }
 
-    /// Adds a run. Returns None if the number of rows isn't a `usize`.
-    pub(super) fn push(&mut self, run: Run) -> Option<()> {
-        self.len = self.len.checked_add(run.len)?;
+    /// Adds a run. It returns an error if the number of rows isn't a `usize`, or if memory runs out.
+    pub(super) fn push(&mut self, field: &Field, run: Run) -> Result<(), ArrowError> {
+        let len = self.len.checked_add(run.len);
+        self.len = len.ok_or_else(|| too_many(field))?;
         match self.runs.last_mut() {
-            _ if run.len == 0 => (),
-            Some(last) if last.is_before(run) => last.len += run.len,
-            _ => self.runs.push(run),
+            _ if run.len == 0 => Ok(()),
+            Some(last) if last.is_before(run) => {
+                last.len += run.len;
+                Ok(())
+            }
+            _ => push(field, &mut self.runs, run),
         }
-        Some(())
     }
 }
 

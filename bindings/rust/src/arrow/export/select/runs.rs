@@ -3,8 +3,9 @@
 use alloc::vec::Vec;
 
 use super::made::{Made, Nulls};
+use super::memory::{push, zeroed};
 use super::rows::{Rows, Run, Runs};
-use super::{below, put, selected, too_long, too_many, whole, zeroed};
+use super::{below, put, selected, too_long, whole};
 use crate::arrow::array::Array;
 use crate::arrow::error::{ArrowError, Fault};
 use crate::arrow::field::Field;
@@ -71,12 +72,10 @@ impl Kept {
             self.ends.pop();
         } else {
             let (of, start) = (value.map(|it| it.0), value.map_or(0, |it| it.1));
-            let added = self.values.push(Run { of, start, len: 1 });
-            added.ok_or_else(|| too_many(field))?;
+            self.values.push(field, Run { of, start, len: 1 })?;
         }
-        self.ends.push(end);
         self.last = Some(value);
-        Ok(())
+        push(field, &mut self.ends, end)
     }
 }
 

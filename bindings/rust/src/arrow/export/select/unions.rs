@@ -3,8 +3,9 @@
 use alloc::vec::Vec;
 
 use super::made::Made;
+use super::memory::zeroed;
 use super::rows::{Rows, Run, Runs};
-use super::{put, too_long, too_many, whole, zeroed};
+use super::{put, too_long, whole};
 use crate::arrow::array::Array;
 use crate::arrow::error::{ArrowError, Fault};
 use crate::arrow::field::Field;
@@ -121,8 +122,7 @@ impl Dense {
         }
         self.types[row] = id;
         put(&mut self.offsets, row, size_of::<i32>(), offset);
-        let added = self.items[child].push(item);
-        added.ok_or_else(|| too_many(field))
+        self.items[child].push(field, item)
     }
 }
 

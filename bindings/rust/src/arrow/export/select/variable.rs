@@ -4,8 +4,9 @@ use alloc::vec::Vec;
 use core::ffi::c_void;
 
 use super::made::Made;
+use super::memory::{copied, zeroed};
 use super::rows::{Rows, Run, Runs};
-use super::{fixed, joined, put, too_long, whole, zeroed};
+use super::{fixed, joined, put, too_long, whole};
 use crate::Bits;
 use crate::arrow::array::Array;
 use crate::arrow::error::ArrowError;
@@ -75,17 +76,18 @@ fn offsets(
             return Ok(());
         };
         let span = ranges.span(start..start + len).unwrap_or_default();
+        let all = end.checked_add(span.len());
+        if all.is_none_or(|all| width == 4 && i32::try_from(all).is_err()) {
+            let ends = (start..start + len).filter_map(|row| ranges.get(row));
+            let ends = ends.map(|it| end.saturating_add(it.end - span.start));
+            return Err(long(field, ends));
+        }
         let part = Run {
             of: one,
             start: span.start,
             len: span.len(),
         };
-        let added = parts.push(part);
-        if added.is_none() || (width == 4 && i32::try_from(parts.len()).is_err()) {
-            let ends = (start..start + len).filter_map(|row| ranges.get(row));
-            let ends = ends.map(|it| end.saturating_add(it.end - span.start));
-            return Err(long(field, ends));
-        }
+        parts.push(field, part)?;
         let out = &mut offsets[(before + 1) * width..][..len * width];
         ranges.write_ends(start..start + len, end, out);
         Ok(())
@@ -143,7 +145,7 @@ pub(super) fn views(field: &Field, of: &[Array], rows: Rows<'_>) -> Result<Made,
 /// empty.
 fn moved_views(field: &Field, of: &Array, before: usize) -> Result<Vec<u8>, ArrowError> {
     let texts = of.texts()?;
-    let mut views = of.value_bytes().to_vec();
+    let mut views = copied(field, of.value_bytes())?;
     for (row, view) in views.chunks_exact_mut(size_of::<View>()).enumerate() {
         let Some(text) = texts.get(row) else {
             view.fill(0);

@@ -1,0 +1,61 @@
+//! Memory for rows, each with an error if it runs out.
+
+use alloc::vec::Vec;
+
+use crate::arrow::error::ArrowError;
+use crate::arrow::field::Field;
+use crate::bytes::AlignedBytes;
+
+/// Allocates `len` values of `width` bytes, all 0.
+pub(super) fn zeroed(field: &Field, len: usize, width: usize) -> Result<AlignedBytes, ArrowError> {
+    let bytes = len.checked_mul(width);
+    let zeros = bytes.and_then(AlignedBytes::try_zeroed);
+    zeros.ok_or_else(|| none_for(field, bytes.unwrap_or(usize::MAX)))
+}
+
+/// Allocates capacity for `bytes` bytes, without contents.
+pub(super) fn with_room(field: &Field, bytes: usize) -> Result<AlignedBytes, ArrowError> {
+    AlignedBytes::try_with_capacity(bytes).ok_or_else(|| none_for(field, bytes))
+}
+
+/// Returns an empty vector with capacity for `len` items.
+pub(super) fn reserved<T>(field: &Field, len: usize) -> Result<Vec<T>, ArrowError> {
+    let mut items = Vec::new();
+    match items.try_reserve_exact(len) {
+        Ok(()) => Ok(items),
+        Err(_) => Err(none_for(field, len.saturating_mul(size_of::<T>()))),
+    }
+}
+
+/// Returns a copy of the items.
+pub(super) fn copied<T: Copy>(field: &Field, items: &[T]) -> Result<Vec<T>, ArrowError> {
+    let mut copy = reserved(field, items.len())?;
+    copy.extend_from_slice(items);
+    Ok(copy)
+}
+
+/// Appends an item.
+#[inline]
+pub(super) fn push<T>(field: &Field, items: &mut Vec<T>, item: T) -> Result<(), ArrowError> {
+    if items.try_reserve(1).is_err() {
+        let bytes = items.len().saturating_mul(size_of::<T>());
+        return Err(none_for(field, bytes));
+    }
+    items.push(item);
+    Ok(())
+}
+
+#[cold]
+fn none_for(field: &Field, bytes: usize) -> ArrowError {
+    ArrowError::Memory {
+        column: field.name.clone(),
+        bytes,
+    }
+}
+
+/// Returns the error for more rows or items than a `usize` counts.
+#[cold]
+pub(super) fn too_many(field: &Field) -> ArrowError {
+    none_for(field, usize::MAX)
+}
+
