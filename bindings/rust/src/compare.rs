@@ -38,11 +38,16 @@ pub enum Comparison {
 pub trait Compare: Value + PartialOrd + sealed::Compare {}
 
 pub(crate) mod sealed {
+    use core::any::Any;
+
     #[cfg(vortex_bits_native)]
     use crate::native::{CompareNumber, CompareOthers, Kernels};
 
     /// The parts that a type of compared values provides.
     pub trait Compare: Sized {
+        /// Returns the value, for a test of its type.
+        fn as_any(&self) -> &dyn Any;
+
         /// The type that the C functions compare. It has the same layout and order as this one.
         #[cfg(vortex_bits_native)]
         type Laid;
@@ -61,6 +66,11 @@ pub(crate) mod sealed {
             impl super::Compare for $value {}
 
             impl Compare for $value {
+                #[inline]
+                fn as_any(&self) -> &dyn Any {
+                    self
+                }
+
                 #[cfg(vortex_bits_native)]
                 type Laid = $laid;
 
@@ -84,6 +94,11 @@ pub(crate) mod sealed {
             impl super::Compare for $value {}
 
             impl Compare for $value {
+                #[inline]
+                fn as_any(&self) -> &dyn Any {
+                    self
+                }
+
                 #[cfg(vortex_bits_native)]
                 type Laid = $value;
 

@@ -83,6 +83,98 @@ fn two_counts_are_those_of_a_loop() {
     assert_eq!(refused.unwrap(), "a mask of 71 bits for 70");
 }
 
+/// Portable code counts windows of whole bytes by blocks of 1,024 bits, and the rest by words.
+#[test]
+fn counts_of_blocks_are_those_of_a_loop() {
+    let mut random = Random(3);
+    for len in [1023, 1024, 1025, 2047, 2048, 2112, 9215, 9216, 9300] {
+        for (offset, other) in [(0, 0), (8, 16), (3, 3), (3, 8)] {
+            let mut bytes = || -> Vec<u8> { (0..40).flat_map(|_| random.bytes()).collect() };
+            let bytes = [bytes(), bytes()];
+            let left = Bits::new(&bytes[0], offset, len);
+            let right = Bits::new(&bytes[1], other, len);
+            let rows = |is: fn(bool, bool) -> bool| {
+                (0..len).filter(|&row| is(left[row], right[row])).count()
+            };
+            let wanted = [
+                rows(|a, b| a && b),
+                rows(|a, b| a && !b),
+                rows(|a, b| a ^ b),
+            ];
+            let (with, without) = left.split_count(right);
+            assert_eq!([with, without, left.xor_count(right)], wanted, "{len} bits");
+            assert_eq!(
+                [left.and_count(right), left.and_not_count(right)],
+                wanted[..2]
+            );
+            assert_eq!(
+                left.count_ones(),
+                wanted[0] + wanted[1],
+                "{len} bits at {offset}"
+            );
+        }
+    }
+}
+
+#[test]
+fn comparisons_of_64_bits_are_those_of_one_value() {
+    let ends = [
+        i64::MIN,
+        i64::MIN + 1,
+        -2,
+        -1,
+        0,
+        1,
+        2,
+        i64::MAX - 1,
+        i64::MAX,
+    ];
+    let column: Vec<i64> = ends.iter().copied().cycle().take(150).collect();
+    let floats = [f64::NAN, -0.0, 0.0, 1.5, f64::INFINITY, f64::NEG_INFINITY];
+    let prices: Vec<f64> = floats.iter().copied().cycle().take(150).collect();
+    for op in ALL {
+        for end in ends {
+            let wanted: Bitmap = column.iter().map(|it| holds(*it, op, end)).collect();
+            assert_eq!(values::compare(&column, op, end), wanted, "{op:?} {end}");
+        }
+        for end in floats {
+            let wanted: Bitmap = prices.iter().map(|it| holds(*it, op, end)).collect();
+            assert_eq!(values::compare(&prices, op, end), wanted, "{op:?} {end}");
+        }
+    }
+}
+
+/// Indices of each width are tested against a length in their own width.
+#[test]
+fn the_first_index_of_no_row_is_refused_in_each_width() {
+    #[track_caller]
+    fn refused<I: BitIndex>(index: I, len: usize, is: bool) {
+        let (indices, rows) = ([index; 70], Validity::new(None, len));
+        let position = rows.try_take(&indices).map_err(|error| match error {
+            TakeError::Index { position, .. } => position,
+            _ => usize::MAX,
+        });
+        assert_eq!(position, if is { Err(0) } else { Ok(None) });
+        let valid = Bitmap::new_unset(70);
+        assert!(
+            rows.try_take_valid(&indices, Validity::from(valid.bits()))
+                .is_ok()
+        );
+    }
+    refused(0u8, 0, true);
+    refused(255u8, 255, true);
+    refused(255u8, 256, false);
+    refused(127i8, 127, true);
+    refused(127i8, 128, false);
+    refused(-1i8, 1000, true);
+    refused(-1i64, usize::MAX, true);
+    refused(i32::MIN, 3, true);
+    refused(65_535u16, 65_536, false);
+    refused(u64::MAX, 10, true);
+    refused(u128::MAX, usize::MAX, true);
+    refused(9i128, 10, false);
+}
+
 const ALL: [Comparison; 6] = [
     Comparison::Equal,
     Comparison::NotEqual,

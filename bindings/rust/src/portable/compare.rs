@@ -2,25 +2,61 @@
 
 use core::array;
 
-use super::write::pack;
-use crate::compare::Comparison;
+use super::write::{fill, pack, pack_wide};
+use crate::compare::{Compare, Comparison};
 use crate::written::Written;
 
 /// Writes a bit per value: the result of its comparison with the number. There is one value per
 /// bit.
-pub fn compare<T: PartialOrd + Copy>(
-    out: &mut Written<'_>,
-    values: &[T],
-    op: Comparison,
-    number: T,
-) {
-    match op {
-        Comparison::Equal => pack(out, values, |value| value == number),
-        Comparison::NotEqual => pack(out, values, |value| value != number),
-        Comparison::Less => pack(out, values, |value| value < number),
-        Comparison::LessOrEqual => pack(out, values, |value| value <= number),
-        Comparison::Greater => pack(out, values, |value| value > number),
-        Comparison::GreaterOrEqual => pack(out, values, |value| value >= number),
+pub fn compare<T: Compare>(out: &mut Written<'_>, values: &[T], op: Comparison, number: T) {
+    match (op, signed(&number)) {
+        (Comparison::Equal, _) => pack_one(out, values, |value| value == number),
+        (Comparison::NotEqual, _) => pack_one(out, values, |value| value != number),
+        (Comparison::Less, Some(end)) => below(out, values, Some(end), 0),
+        (Comparison::LessOrEqual, Some(last)) => below(out, values, last.checked_add(1), 0),
+        (Comparison::Greater, Some(last)) => below(out, values, last.checked_add(1), u64::MAX),
+        (Comparison::GreaterOrEqual, Some(end)) => below(out, values, Some(end), u64::MAX),
+        (Comparison::Less, None) => pack_one(out, values, |value| value < number),
+        (Comparison::LessOrEqual, None) => pack_one(out, values, |value| value <= number),
+        (Comparison::Greater, None) => pack_one(out, values, |value| value > number),
+        (Comparison::GreaterOrEqual, None) => pack_one(out, values, |value| value >= number),
+    }
+}
+
+/// Returns the value if it is of the type `i64`.
+#[inline]
+fn signed<T: Compare>(value: &T) -> Option<i64> {
+    value.as_any().downcast_ref().copied()
+}
+
+/// Packs with the code that is fastest for the type.
+#[inline]
+fn pack_one<T: Compare>(out: &mut Written<'_>, values: &[T], is_true: impl Fn(T) -> bool) {
+    let is_float = values.first().is_some_and(|it| it.as_any().is::<f64>());
+    if is_float {
+        pack_wide(out, values, is_true, 0);
+    } else {
+        pack(out, values, is_true);
+    }
+}
+
+/// Packs whether each value of the type `i64` is below `end`, with the bits of `flip` negated. All
+/// values are below None.
+///
+/// The sign of the difference tells it, unless the two numbers have different signs. A subtraction
+/// is a vector on each processor, but a comparison of 64 bits is not.
+fn below<T: Compare>(out: &mut Written<'_>, values: &[T], end: Option<i64>, flip: u64) {
+    let number = |value: T| signed(&value).unwrap_or_default();
+    match end {
+        None => fill(out, flip == 0),
+        Some(end @ 0..) => {
+            let is_below = |value| number(value) | number(value).wrapping_sub(end);
+            pack_wide(out, values, |value| is_below(value) < 0, flip);
+        }
+        Some(end) => {
+            let is_below = |value| number(value) & number(value).wrapping_sub(end);
+            pack_wide(out, values, |value| is_below(value) < 0, flip);
+        }
     }
 }
 

@@ -263,6 +263,36 @@ pub fn pack<T: Copy>(out: &mut Written<'_>, values: &[T], is_true: impl Fn(T) ->
     }
 }
 
+/// Packs as [`pack`] does, with the bits of `flip` negated, for values as wide as a word.
+pub(super) fn pack_wide<T: Copy>(
+    out: &mut Written<'_>,
+    values: &[T],
+    is_true: impl Fn(T) -> bool,
+    flip: u64,
+) {
+    for (i, values) in values.chunks(64).enumerate() {
+        let word = match values.first_chunk() {
+            Some(values) => lanes_of(values, &is_true),
+            None => few(values, &is_true),
+        };
+        out.write(64 * i, values.len(), word ^ flip);
+    }
+}
+
+/// Each lane collects every eighth value, so that the compiler shifts and adds vectors of results
+/// as wide as the values. To narrow them to bytes takes twice the instructions.
+#[inline]
+fn lanes_of<T: Copy>(values: &[T; 64], is_true: impl Fn(T) -> bool) -> u64 {
+    let mut lanes = [0; 8];
+    for eight in values.chunks_exact(8).rev() {
+        for (lane, &value) in lanes.iter_mut().zip(eight) {
+            *lane = *lane << 8 | u64::from(is_true(value));
+        }
+    }
+    let digits = lanes.iter().enumerate();
+    digits.fold(0, |word, (at, lane)| word | lane << at)
+}
+
 /// It multiplies eight bytes of 0 or 1 by a number that moves each of them to its bit of the
 /// highest byte.
 #[inline]
