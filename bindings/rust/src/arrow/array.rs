@@ -334,7 +334,9 @@ impl Array {
     /// Returns the children: of a struct or a sparse union with these rows only, of other types
     /// whole.
     pub(super) fn parts(&self) -> impl ExactSizeIterator<Item = Array> + '_ {
-        (0..self.node.children.len()).map(|place| self.part(place))
+        let has_rows = self.children_have_rows();
+        let children = self.node.children.iter();
+        children.map(move |child| self.part_of(child, has_rows))
     }
 
     /// Returns the child at an index as [`parts`](Array::parts) does.
@@ -343,11 +345,18 @@ impl Array {
     ///
     /// Panics if there is no such child.
     pub(super) fn part(&self, place: usize) -> Array {
-        let child = &self.node.children[place];
-        let has_rows = match self.node.field.layout {
+        self.part_of(&self.node.children[place], self.children_have_rows())
+    }
+
+    fn children_have_rows(&self) -> bool {
+        match self.node.field.layout {
             Layout::Union { is_sparse, .. } => is_sparse,
             layout => layout == Layout::Struct,
-        };
+        }
+    }
+
+    #[inline]
+    fn part_of(&self, child: &Arc<Node>, has_rows: bool) -> Array {
         if !has_rows {
             return Array::whole(child);
         }

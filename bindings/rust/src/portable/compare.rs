@@ -13,13 +13,11 @@ pub fn compare<T: Compare>(out: &mut Written<'_>, values: &[T], op: Comparison, 
         (Comparison::Equal, _) => pack_one(out, values, |value| value == number),
         (Comparison::NotEqual, _) => pack_one(out, values, |value| value != number),
         (Comparison::Less, Some(end)) => below(out, values, Some(end), 0),
-        (Comparison::LessOrEqual, Some(last)) => below(out, values, last.checked_add(1), 0),
         (Comparison::Greater, Some(last)) => below(out, values, last.checked_add(1), u64::MAX),
-        (Comparison::GreaterOrEqual, Some(end)) => below(out, values, Some(end), u64::MAX),
         (Comparison::Less, None) => pack_one(out, values, |value| value < number),
-        (Comparison::LessOrEqual, None) => pack_one(out, values, |value| value <= number),
+        (Comparison::LessOrEqual, _) => pack_one(out, values, |value| value <= number),
         (Comparison::Greater, None) => pack_one(out, values, |value| value > number),
-        (Comparison::GreaterOrEqual, None) => pack_one(out, values, |value| value >= number),
+        (Comparison::GreaterOrEqual, _) => pack_one(out, values, |value| value >= number),
     }
 }
 
@@ -43,8 +41,8 @@ fn pack_one<T: Compare>(out: &mut Written<'_>, values: &[T], is_true: impl Fn(T)
 /// Packs whether each value of the type `i64` is below `end`, with the bits of `flip` negated. All
 /// values are below None.
 ///
-/// The sign of the difference tells it, unless the two numbers have different signs. A subtraction
-/// is a vector on each processor, but a comparison of 64 bits is not.
+/// The sign of the difference tells it, unless the two numbers have different signs. For `<` and
+/// `>` this takes half the instructions; for `<=` and `>=` the compiler's own code takes fewer.
 fn below<T: Compare>(out: &mut Written<'_>, values: &[T], end: Option<i64>, flip: u64) {
     let number = |value: T| signed(&value).unwrap_or_default();
     match end {

@@ -96,13 +96,11 @@ impl Made {
         of: &[Array],
         rows: Rows<'_>,
     ) -> Result<(), ArrowError> {
-        match of {
-            [one] => self.children(field, |place| [one.part(place)], |_| rows),
-            _ => {
-                let column = |place| of.iter().map(|it| it.part(place)).collect::<Vec<_>>();
-                self.children(field, column, |_| rows)
-            }
+        if let [one] = of {
+            return self.children(field, |place| [one.part(place)], |_| rows);
         }
+        let column = |place| of.iter().map(|it| it.part(place)).collect::<Vec<_>>();
+        self.children(field, column, |_| rows)
     }
 
     /// Returns an array of `len` rows.
