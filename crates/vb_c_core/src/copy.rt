@@ -1,4 +1,4 @@
-//! Bits written to the bytes of a window: those of another one, also within one slice, or of a word.
+//! Bits written to the bytes of a window: those of another window, or the digits of a word.
 ghost use Rattle.std.specs.Prelude.{◌≡◌, ◌*◌, ◌≤◌, length};
 ghost use Rattle.vb_bits.specs.Bits.{bits};
 ghost use Rattle.vb_bits.specs.Digits.{digits};

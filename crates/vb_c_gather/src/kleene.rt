@@ -51,12 +51,7 @@ pub extern "C" fn vb_and_kleene(
         trues.old trues.new t valid.old valid.new v }
 {
     let left_valid = valid_part(left_all_valid, left_validity, left_validity_offset, len);
-    let right_valid = valid_part(
-        right_all_valid,
-        right_validity,
-        right_validity_offset,
-        len,
-    );
+    let right_valid = valid_part(right_all_valid, right_validity, right_validity_offset, len);
     let left = BitBufferView::new_with_offset(left, len, l);
     let right = BitBufferView::new_with_offset(right, len, r);
     let trues_end = (t + len).div_ceil(8);
@@ -158,12 +153,7 @@ pub extern "C" fn vb_or_kleene(
         trues.old trues.new t valid.old valid.new v }
 {
     let left_valid = valid_part(left_all_valid, left_validity, left_validity_offset, len);
-    let right_valid = valid_part(
-        right_all_valid,
-        right_validity,
-        right_validity_offset,
-        len,
-    );
+    let right_valid = valid_part(right_all_valid, right_validity, right_validity_offset, len);
     let left = BitBufferView::new_with_offset(left, len, l);
     let right = BitBufferView::new_with_offset(right, len, r);
     let trues_end = (t + len).div_ceil(8);

@@ -117,17 +117,16 @@ pub TakesPart-block : (l : List Bool) (xs : List ℤ) (v : Option (List Bool)) (
 TakesPart-block l xs v block valid a (Ok word) few narrow counts takes = λ k h.
     taken_in_block l xs v block valid a k few (narrow k h) (counts k h) ∙ takes k h
 TakesPart-block l xs v block valid a (Err p) few narrow counts takes =
-    let inside : p < 64 = takes.0 in
-    (
+    let inside : p < 64 = takes.0 in (
       inside,
       taken_in_block l xs v block valid a p few (narrow p inside) (counts p inside)
-      ∙ ap (λ b. cond b (slice_get l (get_or block p 0)) (Some false)) takes.1
-      ∙ slice_get_past l (get_or block p 0) takes.2,
+          ∙ ap (λ b. cond b (slice_get l (get_or block p 0)) (Some false)) takes.1
+          ∙ slice_get_past l (get_or block p 0) takes.2,
       λ k h.
-      let small : k < 64 = omega arith in
-      subst IsSome
-      (sym (taken_in_block l xs v block valid a k few (narrow k small) (counts k small)))
-      (some_of (has_bit valid k) k (takes.3 k h)),
+          let small : k < 64 = omega arith in
+          subst IsSome
+          (sym (taken_in_block l xs v block valid a k few (narrow k small) (counts k small)))
+          (some_of (has_bit valid k) k (takes.3 k h)),
     )
   where
     some_of : (b : Bool) (k : ℕ) → (b ≡ true → get_or block k 0 < length l)

@@ -58,4 +58,3 @@ fn none_for(field: &Field, bytes: usize) -> ArrowError {
 pub(super) fn too_many(field: &Field) -> ArrowError {
     none_for(field, usize::MAX)
 }
-
