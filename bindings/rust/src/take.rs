@@ -26,6 +26,10 @@ pub(crate) mod sealed {
         /// Returns the index as a `usize`; None if it doesn't fit.
         fn place(self) -> Option<usize>;
 
+        /// Returns the index as a `usize`; if it is negative or doesn't fit, one that isn't below
+        /// the number of bits that any memory holds. Takes no test where that is a cast.
+        fn place_or_far(self) -> usize;
+
         /// Returns the index itself; `i128::MAX` if it is above that.
         fn number(self) -> i128;
 
@@ -44,6 +48,22 @@ pub(crate) mod sealed {
                 #[inline]
                 fn place(self) -> Option<usize> {
                     usize::try_from(self).ok()
+                }
+
+                #[allow(
+                    clippy::allow_attributes,
+                    clippy::cast_possible_truncation,
+                    clippy::cast_sign_loss,
+                    clippy::cast_lossless,
+                    reason = "a negative index becomes 2^63 or more, and no memory has 2^60 bytes"
+                )]
+                #[inline]
+                fn place_or_far(self) -> usize {
+                    if cfg!(target_pointer_width = "64") && size_of::<$index>() <= 8 {
+                        self as usize
+                    } else {
+                        self.place().unwrap_or(usize::MAX)
+                    }
                 }
 
                 #[inline]

@@ -1,7 +1,6 @@
 //! Takes bits and values at indices, and sets bits there.
 
 use super::word::word_at;
-use super::write::word_of;
 use crate::take::BitIndex;
 use crate::written::Written;
 use crate::{Bits, Value};
@@ -95,18 +94,27 @@ fn some_among<I: BitIndex>(bits: Bits<'_>, indices: &[I], selected: u64) -> u64 
 }
 
 /// Returns the bits at up to 64 indices as the lowest bits of a word, false for an index that is
-/// out of bounds.
+/// out of bounds. The indices of a byte are a loop of known length, which the compiler unrolls.
 #[inline]
 fn among<I: BitIndex>(bits: Bits<'_>, indices: &[I]) -> u64 {
-    let (bytes, offset) = (bits.bytes(), bits.offset());
-    let mut found = [0; 64];
-    for (found, index) in found.iter_mut().zip(indices) {
-        if let Some(place) = index.place().filter(|&place| place < bits.len()) {
-            let bit = offset + place;
-            *found = bytes[bit / 8] >> (bit % 8) & 1;
-        }
-    }
-    word_of(&found, |bit| bit != 0)
+    let eights = indices.chunks_exact(8);
+    let last = few_among(bits, eights.remainder());
+    eights
+        .rev()
+        .fold(last, |word, eight| word << 8 | few_among(bits, eight))
+}
+
+/// The same for up to eight indices.
+#[inline]
+fn few_among<I: BitIndex>(bits: Bits<'_>, indices: &[I]) -> u64 {
+    let (bytes, offset, len) = (bits.bytes(), bits.offset(), bits.len());
+    indices.iter().rev().fold(0, |word, index| {
+        let place = index.place_or_far();
+        let bit = offset.wrapping_add(place);
+        let byte = bytes.get(bit / 8).copied().unwrap_or(0);
+        // A bit behind the window may be in its last byte.
+        word << 1 | u64::from(byte >> (bit % 8) & u8::from(place < len))
+    })
 }
 
 /// Writes the values at the indices. There is one index per item of `out` and per bit of

@@ -57,7 +57,7 @@ fn refused(call: impl Fn() -> Result<Export, ArrowError>) -> usize {
             Err(other) => panic!("request {left}: {other}"),
         }
     };
-    (0..).take_while(is_refused).count()
+    (0..usize::MAX).take_while(is_refused).count()
 }
 
 #[test]
