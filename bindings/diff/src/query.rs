@@ -62,7 +62,28 @@ fn comparisons(case: &Case, random: &mut Random) -> Result<u64, String> {
         let holds = bit(&wanted, case.l + row) && *value >= number;
         put(&mut wanted, case.l + row, holds);
     }
-    same("and_compare", got, wanted)
+    let mut calls = same("and_compare", got.clone(), wanted)?;
+    let others: Vec<i32> = (0..case.len).map(|_| random.below(5) as i32 - 2).collect();
+    let mut wanted = got.clone();
+    let out = BitsMut::new(&mut got, case.l, case.len);
+    values::and_compare_with(&column, Comparison::NotEqual, &others, out);
+    for (row, (value, other)) in column.iter().zip(&others).enumerate() {
+        let holds = bit(&wanted, case.l + row) && value != other;
+        put(&mut wanted, case.l + row, holds);
+    }
+    calls += same("and_compare_with", got.clone(), wanted)?;
+    let mut wanted = got.clone();
+    values::and_is_in(
+        &column,
+        case.right(),
+        BitsMut::new(&mut got, case.l, case.len),
+    );
+    for (row, value) in column.iter().enumerate() {
+        let is_in = usize::try_from(*value).is_ok_and(|it| case.right().get(it) == Some(true));
+        let holds = bit(&wanted, case.l + row) && is_in;
+        put(&mut wanted, case.l + row, holds);
+    }
+    Ok(calls + same("and_is_in", got, wanted)?)
 }
 
 fn orders(case: &Case, random: &mut Random) -> Result<u64, String> {

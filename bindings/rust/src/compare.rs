@@ -1,6 +1,9 @@
 //! Compares values with a number or with other values, into bits.
 
+use core::ops::Range;
+
 use crate::bits_mut::alike;
+use crate::written::Written;
 use crate::{BitsMut, Value, kernels};
 
 #[cfg(feature = "alloc")]
@@ -176,14 +179,46 @@ pub fn compare_into<T: Compare>(values: &[T], op: Comparison, number: T, mut out
 ///
 /// Panics if `mask` doesn't have one bit per value.
 #[track_caller]
-pub fn and_compare<T: Compare>(values: &[T], op: Comparison, number: T, mut mask: BitsMut<'_>) {
+pub fn and_compare<T: Compare>(values: &[T], op: Comparison, number: T, mask: BitsMut<'_>) {
     alike(mask.len(), values.len());
+    and_blocks(mask, |out, rows| {
+        kernels::compare(out, &values[rows], op, number);
+    });
+}
+
+/// Unsets each bit of `mask` for whose value `value op other` is false, with the one of `others` at
+/// the same index, as [`and_compare`] does for a number.
+///
+/// ```
+/// use vortex_bits::{Bitmap, Comparison, values};
+///
+/// let (mut rows, limits) = (Bitmap::from([true, true, false]), [20, 60, 90]);
+/// values::and_compare_with(&[19, 64, 7], Comparison::Less, &limits, rows.bits_mut());
+/// assert_eq!(rows, Bitmap::from([true, false, false]));
+/// ```
+///
+/// # Panics
+///
+/// Panics if there isn't one other per value, or `mask` doesn't have one bit per value.
+#[track_caller]
+pub fn and_compare_with<T: Compare>(values: &[T], op: Comparison, others: &[T], mask: BitsMut<'_>) {
+    alike(others.len(), values.len());
+    alike(mask.len(), values.len());
+    and_blocks(mask, |out, rows| {
+        kernels::compare_with(out, &values[rows.clone()], op, &others[rows]);
+    });
+}
+
+/// Combines `mask` by `&=` with the bits that `write` writes for a range of its rows, a block at a
+/// time.
+fn and_blocks(mut mask: BitsMut<'_>, write: impl Fn(&mut Written<'_>, Range<usize>)) {
     let mut made = [0; 64];
     let most = 8 * made.len();
-    for (i, values) in values.chunks(most).enumerate() {
-        let mut made = BitsMut::new(&mut made, 0, values.len());
-        kernels::compare(&mut made.written(), values, op, number);
-        mask.part(most * i, values.len()).and(made.as_bits());
+    for start in (0..mask.len()).step_by(most) {
+        let rows = start..mask.len().min(start + most);
+        let mut made = BitsMut::new(&mut made, 0, rows.len());
+        write(&mut made.written(), rows.clone());
+        mask.part(start, rows.len()).and(made.as_bits());
     }
 }
 

@@ -34,6 +34,27 @@ pub fn is_in_into<'a, I: BitIndex>(
     portable::is_in(&mut out.written(), set.into(), values, mask);
 }
 
+/// Unsets each bit of `mask` whose value isn't in the set: `&=` with the result of
+/// [`is_in`](crate::values::is_in), which gets no bitmap. Values at unset bits may be any numbers.
+///
+/// ```
+/// use vortex_bits::{Bitmap, values};
+///
+/// let (keys, mut rows) = (Bitmap::from_indices(50, &[7u32, 42]), Bitmap::from([true, true, false]));
+/// values::and_is_in(&[42i64, -7, 7], &keys, rows.bits_mut());
+/// assert_eq!(rows, Bitmap::from([true, false, false]));
+/// ```
+///
+/// # Panics
+///
+/// Panics if `mask` doesn't have one bit per value.
+#[doc(alias("contains", "semi_join"))]
+#[track_caller]
+pub fn and_is_in<'a, I: BitIndex>(values: &[I], set: impl Into<Bits<'a>>, mut mask: BitsMut<'_>) {
+    alike(mask.len(), values.len());
+    portable::and_is_in(&mut mask.written(), set.into(), values);
+}
+
 /// Returns a bit per value: whether `mask` selects it, and it is in a set of whole numbers, which
 /// are the indices of the set bits of `set`. A negative value, and one that isn't below the length
 /// of `set`, is in none. If the mask is None, all values are selected. Values that it doesn't

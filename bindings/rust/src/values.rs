@@ -4,7 +4,8 @@
 //! values; `masked_float_sum` and its like do so for floats. `group_counts`, `group_sums`,
 //! `group_min` and `group_max` aggregate rows by their codes, and `bitmaps_by_code` returns the rows
 //! of each code. `top_k` and `bottom_k` return the first rows of an order. `compare` compares values,
-//! into bits, `and_compare` into a mask, and `is_in` looks them up in a set. `and_kleene` and
+//! into bits, and `is_in` looks them up in a set; `and_compare` and `and_is_in` do so into a mask.
+//! `and_kleene` and
 //! `or_kleene` combine truth values that may be null.
 //!
 //! Each take has a form with a validity for the indices, and a `try_` form that returns an error
@@ -29,14 +30,14 @@ use alloc::vec::Vec;
 pub use crate::by_code::{bitmaps_by_code, try_bitmaps_by_code};
 #[cfg(feature = "alloc")]
 pub use crate::member::is_in;
-pub use crate::member::is_in_into;
+pub use crate::member::{and_is_in, is_in_into};
 #[cfg(feature = "alloc")]
 pub use crate::top::{bottom_k, top_k};
 
 pub use crate::aggregate::{
     masked_checked_sum, masked_max, masked_min, masked_sum, masked_wrapping_sum,
 };
-pub use crate::compare::{and_compare, compare_into, compare_with_into};
+pub use crate::compare::{and_compare, and_compare_with, compare_into, compare_with_into};
 #[cfg(feature = "alloc")]
 pub use crate::compare::{compare, compare_with};
 pub use crate::filter::retain;

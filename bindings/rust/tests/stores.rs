@@ -117,7 +117,7 @@ impl Read {
 type Call = fn(&mut BitsMut<'_>, &Read);
 
 /// Each call that writes a window.
-const CALLS: [(&str, Call); 31] = [
+const CALLS: [(&str, Call); 33] = [
     ("fill", |out, _| out.fill(true)),
     ("unfill", |out, _| out.fill(false)),
     ("negate", |out, _| out.negate()),
@@ -163,6 +163,13 @@ const CALLS: [(&str, Call); 31] = [
     ("and_compare", |out, it| {
         let values = &it.floats[..out.len()];
         values::and_compare(values, Comparison::Less, 90.0, whole(out));
+    }),
+    ("and_compare_with", |out, it| {
+        let values = &it.floats[..out.len()];
+        values::and_compare_with(values, Comparison::NotEqual, values, whole(out));
+    }),
+    ("and_is_in", |out, it| {
+        values::and_is_in(&it.indices[..out.len()], it.right(900), whole(out));
     }),
     ("filter_into", |out, it| {
         let mask = it.mask(out.len());

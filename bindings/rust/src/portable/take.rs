@@ -1,6 +1,6 @@
 //! Takes bits and values at indices, and sets bits there.
 
-use super::word::word_at;
+use super::word::{only_word, word_at};
 use crate::take::BitIndex;
 use crate::written::Written;
 use crate::{Bits, Value};
@@ -68,8 +68,28 @@ pub fn is_in<I: BitIndex>(
     indices: &[I],
     mask: Option<Bits<'_>>,
 ) {
+    let selected = |_: &Written<'_>, i, _| mask.map_or(u64::MAX, |mask| word_at(mask, i));
+    members(out, bits, indices, selected);
+}
+
+/// Unsets the bits of `out` whose index is out of bounds, or names a bit that isn't set. There is
+/// one index per bit.
+pub fn and_is_in<I: BitIndex>(out: &mut Written<'_>, bits: Bits<'_>, indices: &[I]) {
+    let own = |out: &Written<'_>, i, len| only_word(out.as_bits().part(64 * i, len));
+    members(out, bits, indices, own);
+}
+
+/// Writes whether the bits at the indices are set, of those that `selected` returns for a window,
+/// the index of a word, and the number of its bits.
+#[inline]
+fn members<I: BitIndex>(
+    out: &mut Written<'_>,
+    bits: Bits<'_>,
+    indices: &[I],
+    selected: impl Fn(&Written<'_>, usize, usize) -> u64,
+) {
     for (i, indices) in indices.chunks(64).enumerate() {
-        let selected = mask.map_or(u64::MAX, |mask| word_at(mask, i));
+        let selected = selected(out, i, indices.len());
         let word = if selected.count_ones() < FEW {
             some_among(bits, indices, selected)
         } else {
