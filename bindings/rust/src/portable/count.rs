@@ -8,6 +8,13 @@ fn ones(word: u64) -> usize {
     word.count_ones() as usize
 }
 
+/// Whether words are added up before their bits are counted. That is slower where a processor has an
+/// instruction for the bits of a word.
+const ADDS_UP: bool = cfg!(all(
+    any(target_arch = "x86", target_arch = "x86_64"),
+    not(target_feature = "popcnt")
+));
+
 /// The number of bytes of a block, which has eight pairs of words. The compiler makes a vector of
 /// each pair.
 const SIZE: usize = 8 * size_of::<[u64; 2]>();
@@ -90,7 +97,12 @@ pub fn count_ones(bits: Bits<'_>) -> usize {
 
 /// Counts whole blocks, and then words.
 fn ones_of_bytes(bytes: &[u8]) -> usize {
-    let (blocks, rest) = bytes.split_at(bytes.len() / SIZE * SIZE);
+    let size = if ADDS_UP {
+        bytes.len() / SIZE * SIZE
+    } else {
+        0
+    };
+    let (blocks, rest) = bytes.split_at(size);
     let words = rest.chunks_exact(8);
     let last = ones(first_eight(words.remainder()));
     let rest = words.map(eight_of).map(ones).sum::<usize>() + last;
@@ -285,7 +297,7 @@ fn after_blocks<'a, T>(
     add: impl Fn(&mut T, &[u8], &[u8]),
 ) -> (Bits<'a>, Bits<'a>) {
     let size = left.len() / 8 / SIZE * SIZE;
-    if size == 0 || left.offset() % 8 > 0 || right.offset() % 8 > 0 {
+    if !ADDS_UP || size == 0 || left.offset() % 8 > 0 || right.offset() % 8 > 0 {
         return (left, right);
     }
     let bytes = |bits: Bits<'a>| &bits.bytes()[bits.offset() / 8..][..size];
