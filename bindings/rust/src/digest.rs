@@ -4,6 +4,6 @@
 /// What tools/digest prints; tools/write-lists writes it here.
 macro_rules! digest {
     () => {
-        "12a5cdf7f351638a5b676d9a29a744d9a81e647cb5cddf556d092c9987419248"
+        "d84d9d5ddb05658aee8ec64cf64a69832b265250235f5aba258e7e8cb0f4e7c9"
     };
 }

@@ -1,3 +1,4 @@
+pub mod Grouped
 pub mod Optional
 pub mod Selected
 pub mod Wide
@@ -9,3 +10,5 @@ pub use Rattle.vb_bits.specs.Bits
 pub use Rattle.vb_bits.specs.InBytes
 pub use Rattle.vb_bits.specs.Kept
 pub use Rattle.vb_c_core.specs.Fits
+pub use Rattle.vb_c_core.specs.Validity
+pub use Rattle.vb_group.specs.Groups

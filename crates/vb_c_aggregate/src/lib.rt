@@ -1,13 +1,18 @@
-//! Sums, the least and the greatest of the values that a mask selects, as C functions.
+//! Sums, the least and the greatest of the values that a mask selects, and counts and sums by
+//! group, as C functions.
 //!
-//! What a C caller owes is as in `vb_c`: a slice crosses as a pointer and the number of its items.
-//! Values are whole numbers of 8 to 64 bits or floats, and the mask has a bit for each, from bit
-//! `m` on. An exact sum crosses as two halves of 64 bits, and an `Option` as a flag and a value.
-//! Beside each function is a checked form, `vb_try_..`, that requires nothing: it returns whether
-//! the mask has these bits, and where it hasn't, it leaves everything as it was. No call allocates.
+//! A C caller must ensure the same as for `vb_c`: a slice is a pointer and the number of its items.
+//! Values are whole numbers of 8 to 64 bits or floats, codes of groups unsigned numbers of 8 to 32
+//! bits. The mask has a bit for each value, from bit `m` on; that of groups may be ignored. An
+//! exact sum is returned as two halves of 64 bits, and an `Option` as a flag and a value. The
+//! checked form next to a function, `vb_try_..`, requires nothing: it returns whether the numbers
+//! of items fit, and leaves everything unchanged if they don't. No function allocates.
 #![tactic(auto)]
 
 pub mod floats;
+pub mod group_counts;
+pub mod group_sums;
+mod grouped;
 pub mod optional;
 mod selected;
 pub mod signed_extremes;

@@ -1,7 +1,6 @@
 //! Bits deposited at the set bits of a mask.
 ghost use Rattle.std.specs.Prelude.{◌≡◌};
-ghost use Rattle.vb_bits.specs.Bits.{bits, count};
-ghost use Rattle.vb_bits.specs.InBytes.{InBytes};
+ghost use Rattle.vb_bits.specs.Bits.{bits};
 ghost use Rattle.vb_c_gather.specs.Deposited.{Deposits, DepositFits};
 ghost use Rattle.vb_c_core.specs.Fits.{DoneIf};
 

@@ -1,5 +1,5 @@
 //! Bits built from other bits, as C functions: filters of bits, their deposits, takes, packs of
-//! truth values, and `and` and `or` of truth values that may be null.
+//! truth values, `and` and `or` of truth values that may be null, and bits unpacked to bytes.
 //!
 //! A C caller must ensure the same as for `vb_c`: a slice is a pointer and the number of its items.
 //! A function has the contract of the kernel that it calls. It writes from any bit on, so that the
@@ -13,3 +13,4 @@ pub mod filter;
 pub mod kleene;
 pub mod pack;
 pub mod take;
+pub mod unpack;

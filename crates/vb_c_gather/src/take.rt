@@ -1,10 +1,9 @@
 // Written in part by tools/write-lists from tools/families/take_bits.txt.
 //! Bits taken at indices.
-ghost use Rattle.std.specs.Prelude.{◌≡◌, ◌+◌, ◌*◌, ◌≤◌, IfOk, IfErr, length, map, pos};
+ghost use Rattle.std.specs.Prelude.{◌≡◌, ◌+◌, length, map, pos};
 ghost use Rattle.std.specs.Option.{ForSome, option_map};
 ghost use Rattle.vb_bits.specs.Bits.{bits};
 ghost use Rattle.vb_bits.specs.InBytes.{InBytes};
-ghost use Rattle.vb_bits.specs.Writes.{Writes};
 ghost use Rattle.vb_c_core.specs.Fits.{DoneIf};
 ghost use Rattle.vb_c_core.specs.Validity.{HasValidity, validity_of};
 ghost use Rattle.vb_c_gather.specs.Taken.{TakesAt};

@@ -1,4 +1,5 @@
 pub mod Filtered
+pub mod Scattered
 pub mod Taken
 pub mod WideLaws
 pub use Rattle.vb_bits.specs.Bits
@@ -7,4 +8,5 @@ pub use Rattle.vb_bits.specs.Kept
 pub use Rattle.vb_c_core.specs.Fits
 pub use Rattle.vb_c_core.specs.Validity
 pub use Rattle.vb_core.specs.Elements
+pub use Rattle.vb_expand.specs.Scatter
 pub use Rattle.vb_take.specs.ItemsTaken

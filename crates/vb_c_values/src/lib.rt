@@ -1,5 +1,5 @@
 //! The functions over slices of values as C functions: values that a mask selects, also in place,
-//! and values at indices.
+//! values scattered by a mask, and values at indices.
 //!
 //! A C caller must ensure the same as for `vb_c`: a slice is a pointer and the number of its items.
 //! A function has the contract of the kernel that it calls. A value has 1, 2, 4, 8 or 16 bytes. It
@@ -10,5 +10,6 @@
 
 pub mod filter;
 pub mod retain;
+pub mod scatter;
 pub mod take_values;
 pub mod wide;

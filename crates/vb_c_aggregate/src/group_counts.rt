@@ -1,9 +1,9 @@
 // Written by tools/write-lists from tools/families/groups.txt.
 //! Counts of rows by group.
 ghost use Rattle.std.specs.Prelude.{◌≡◌, length, pos};
+ghost use Rattle.vb_c_aggregate.specs.Grouped.{CountsGroups};
 ghost use Rattle.vb_c_core.specs.Fits.{DoneIf};
 ghost use Rattle.vb_c_core.specs.Validity.{HasValidity, validity_of};
-ghost use Rattle.vb_c_group.specs.Grouped.{CountsGroups};
 
 use crate::grouped::{count, try_count};
 use vb_c_core::Taken;

@@ -3,9 +3,9 @@
 ghost use Rattle.std.specs.Int.{w64, int_wrap};
 ghost use Rattle.std.specs.Prelude.{◌≡◌, ◌+ℤ◌, length, pos};
 ghost use Rattle.vb_aggregate.specs.Wraps.{wrap_unsigned};
+ghost use Rattle.vb_c_aggregate.specs.Grouped.{SumsGroups};
 ghost use Rattle.vb_c_core.specs.Fits.{DoneIf};
 ghost use Rattle.vb_c_core.specs.Validity.{HasValidity, validity_of};
-ghost use Rattle.vb_c_group.specs.Grouped.{SumsGroups};
 
 use crate::grouped::{sum, try_sum};
 use vb_c_core::Taken;

@@ -1,8 +1,8 @@
 //! Counts and sums by group, by a window of bytes as the mask.
 ghost use Rattle.std.specs.Prelude.{◌≡◌, ◌+ℤ◌, length};
+ghost use Rattle.vb_c_aggregate.specs.Grouped.{CountsGroups, SumsGroups};
 ghost use Rattle.vb_c_core.specs.Fits.{DoneIf};
 ghost use Rattle.vb_c_core.specs.Validity.{HasValidity, validity_of};
-ghost use Rattle.vb_c_group.specs.Grouped.{CountsGroups, SumsGroups};
 
 use vb_aggregate::Summand;
 use vb_bits::window_fits;

@@ -1,11 +1,11 @@
 // Written by tools/write-lists from tools/families/groups.txt.
-//! Sums of values by group, for codes of 32 bits.
+//! Sums of values by group, for codes of 16 bits.
 ghost use Rattle.std.specs.Int.{w64, int_wrap};
 ghost use Rattle.std.specs.Prelude.{◌≡◌, ◌+ℤ◌, length, pos};
 ghost use Rattle.vb_aggregate.specs.Wraps.{wrap_unsigned};
+ghost use Rattle.vb_c_aggregate.specs.Grouped.{SumsGroups};
 ghost use Rattle.vb_c_core.specs.Fits.{DoneIf};
 ghost use Rattle.vb_c_core.specs.Validity.{HasValidity, validity_of};
-ghost use Rattle.vb_c_group.specs.Grouped.{SumsGroups};
 
 use crate::grouped::{sum, try_sum};
 use vb_c_core::Taken;
@@ -18,9 +18,9 @@ use vb_c_core::Taken;
 /// mask is ignored. Else a row is selected if its bit of `mask`, from bit `m` on, is true; the
 /// codes of the others are ignored.
 #[unsafe(no_mangle)]
-pub extern "C" fn vb_group_sums_u8_u32(
+pub extern "C" fn vb_group_sums_u8_u16(
     sums: &mut [u64],
-    codes: &[u32],
+    codes: &[u16],
     values: &[u8],
     all_selected: bool,
     mask: &[u8],
@@ -36,12 +36,12 @@ pub extern "C" fn vb_group_sums_u8_u32(
 }
 
 /// Returns whether there is a value for each code, and the mask, unless it is ignored, has a bit
-/// for each. If so, does [`vb_group_sums_u8_u32`] and writes its result to `past`; else leaves
+/// for each. If so, does [`vb_group_sums_u8_u16`] and writes its result to `past`; else leaves
 /// `sums` and `past` unchanged.
 #[unsafe(no_mangle)]
-pub extern "C" fn vb_try_group_sums_u8_u32(
+pub extern "C" fn vb_try_group_sums_u8_u16(
     sums: &mut [u64],
-    codes: &[u32],
+    codes: &[u16],
     values: &[u8],
     all_selected: bool,
     mask: &[u8],
@@ -65,9 +65,9 @@ pub extern "C" fn vb_try_group_sums_u8_u32(
 /// mask is ignored. Else a row is selected if its bit of `mask`, from bit `m` on, is true; the
 /// codes of the others are ignored.
 #[unsafe(no_mangle)]
-pub extern "C" fn vb_group_sums_u16_u32(
+pub extern "C" fn vb_group_sums_u16_u16(
     sums: &mut [u64],
-    codes: &[u32],
+    codes: &[u16],
     values: &[u16],
     all_selected: bool,
     mask: &[u8],
@@ -83,12 +83,12 @@ pub extern "C" fn vb_group_sums_u16_u32(
 }
 
 /// Returns whether there is a value for each code, and the mask, unless it is ignored, has a bit
-/// for each. If so, does [`vb_group_sums_u16_u32`] and writes its result to `past`; else leaves
+/// for each. If so, does [`vb_group_sums_u16_u16`] and writes its result to `past`; else leaves
 /// `sums` and `past` unchanged.
 #[unsafe(no_mangle)]
-pub extern "C" fn vb_try_group_sums_u16_u32(
+pub extern "C" fn vb_try_group_sums_u16_u16(
     sums: &mut [u64],
-    codes: &[u32],
+    codes: &[u16],
     values: &[u16],
     all_selected: bool,
     mask: &[u8],
@@ -112,9 +112,9 @@ pub extern "C" fn vb_try_group_sums_u16_u32(
 /// mask is ignored. Else a row is selected if its bit of `mask`, from bit `m` on, is true; the
 /// codes of the others are ignored.
 #[unsafe(no_mangle)]
-pub extern "C" fn vb_group_sums_u32_u32(
+pub extern "C" fn vb_group_sums_u32_u16(
     sums: &mut [u64],
-    codes: &[u32],
+    codes: &[u16],
     values: &[u32],
     all_selected: bool,
     mask: &[u8],
@@ -130,12 +130,12 @@ pub extern "C" fn vb_group_sums_u32_u32(
 }
 
 /// Returns whether there is a value for each code, and the mask, unless it is ignored, has a bit
-/// for each. If so, does [`vb_group_sums_u32_u32`] and writes its result to `past`; else leaves
+/// for each. If so, does [`vb_group_sums_u32_u16`] and writes its result to `past`; else leaves
 /// `sums` and `past` unchanged.
 #[unsafe(no_mangle)]
-pub extern "C" fn vb_try_group_sums_u32_u32(
+pub extern "C" fn vb_try_group_sums_u32_u16(
     sums: &mut [u64],
-    codes: &[u32],
+    codes: &[u16],
     values: &[u32],
     all_selected: bool,
     mask: &[u8],
@@ -159,9 +159,9 @@ pub extern "C" fn vb_try_group_sums_u32_u32(
 /// mask is ignored. Else a row is selected if its bit of `mask`, from bit `m` on, is true; the
 /// codes of the others are ignored.
 #[unsafe(no_mangle)]
-pub extern "C" fn vb_group_sums_u64_u32(
+pub extern "C" fn vb_group_sums_u64_u16(
     sums: &mut [u64],
-    codes: &[u32],
+    codes: &[u16],
     values: &[u64],
     all_selected: bool,
     mask: &[u8],
@@ -177,12 +177,12 @@ pub extern "C" fn vb_group_sums_u64_u32(
 }
 
 /// Returns whether there is a value for each code, and the mask, unless it is ignored, has a bit
-/// for each. If so, does [`vb_group_sums_u64_u32`] and writes its result to `past`; else leaves
+/// for each. If so, does [`vb_group_sums_u64_u16`] and writes its result to `past`; else leaves
 /// `sums` and `past` unchanged.
 #[unsafe(no_mangle)]
-pub extern "C" fn vb_try_group_sums_u64_u32(
+pub extern "C" fn vb_try_group_sums_u64_u16(
     sums: &mut [u64],
-    codes: &[u32],
+    codes: &[u16],
     values: &[u64],
     all_selected: bool,
     mask: &[u8],
@@ -206,9 +206,9 @@ pub extern "C" fn vb_try_group_sums_u64_u32(
 /// mask is ignored. Else a row is selected if its bit of `mask`, from bit `m` on, is true; the
 /// codes of the others are ignored.
 #[unsafe(no_mangle)]
-pub extern "C" fn vb_group_sums_i8_u32(
+pub extern "C" fn vb_group_sums_i8_u16(
     sums: &mut [i64],
-    codes: &[u32],
+    codes: &[u16],
     values: &[i8],
     all_selected: bool,
     mask: &[u8],
@@ -224,12 +224,12 @@ pub extern "C" fn vb_group_sums_i8_u32(
 }
 
 /// Returns whether there is a value for each code, and the mask, unless it is ignored, has a bit
-/// for each. If so, does [`vb_group_sums_i8_u32`] and writes its result to `past`; else leaves
+/// for each. If so, does [`vb_group_sums_i8_u16`] and writes its result to `past`; else leaves
 /// `sums` and `past` unchanged.
 #[unsafe(no_mangle)]
-pub extern "C" fn vb_try_group_sums_i8_u32(
+pub extern "C" fn vb_try_group_sums_i8_u16(
     sums: &mut [i64],
-    codes: &[u32],
+    codes: &[u16],
     values: &[i8],
     all_selected: bool,
     mask: &[u8],
@@ -253,9 +253,9 @@ pub extern "C" fn vb_try_group_sums_i8_u32(
 /// mask is ignored. Else a row is selected if its bit of `mask`, from bit `m` on, is true; the
 /// codes of the others are ignored.
 #[unsafe(no_mangle)]
-pub extern "C" fn vb_group_sums_i16_u32(
+pub extern "C" fn vb_group_sums_i16_u16(
     sums: &mut [i64],
-    codes: &[u32],
+    codes: &[u16],
     values: &[i16],
     all_selected: bool,
     mask: &[u8],
@@ -271,12 +271,12 @@ pub extern "C" fn vb_group_sums_i16_u32(
 }
 
 /// Returns whether there is a value for each code, and the mask, unless it is ignored, has a bit
-/// for each. If so, does [`vb_group_sums_i16_u32`] and writes its result to `past`; else leaves
+/// for each. If so, does [`vb_group_sums_i16_u16`] and writes its result to `past`; else leaves
 /// `sums` and `past` unchanged.
 #[unsafe(no_mangle)]
-pub extern "C" fn vb_try_group_sums_i16_u32(
+pub extern "C" fn vb_try_group_sums_i16_u16(
     sums: &mut [i64],
-    codes: &[u32],
+    codes: &[u16],
     values: &[i16],
     all_selected: bool,
     mask: &[u8],
@@ -300,9 +300,9 @@ pub extern "C" fn vb_try_group_sums_i16_u32(
 /// mask is ignored. Else a row is selected if its bit of `mask`, from bit `m` on, is true; the
 /// codes of the others are ignored.
 #[unsafe(no_mangle)]
-pub extern "C" fn vb_group_sums_i32_u32(
+pub extern "C" fn vb_group_sums_i32_u16(
     sums: &mut [i64],
-    codes: &[u32],
+    codes: &[u16],
     values: &[i32],
     all_selected: bool,
     mask: &[u8],
@@ -318,12 +318,12 @@ pub extern "C" fn vb_group_sums_i32_u32(
 }
 
 /// Returns whether there is a value for each code, and the mask, unless it is ignored, has a bit
-/// for each. If so, does [`vb_group_sums_i32_u32`] and writes its result to `past`; else leaves
+/// for each. If so, does [`vb_group_sums_i32_u16`] and writes its result to `past`; else leaves
 /// `sums` and `past` unchanged.
 #[unsafe(no_mangle)]
-pub extern "C" fn vb_try_group_sums_i32_u32(
+pub extern "C" fn vb_try_group_sums_i32_u16(
     sums: &mut [i64],
-    codes: &[u32],
+    codes: &[u16],
     values: &[i32],
     all_selected: bool,
     mask: &[u8],
@@ -347,9 +347,9 @@ pub extern "C" fn vb_try_group_sums_i32_u32(
 /// mask is ignored. Else a row is selected if its bit of `mask`, from bit `m` on, is true; the
 /// codes of the others are ignored.
 #[unsafe(no_mangle)]
-pub extern "C" fn vb_group_sums_i64_u32(
+pub extern "C" fn vb_group_sums_i64_u16(
     sums: &mut [i64],
-    codes: &[u32],
+    codes: &[u16],
     values: &[i64],
     all_selected: bool,
     mask: &[u8],
@@ -365,12 +365,12 @@ pub extern "C" fn vb_group_sums_i64_u32(
 }
 
 /// Returns whether there is a value for each code, and the mask, unless it is ignored, has a bit
-/// for each. If so, does [`vb_group_sums_i64_u32`] and writes its result to `past`; else leaves
+/// for each. If so, does [`vb_group_sums_i64_u16`] and writes its result to `past`; else leaves
 /// `sums` and `past` unchanged.
 #[unsafe(no_mangle)]
-pub extern "C" fn vb_try_group_sums_i64_u32(
+pub extern "C" fn vb_try_group_sums_i64_u16(
     sums: &mut [i64],
-    codes: &[u32],
+    codes: &[u16],
     values: &[i64],
     all_selected: bool,
     mask: &[u8],

@@ -3,7 +3,7 @@
 ghost use Rattle.std.specs.Prelude.{◌≡◌, length};
 ghost use Rattle.vb_bits.specs.Bits.{bits};
 ghost use Rattle.vb_c_core.specs.Fits.{DoneIf, KeptFits};
-ghost use Rattle.vb_c_expand.specs.Scattered.{Scatters};
+ghost use Rattle.vb_c_values.specs.Scattered.{Scatters};
 
 use crate::wide::Wide;
 use vb_bits::window_fits;
