@@ -164,13 +164,15 @@ TESTS = [
     Single(
         "any_set", TRUTH, "any",
         "Returns whether any of the `len` bits from bit `offset` on is set (false for no bits). "
-        "Reads up to the first set bit, four words at once.",
+        "Reads the first eight bytes, then the last eight, then the words between, eight at once, "
+        "up to those with a set bit.",
         "{} ↔ (0 < count (bits bytes.now offset len))",
     ),
     Single(
         "all_set", TRUTH, "all",
         "Returns whether all of the `len` bits from bit `offset` on are set (true for no bits). "
-        "Reads up to the first unset bit, four words at once.",
+        "Reads the first eight bytes, then the last eight, then the words between, eight at once, "
+        "up to those with an unset bit.",
         "{} ↔ (count (bits bytes.now offset len) ≡ len)",
     ),
 ]

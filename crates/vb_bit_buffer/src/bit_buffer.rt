@@ -355,7 +355,8 @@ impl<A: Allocator + Clone> BitBuffer<A> {
     }
 
     /// Returns the index of the `n`-th true bit, counted from 0, or `None` if at most `n` bits are
-    /// true. Counts from the start, 64 bytes at a time, up to the bytes that have the bit.
+    /// true. Counts from the start, 64 bytes at a time, up to the bytes that have the bit; of more
+    /// than 4,096 bytes it may also count some behind these.
     ///
     /// ```rust
     /// let set = BitBuffer::from_bools(alloc, &[false, true, false, false, true, false])?;
@@ -427,16 +428,16 @@ impl<A: Allocator + Clone> BitBuffer<A> {
         self.as_view().previous_unset(before)
     }
 
-    /// Returns whether any bit is true; false if there are no bits. Reads up to the first true bit,
-    /// four words at once.
+    /// Returns whether any bit is true; false if there are no bits. Reads the first eight bytes,
+    /// then the last eight, then the words between, eight at once, up to those with a true bit.
     pub fn any_set(&self) -> bool
         ensures { IsTrue result ↔ (0 < count self.now.bits) }
     {
         self.as_view().any_set()
     }
 
-    /// Returns whether all bits are true; true if there are no bits. Reads up to the first false
-    /// bit, four words at once.
+    /// Returns whether all bits are true; true if there are no bits. Reads the first eight bytes,
+    /// then the last eight, then the words between, eight at once, up to those with a false bit.
     pub fn all_set(&self) -> bool
         ensures { IsTrue result ↔ (count self.now.bits ≡ length self.now.bits) }
     {

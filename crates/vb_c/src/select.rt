@@ -9,8 +9,8 @@ ghost use Rattle.vb_c_core.specs.Place.{answered_place};
 use vb_c_core::Place;
 
 /// Returns the index of the `n`-th set bit of the window of `len` bits from bit `offset` on,
-/// counted from 0; finds none if at most `n` are set. Reads from the front, 64 bytes at a time, up
-/// to the bytes that have it.
+/// counted from 0; finds none if at most `n` are set. Counts from the front, 64 bytes at a time, up
+/// to the bytes that have it; of more than 4,096 bytes it may also count some behind these.
 #[unsafe(no_mangle)]
 pub extern "C" fn vb_select(bytes: &[u8], offset: usize, len: usize, n: usize) -> Place
     requires window { InBytes bytes.now offset len }
@@ -54,7 +54,7 @@ pub extern "C" fn vb_select_unset_wide(bytes: &[u8], offset: usize, len: usize, 
 }
 
 /// Returns the index of the last set bit of the window of `len` bits from bit `offset` on; finds
-/// none if no bit is set. Reads from the end, eight bytes at a time.
+/// none if no bit is set. Reads words from the end, eight at once.
 #[unsafe(no_mangle)]
 pub extern "C" fn vb_last_set(bytes: &[u8], offset: usize, len: usize) -> Place
     requires window { InBytes bytes.now offset len }

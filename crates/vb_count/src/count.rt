@@ -45,7 +45,8 @@ pub fn count_ones(bytes: &[u8], offset: usize, len: usize) -> usize
 /// that the window is in bounds and that `offset + len` fits in a `usize`.
 ///
 /// It is for vectors of 32 bytes and more. At x86-64-v3 it is faster than [`count_ones`] for
-/// windows of 32,768 bits and more, since adders count them; at x86-64-v2 it is slower.
+/// windows from 32,768 bits to 8 MiB, since adders count them; at x86-64-v2 it is slower. Longer
+/// windows are counted alike.
 pub fn count_ones_wide(bytes: &[u8], offset: usize, len: usize) -> usize
     requires window { InBytes bytes.now offset len }
     ensures { result ≡ count (bits bytes.now offset len) }

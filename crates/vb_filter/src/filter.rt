@@ -32,9 +32,10 @@ pub fn filter_into(out: &mut [u8], values: BitBufferView<'_>, mask: BitBufferVie
 /// Writes the bits whose bit in the mask is true, in order, to `out` from bit `offset` on, and
 /// returns their number. All other bits of `out` keep their values.
 ///
-/// The mask must be as long as the bits. The selected bits must fit in `out` after bit `offset`.
-/// Stores no byte after that of the last selected bit, and before bit `offset` at most the eight
-/// bytes of its word. Does not allocate. Works as [`filter_into`] does, 64 bits at a time.
+/// The mask must be as long as the bits. The selected bits must fit in `out` after bit `offset`,
+/// and `offset` plus their number in a `usize`. Stores no byte after that of the last selected bit,
+/// and before bit `offset` at most the eight bytes of its word. Does not allocate. Works as
+/// [`filter_into`] does, 64 bits at a time.
 pub fn filter_into_at(
     out: &mut [u8],
     offset: usize,
@@ -51,8 +52,9 @@ pub fn filter_into_at(
     filter_behind(out, pending, offset, values, mask)
 }
 
-/// Returns the bits whose bit in the mask is true, in order, as the lowest digits of a word, and
-/// their number. The mask must be as long as the bits, at most 64. Reads both windows once.
+/// Returns the bits whose bit in the mask is true, in order, as the lowest digits of a word, whose
+/// other digits are 0, and their number. The mask must be as long as the bits, at most 64. Reads
+/// both windows once.
 pub fn filter_word(values: BitBufferView<'_>, mask: BitBufferView<'_>) -> (u64, usize)
     requires few { length (bits_of mask) ≤ 64 }
     requires same_len { length (bits_of values) ≡ length (bits_of mask) }
@@ -60,6 +62,7 @@ pub fn filter_word(values: BitBufferView<'_>, mask: BitBufferView<'_>) -> (u64, 
     ensures few { result.1 ≤ 64 }
     ensures kept { digits result.0 0 result.1
         ≡ kept_by (bits_of mask.entry) (bits_of values.entry) }
+    ensures clear { result.0 < 2 ^ result.1 }
 {
     kept_digits(values, mask, 0, mask.len())
 }

@@ -28,8 +28,8 @@ use vb_view::BitBufferView;
 /// Returns `OutOfMemory` if memory runs out. Allocates with `alloc`: the bytes before the first
 /// comparison, and the count of owners after the last one.
 ///
-/// Compares as `compare_into` does, 64 at once if a value has at most 64 bits. A validity adds one
-/// pass over the words of the bits.
+/// Compares as `compare_into` does, 64 at once if a value has at most 32 bits, else eight. A
+/// validity adds one pass over the words of the bits.
 ///
 /// ```rust
 /// let values = Buffer::copy_from(alloc, &[7u32, 0, 9, 4])?;

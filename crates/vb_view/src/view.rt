@@ -331,7 +331,8 @@ impl<'a> BitBufferView<'a> {
     }
 
     /// Returns the index of the `n`-th set bit, counted from 0; `None` if at most `n` bits are set.
-    /// Counts from the front, 64 bytes at a time, up to the bytes that have it.
+    /// Counts from the front, 64 bytes at a time, up to the bytes that have it; of more than 4,096
+    /// bytes it may also count some behind these.
     pub fn select(&self, n: usize) -> Option<usize>
         ensures place { Selects (bits_of self.now) n result }
         ensures each { InvertsCount (bits_of self.now) n result }
@@ -392,16 +393,16 @@ impl<'a> BitBufferView<'a> {
         previous_unset(self.bytes, self.offset, self.len, before)
     }
 
-    /// Returns whether any bit is set (false for no bits). Reads up to the first set bit, four
-    /// words at once.
+    /// Returns whether any bit is set (false for no bits). Reads the first eight bytes, then the
+    /// last eight, then the words between, eight at once, up to those with a set bit.
     pub fn any_set(&self) -> bool
         ensures { IsTrue result ↔ (0 < count (bits_of self.now)) }
     {
         any_set(self.bytes, self.offset, self.len)
     }
 
-    /// Returns whether all bits are set (true for no bits). Reads up to the first unset bit, four
-    /// words at once.
+    /// Returns whether all bits are set (true for no bits). Reads the first eight bytes, then the
+    /// last eight, then the words between, eight at once, up to those with an unset bit.
     pub fn all_set(&self) -> bool
         ensures { IsTrue result ↔ (count (bits_of self.now) ≡ length (bits_of self.now)) }
     {

@@ -1,5 +1,5 @@
 //! Constructors from nothing, from equal items, from copies and from iterators.
-ghost use Rattle.std.specs.Prelude.{◌≡◌, ◌≢◌, ◌≤◌, ⊤, List, [], length, replicate, IfOk, Err};
+ghost use Rattle.std.specs.Prelude.{◌≡◌, ◌≢◌, ◌≤◌, ⊤, List, [], length, replicate, IfOk, IsOk, Err};
 ghost use Rattle.std.specs.Iterator.{Drains, IsFiniteIterable};
 ghost use Rattle.vb_mem.specs.Makes.{Makes};
 ghost use Rattle.vb_mem.specs.Collected.{OfItems, OfRun, GivesValues, GivesError, IfItem};
@@ -201,12 +201,13 @@ impl<T: Element, A: Allocator> BufferMut<T, A> {
 
     /// Returns the items of an iterator whose length is known, over-aligned to 256 bytes. The
     /// caller must prove that its `next` may be called. Returns `OutOfMemory`, before it polls the
-    /// first item, if memory runs out.
+    /// first item, if memory runs out. Does not allocate if the iterator has no items.
     pub fn from_trusted_len_iter<I: TrustedLen<Item = T>>(alloc: A, iter: I) -> Result<Self>
         requires { I.can_next iter }
         ensures made { Makes (λ b. (items : List T) × Drains I.next_gives iter items
             × HoldsMade items T.align_exponent b) result }
         ensures len { IfOk result (λ b. length b.list ≡ I.left iter) }
+        ensures none { I.left iter ≡ 0 → IsOk result }
     {
         let mut buffer = BufferMut::empty(alloc);
         buffer.extend_trusted(iter)?;

@@ -47,8 +47,8 @@ impl<A: Allocator + Clone> BitBufferMut<A> {
     /// iterator's size hint: it allocates as the items come. While they fit in
     /// [`capacity`](Self::capacity), the call does not allocate, and the capacity does not change.
     ///
-    /// Returns `TooManyBits` if the offset, the bits and the items together exceed `usize::MAX`.
-    /// Otherwise it returns `OutOfMemory` if memory runs out. On error the set keeps the first
+    /// Returns `TooManyBits` only if the offset, the bits and the items together exceed
+    /// `usize::MAX`, and `OutOfMemory` if memory runs out before. On error the set keeps the first
     /// items, up to its capacity. At most 64 more items are lost, and the call does not poll the
     /// items after those.
     pub fn extend<I: IntoIterator<Item = bool>>(&mut self, iter: I) -> Result<()>
