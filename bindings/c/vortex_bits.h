@@ -9,8 +9,8 @@
  * The last command links the shared library. In a checkout this file is in bindings/c, and
  * `bindings/build x86-64-v2 x86-64-v3` writes the libraries to bindings/out. This file includes
  * vortex_bits_gather.h (bits built from other bits), vortex_bits_ranks.h (ranks over a table of
- * counts), vortex_bits_values.h and vortex_bits_compare.h (values). vortex_bits.hpp has C++
- * classes.
+ * counts), vortex_bits_values.h, vortex_bits_compare.h and vortex_bits_aggregate.h (values).
+ * vortex_bits.hpp has C++ classes.
  *
  * libvortex_bits.a and libvortex_bits.so have code for x86-64-v2 and for x86-64-v3, and run the
  * higher one that the processor has. libvortex_bits_x86-64-v2.a and libvortex_bits_x86-64-v3.a have
@@ -20,15 +20,16 @@
  *
  * Bit i of some bytes is bit i % 8 of byte i / 8, least significant first. A window is the `len`
  * bits starting at bit `offset`. No result depends on a bit outside the windows that a call names,
- * and no such bit changes. Lengths, offsets and indices are in bits. A number whose name ends in
- * `size` is in bytes, and one whose name ends in `count` is in items.
+ * and no such bit changes, except by calls that end in _padded. Lengths, offsets and indices are in
+ * bits. A number whose name ends in `size` is in bytes, and one whose name ends in `count` is in
+ * items.
  *
  * A call may load any of the `size` bytes that it is given to read. In a window that it writes, it
  * loads and stores only the bytes that have a bit of the window; the other bits of the first and
  * the last byte are stored unchanged. Of items, such as values, indices and runs, it stores only
- * those that it returns, whatever the capacity. Any thread may call any function. Two threads may
- * write windows of one bitmap at once if these share no byte, such as the first 1,000 bits and the
- * next 1,000.
+ * those that it returns, whatever the capacity; a take that finds a bad index may store items for
+ * all indices. Any thread may call any function. Two threads may write windows of one bitmap at
+ * once if these share no byte, such as the first 1,000 bits and the next 1,000.
  *
  * For every call, the caller must ensure: each pointer points to the number of items that the next
  * argument gives, and may be null if that is 0; the last pointer of a vb_try_ function, to the
@@ -40,8 +41,9 @@
  * A vb_try_ function requires no more than every call does. It tests sizes, offsets, lengths and
  * capacities, and that no pointer is null whose number is not 0, as after a failed malloc. If a
  * test fails, it returns false and leaves everything unchanged. An index that is out of range is
- * not such a failure: takes report the first one in the vb_taken that they return, their vb_try_
- * forms in `taken`. No function allocates memory or keeps a pointer.
+ * not such a failure: takes and calls by group report the first one in the vb_taken that they
+ * return, their vb_try_ forms write it to their last pointer. No function allocates memory or keeps
+ * a pointer.
  *
  * For an Arrow array, `offset` is the array's plus those of the structs that it is a column of, and
  * `size` is (offset + len + 7) / 8. A missing validity, a null pointer, means that all are valid:
@@ -54,12 +56,13 @@
  *     assert(vb_and_count(WINDOW(a), WINDOW(a), 5) == 4);
  *
  * The functions of each level are proved. The code in front of them is written by hand, and tested:
- * it replaces a null pointer to no items by one that they accept; checked forms reject others; it
- * selects the level; vb_set_indices, vb_set_indices_u32, vb_set_slices and their checked forms work
- * by pages of memory, and join runs that cross page ends; it packs bools as bytes, and unpacks them
- * so; vb_filter_values, vb_retain_values, vb_scatter_values and vb_take_values choose by sizes, and
- * the functions of validities that may be missing by which are; vb_set_slices_u32 narrows the
- * indices of runs. The C++ classes are also written by hand, and tested.
+ * it replaces a null pointer to no items by one that they accept; checked forms reject others;
+ * plain forms stop at an `op` or a size of values that doesn't exist; it selects the level;
+ * vb_set_indices, vb_set_indices_u32, vb_set_slices and their checked forms work by pages of
+ * memory, and join runs that cross page ends; it packs bools as bytes, and unpacks them so;
+ * vb_filter_values, vb_retain_values, vb_scatter_values and vb_take_values choose by sizes, and the
+ * functions of validities that may be missing by which are; vb_set_slices_u32 narrows the indices
+ * of runs. The C++ classes are also written by hand, and tested.
  */
 #ifndef VORTEX_BITS_H
 #define VORTEX_BITS_H
@@ -85,7 +88,10 @@
     (VORTEX_BITS_VERSION_MAJOR * 10000000 + VORTEX_BITS_VERSION_MINOR * 10000                     \
         + VORTEX_BITS_VERSION_PATCH * 100 + VORTEX_BITS_VERSION_REVISION)
 
-/* Makes compilers that can do so warn if the result of a checked form is ignored. */
+/*
+ * Makes compilers that can do so warn if the result of a checked form, a take or a call by group is
+ * ignored.
+ */
 #if defined(__GNUC__)
 #define VB_CHECKED __attribute__((warn_unused_result))
 #else
@@ -115,8 +121,8 @@ typedef struct {
 } vb_run_u32;
 
 /*
- * The result of a take: whether an index that counts is out of range. `position` is that of the
- * first such index, and is meaningful only if `out_of_range` is true.
+ * The result of a take or of a call by group: whether an index, or a code, that counts is out of
+ * range. `position` is that of the first one, and is meaningful only if `out_of_range` is true.
  */
 typedef struct {
     bool out_of_range;
@@ -183,7 +189,8 @@ VB_CHECKED bool vb_try_and_not_count(const uint8_t *left, size_t left_size, size
 
 /*
  * Returns the index within the window of its n-th set bit, counted from 0; finds none if at most n
- * bits are set. Reads from the front, 64 bytes at a time, up to the bytes that have it.
+ * bits are set. Counts from the front, 64 bytes at a time, up to the bytes that have it; of more
+ * than 4,096 bytes it may also count some behind these.
  *
  *     const uint8_t rows[] = {0xE8, 0x06};
  *     const vb_place third = vb_select(rows, 2, 3, 10, 2);
@@ -205,7 +212,7 @@ VB_CHECKED bool vb_try_select_unset(const uint8_t *bytes, size_t size, size_t of
 
 /*
  * Returns the index within the window of its last set bit; finds none if all bits are unset. Reads
- * from the end, eight bytes at a time.
+ * words from the end, eight at once.
  *
  *     const uint8_t rows[] = {0xE8, 0x06};
  *     assert(vb_last_set(rows, 2, 3, 10).index == 7);
@@ -217,7 +224,7 @@ VB_CHECKED bool vb_try_last_set(const uint8_t *bytes, size_t size, size_t offset
 /*
  * Returns the index within the window of its first set (or unset) bit at or after index `from`;
  * finds none if there is none, or if `from` is at least `len`. Reads word by word, from the third
- * word on four at once, up to the word that has it.
+ * word on four at once, up to those that have it.
  *
  *     const uint8_t rows[] = {0xE8, 0x06};
  *     assert(vb_next_set(rows, 2, 3, 10, 5).index == 6);
@@ -254,7 +261,7 @@ VB_CHECKED bool vb_try_previous_unset(const uint8_t *bytes, size_t size, size_t 
 
 /*
  * Returns whether any bit is set (false for no bits), or whether all are set (true for no bits).
- * Reads up to the first bit that decides, four words at once.
+ * Reads the first eight bytes, the last eight, then the words between, up to those that decide.
  *
  *     const uint8_t rows[] = {0xE8, 0x06};
  *     assert(vb_any_set(rows, 2, 3, 10) && vb_all_set(rows, 2, 5, 3));

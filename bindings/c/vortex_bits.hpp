@@ -10,8 +10,10 @@
  *     rows.for_each_set([&](std::size_t row) { .. });
  *
  * A window is tested once, by its constructor. It owns no bytes, like a std::span, so over a
- * temporary container it does not compile. Calls test lengths, indices and capacity, and throw
- * std::out_of_range before a write, or abort without exceptions. No output may overlap an input.
+ * temporary container it does not compile. Calls test lengths, single indices and capacity, and
+ * throw std::out_of_range before a write, or abort without exceptions. Takes and calls by group
+ * return the first index out of range instead; set_indices_into and set_slices_into write as many
+ * items as fit. No output may overlap an input.
  */
 #ifndef VORTEX_BITS_HPP
 #define VORTEX_BITS_HPP
@@ -31,7 +33,8 @@ public:
     bits(const std::uint8_t *bytes, std::size_t size, std::size_t offset, std::size_t len)
         : bytes_(bytes), size_(size), offset_(offset), len_(len)
     {
-        detail::expect(fits(size, offset, len), "a window does not lie in its bytes");
+        detail::expect(fits(size, offset, len) && (bytes != nullptr || size == 0),
+            "a window does not lie in its bytes");
     }
 
     template <class Bytes, detail::lender<const Bytes, const std::uint8_t> = 0>
@@ -323,11 +326,14 @@ protected:
     std::size_t len_ = 0;
 };
 
-/* A writable window, with all calls of bits; every bit outside of it is unchanged. */
+/*
+ * A writable window, with all calls of bits; every bit outside of it is unchanged. Assign no window
+ * of const bytes to one through a reference to bits: it would then write these.
+ */
 class bits_mut : public bits {
 public:
     bits_mut(std::uint8_t *bytes, std::size_t size, std::size_t offset, std::size_t len)
-        : bits(bytes, size, offset, len), bytes_(bytes)
+        : bits(bytes, size, offset, len)
     {
     }
 
@@ -372,12 +378,12 @@ public:
     bits_mut slice(std::size_t start, std::size_t len) const
     {
         detail::expect(start <= len_ && len <= len_ - start, "a slice is longer than its window");
-        return bits_mut(bytes_, size_, offset_ + start, len);
+        return bits_mut(writable(), size_, offset_ + start, len);
     }
 
     void set(std::size_t place, bool value) { slice(place, 1).fill(value); }
-    void fill(bool value) { vb_fill_bits(bytes_, size_, offset_, len_, value); }
-    void negate() { vb_negate_bits(bytes_, size_, offset_, len_); }
+    void fill(bool value) { vb_fill_bits(writable(), size_, offset_, len_, value); }
+    void negate() { vb_negate_bits(writable(), size_, offset_, len_); }
 
     /*
      * Copies the `len` bits from index `from` on to those from index `to` on, which may overlap.
@@ -387,7 +393,7 @@ public:
     {
         detail::expect(from <= len_ && len <= len_ - from && to <= len_ && len <= len_ - to,
             "bits to copy are not in the window");
-        vb_move_bits(bytes_, size_, offset_ + to, offset_ + from, len);
+        vb_move_bits(writable(), size_, offset_ + to, offset_ + from, len);
     }
 
     /* `source` or `right` has this length, and its bytes overlap none of these; so in all below. */
@@ -461,13 +467,13 @@ private:
     template <class Call> void by_another(Call call, bits right)
     {
         detail::expect(right.len_ == len_, "windows are of two lengths");
-        call(bytes_, size_, offset_, right.bytes_, right.size_, right.offset_, len_);
+        call(writable(), size_, offset_, right.bytes_, right.size_, right.offset_, len_);
     }
 
     template <class Call> void by_two(Call call, bits left, bits right)
     {
         detail::expect(left.len_ == len_ && right.len_ == len_, "windows are of two lengths");
-        call(bytes_, size_, offset_, left.bytes_, left.size_, left.offset_, right.bytes_,
+        call(writable(), size_, offset_, left.bytes_, left.size_, left.offset_, right.bytes_,
             right.size_, right.offset_, len_);
     }
 
@@ -475,8 +481,8 @@ private:
     void by_columns(Call call, bits left, std::optional<bits> left_valid, bits right,
         std::optional<bits> right_valid, bits_mut valid);
 
-    // The same bytes, to write them.
-    std::uint8_t *bytes_;
+    /* Returns the bytes, which each constructor is given to write. */
+    std::uint8_t *writable() const { return const_cast<std::uint8_t *>(bytes_); }
 };
 
 } // namespace vortex_bits

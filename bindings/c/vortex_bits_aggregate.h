@@ -297,9 +297,8 @@ VB_CHECKED bool vb_try_masked_max_f64(const double *values, size_t values_count,
 /*
  * Counts by group: row k has the code `codes[k]`, the index of its count, as rows of a dictionary
  * array have. Adds to each count the number of selected rows with its code, modulo 2^64. If
- * `all_selected` is true, each row is selected, and the mask is ignored, which may then be null.
- * Else row k is selected if bit `mask_offset + k` of `mask` is set; the codes of other rows may be
- * any number.
+ * `all_selected` is true, each row is selected, and the mask may be null, of no bytes. Else row k
+ * is selected if bit `mask_offset + k` of `mask` is set; the codes of other rows may be any number.
  *
  * Returns the first selected row whose code isn't below `counts_count`, as `position`; the counts
  * are then unchanged. Signed codes may be passed as unsigned ones of that width, if there are at

@@ -142,8 +142,9 @@ void compare(const Values &values, vb_comparison op, Number number, bits_mut out
             return out.fill(op == VB_NOT_EQUAL || is_less);
         }
         const std::uint8_t beside = is_less ? VB_LESS : VB_GREATER_OR_EQUAL;
-        by::number(out.bytes_, out.size_, out.offset_, reinterpret_cast<const as *>(values.data()),
-            values.size(), bound.is_number ? std::uint8_t{op} : beside, bound.value);
+        by::number(out.writable(), out.size_, out.offset_,
+            reinterpret_cast<const as *>(values.data()), values.size(),
+            bound.is_number ? std::uint8_t{op} : beside, bound.value);
     }
 }
 
@@ -164,8 +165,9 @@ void compare_with(const Values &values, vb_comparison op, const Others &others, 
             "not a bit for each value and other");
         using by = detail::compared_as<value>;
         using as = typename by::type;
-        by::others(out.bytes_, out.size_, out.offset_, reinterpret_cast<const as *>(values.data()),
-            values.size(), op, reinterpret_cast<const as *>(others.data()), others.size());
+        by::others(out.writable(), out.size_, out.offset_,
+            reinterpret_cast<const as *>(values.data()), values.size(), op,
+            reinterpret_cast<const as *>(others.data()), others.size());
     }
 }
 

@@ -158,8 +158,9 @@ VB_CHECKED bool vb_try_pack_truthy(uint8_t *out, size_t out_size, size_t out_off
         const uint8_t *truthy, size_t truthy_count);
 
 /*
- * Does the same into the first bytes of `out`, eight values into each. The remaining bits of the
- * last byte written are false, and later bytes are unchanged.
+ * Does the same into the first bytes of `out`, eight values into each; `out` must have a bit for
+ * each value, which the checked form tests. The remaining bits of the last byte written are false,
+ * and later bytes are unchanged.
  *
  *     uint8_t out[] = {0xFF};
  *     const uint8_t truthy[] = {7, 0, 255};
@@ -204,7 +205,8 @@ VB_CHECKED bool vb_try_unpack_bytes(uint8_t *out, size_t out_count, const uint8_
  * `all_valid` is true, each position counts, and the validity may be null, of no bytes. Else a
  * position counts if its bit of `validity`, from bit `validity_offset` on, is true; the others get
  * false, and their indices are ignored. Every other bit of `out` is unchanged. If a position is
- * returned, the bits of `out` for all indices are unspecified. Processes 64 indices at a time.
+ * returned, the bits of `out` for all indices are unspecified. Processes 64 indices at a time, one
+ * by one of windows of 2^32 - 9 bits or more.
  *
  * With the codes of rows as indices into a selection of keys, one call is a whole semi-join.
  *

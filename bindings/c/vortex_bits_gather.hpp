@@ -110,7 +110,7 @@ inline std::size_t bits_mut::filter_of(bits values, bits mask)
 {
     detail::expect(mask.len_ == values.len_, "windows are of two lengths");
     detail::expect(mask.len_ <= len_ || mask.count_ones() <= len_, "no room for the bits to keep");
-    return vb_filter_bits(bytes_, size_, offset_, values.bytes_, values.size_, values.offset_,
+    return vb_filter_bits(writable(), size_, offset_, values.bytes_, values.size_, values.offset_,
         mask.bytes_, mask.size_, mask.offset_, mask.len_);
 }
 
@@ -118,7 +118,7 @@ inline void bits_mut::and_validity(const std::optional<bits> &validity)
 {
     detail::expect(!validity || validity->len_ == len_, "windows are of two lengths");
     const bits rows = validity.value_or(bits());
-    vb_and_validity(bytes_, size_, offset_, rows.bytes_, rows.size_, rows.offset_, len_);
+    vb_and_validity(writable(), size_, offset_, rows.bytes_, rows.size_, rows.offset_, len_);
 }
 
 inline void bits_mut::and_validities_of(const std::optional<bits> &left,
@@ -127,7 +127,7 @@ inline void bits_mut::and_validities_of(const std::optional<bits> &left,
     detail::expect((!left || left->len_ == len_) && (!right || right->len_ == len_),
         "windows are of two lengths");
     const bits one = left.value_or(bits()), other = right.value_or(bits());
-    vb_and_validities(bytes_, size_, offset_, one.bytes_, one.size_, one.offset_, other.bytes_,
+    vb_and_validities(writable(), size_, offset_, one.bytes_, one.size_, one.offset_, other.bytes_,
         other.size_, other.offset_, len_);
 }
 
@@ -136,7 +136,7 @@ inline std::size_t bits_mut::filter_validity_of(const std::optional<bits> &valid
     detail::expect(!validity || validity->len_ == mask.len_, "windows are of two lengths");
     detail::expect(mask.len_ <= len_ || mask.count_ones() <= len_, "no room for the bits to keep");
     const bits rows = validity.value_or(bits());
-    return vb_filter_validity(bytes_, size_, offset_, rows.bytes_, rows.size_, rows.offset_,
+    return vb_filter_validity(writable(), size_, offset_, rows.bytes_, rows.size_, rows.offset_,
         mask.bytes_, mask.size_, mask.offset_, mask.len_);
 }
 
@@ -145,14 +145,14 @@ std::optional<std::size_t> bits_mut::take_of(bits values, const Indices &indices
     const std::optional<bits> &valid)
 {
     detail::expect(indices.size() <= len_, "no room for a bit an index");
-    return values.take(indices, valid ? &*valid : nullptr, bytes_, size_, offset_);
+    return values.take(indices, valid ? &*valid : nullptr, writable(), size_, offset_);
 }
 
 inline void bits_mut::deposit_of(bits values, bits mask)
 {
     detail::expect(mask.len_ == len_, "windows are of two lengths");
     detail::expect(mask.count_ones() == values.len_, "not a bit for each that the mask keeps");
-    vb_deposit_bits(bytes_, size_, offset_, values.bytes_, values.size_, values.offset_,
+    vb_deposit_bits(writable(), size_, offset_, values.bytes_, values.size_, values.offset_,
         mask.bytes_, mask.size_, mask.offset_, len_);
 }
 
@@ -165,9 +165,9 @@ void bits_mut::by_columns(Call call, bits left, std::optional<bits> left_valid, 
             && (!right_valid || right_valid->len_ == len_),
         "windows are of two lengths");
     const bits one = left_valid.value_or(bits()), other = right_valid.value_or(bits());
-    call(bytes_, size_, offset_, valid.bytes_, valid.size_, valid.offset_, left.bytes_, left.size_,
-        left.offset_, !left_valid, one.bytes_, one.size_, one.offset_, right.bytes_, right.size_,
-        right.offset_, !right_valid, other.bytes_, other.size_, other.offset_, len_);
+    call(writable(), size_, offset_, valid.writable(), valid.size_, valid.offset_, left.bytes_,
+        left.size_, left.offset_, !left_valid, one.bytes_, one.size_, one.offset_, right.bytes_,
+        right.size_, right.offset_, !right_valid, other.bytes_, other.size_, other.offset_, len_);
 }
 
 inline void bits_mut::and_kleene_of(bits left, std::optional<bits> left_valid, bits right,
@@ -206,14 +206,14 @@ template <class Bools> void bits_mut::copy_from_bools(const Bools &bools)
         "copy_from_bools packs values of bool, of which std::vector<bool> lends none");
     detail::expect(bools.size() == len_, "not a bit for each bool");
     if constexpr (!std::is_void_v<detail::lent_t<const Bools>>) {
-        vb_pack_bools(bytes_, size_, offset_, bools.data(), len_);
+        vb_pack_bools(writable(), size_, offset_, bools.data(), len_);
     }
 }
 
 template <class Bytes> void bits_mut::copy_from_truthy(const Bytes &truthy)
 {
     detail::expect(truthy.size() == len_, "not a bit for each byte");
-    vb_pack_truthy(bytes_, size_, offset_, truthy.data(), len_);
+    vb_pack_truthy(writable(), size_, offset_, truthy.data(), len_);
 }
 
 /*

@@ -44,7 +44,7 @@ VB_CHECKED bool vb_try_rank(const uint8_t *bytes, size_t size, size_t offset, si
 
 /*
  * Returns the index of the n-th set bit of the window, or of its n-th unset bit, by binary search
- * of the table and a search of one block.
+ * of the table and a search of one block; finds none if at most n bits are set, or unset.
  *
  *     uint8_t rows[128];
  *     memset(rows, 0x11, sizeof rows);

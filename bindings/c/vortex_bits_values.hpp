@@ -2,7 +2,8 @@
  * Values at indices and under masks, a part of vortex_bits.hpp, which includes this file.
  *
  *     std::vector<std::int64_t> column = {10, 20, 30, 40}, taken(2);
- *     vortex_bits::take_values(column, std::vector<std::uint8_t>{3, 0}, taken);    // 40, 10
+ *     auto past = vortex_bits::take_values(column, std::vector<std::uint8_t>{3, 0}, taken);
+ *     // taken is 40, 10, and past has no value, since both indices are in range
  */
 #ifndef VORTEX_BITS_VALUES_HPP
 #define VORTEX_BITS_VALUES_HPP

@@ -1,6 +1,6 @@
 /*
- * Windows of vortex_bits.hpp that are written as windows that are read, and how often filters count
- * the bits of a mask.
+ * Windows of vortex_bits.hpp that are written as windows that are read, and their bytes, and how
+ * often filters count the bits of a mask.
  */
 #include "vortex_bits.h"
 
@@ -80,9 +80,23 @@ static void readings()
     check(window.slice(0, 2).count_ones() == 0, "what another one writes");
 }
 
+/* A window has bytes, and writes within them, also after an assignment through its base class. */
+static void bounds()
+{
+    refused([] { bits(nullptr, 8, 0, 64); }, "no bytes to read");
+    refused([] { bits_mut(nullptr, 8, 0, 64); }, "no bytes to write");
+    check(bits(nullptr, 0, 0, 0).empty(), "no bits of no bytes");
+    buffer few = {0xFF}, more(100, 0xFF);
+    bits_mut window(few, 0, 8);
+    static_cast<bits &>(window) = bits(more, 0, 800);
+    window.fill(false);
+    check(few[0] == 0xFF && !bits(more, 0, 800).any(), "the assigned window is written");
+}
+
 int main()
 {
     counts_of_filters();
     readings();
+    bounds();
     return failures == 0 ? 0 : 1;
 }

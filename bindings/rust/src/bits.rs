@@ -41,6 +41,15 @@ pub(crate) const fn fits(size: usize, offset: usize, len: usize) -> Result<(), O
     }
 }
 
+/// Returns the number of bits of the bytes.
+#[track_caller]
+pub(crate) fn all_bits(bytes: &[u8]) -> usize {
+    bytes
+        .len()
+        .checked_mul(8)
+        .expect("the number of bits is a usize")
+}
+
 /// Returns the index of the first bit of a range among `len` bits, and the number of its bits.
 pub(crate) fn within(
     range: &impl RangeBounds<usize>,
@@ -113,7 +122,7 @@ impl<'a> Bits<'a> {
     #[must_use]
     #[track_caller]
     pub fn from_bytes(bytes: &'a [u8]) -> Bits<'a> {
-        Bits::new(bytes, 0, bytes.len().saturating_mul(8))
+        Bits::new(bytes, 0, all_bits(bytes))
     }
 
     /// Returns the bytes of the constructor, including those outside of the window.
@@ -210,8 +219,8 @@ impl<'a> Bits<'a> {
     }
 
     /// Returns the index of the `n`-th set bit, counted from 0; None if at most `n` are set. Counts
-    /// the bits from the front up to the one it returns: for more than a few calls
-    /// [`Ranks`](crate::Ranks) is faster.
+    /// the bits from the front up to the one it returns, of more than 4,096 bytes maybe also some
+    /// behind it: for more than a few calls [`Ranks`](crate::Ranks) is faster.
     ///
     /// ```
     /// use vortex_bits::Bits;
@@ -312,14 +321,14 @@ impl<'a> Bits<'a> {
         kernels::previous_unset(self, before)
     }
 
-    /// Returns whether any bit is set: false for no bits. Reads up to the first set bit.
+    /// Returns whether any bit is set: false for no bits. Stops once it has read a set bit.
     #[inline]
     #[must_use]
     pub fn any(self) -> bool {
         kernels::any_set(self)
     }
 
-    /// Returns whether all bits are set: true for no bits. Reads up to the first unset bit.
+    /// Returns whether all bits are set: true for no bits. Stops once it has read an unset bit.
     #[inline]
     #[must_use]
     pub fn all(self) -> bool {

@@ -3,7 +3,7 @@
 use core::ops::RangeBounds;
 
 use crate::Bits;
-use crate::bits::{fits, within};
+use crate::bits::{all_bits, fits, within};
 use crate::error::{OutOfBounds, expect};
 use crate::kernels::{self, Operator};
 use crate::written::Written;
@@ -78,7 +78,7 @@ impl<'a> BitsMut<'a> {
     #[must_use]
     #[track_caller]
     pub fn from_bytes(bytes: &'a mut [u8]) -> BitsMut<'a> {
-        let len = bytes.len().saturating_mul(8);
+        let len = all_bits(bytes);
         BitsMut::new(bytes, 0, len)
     }
 
@@ -338,7 +338,7 @@ impl<'a> BitsMut<'a> {
     ///
     /// # Panics
     ///
-    /// Panics if the windows differ in length, as do all calls below.
+    /// Panics if the windows differ in length, as do all calls below with other windows.
     #[inline]
     #[track_caller]
     pub fn copy_from(&mut self, source: Bits<'_>) {

@@ -9,8 +9,9 @@ use core::ops::{Deref, DerefMut};
 /// The alignment of the first byte.
 const ALIGNMENT: usize = 64;
 
-/// Growable bytes with one owner. If there are any, the first one's address is a multiple of 64,
-/// the size of a cache line and the alignment that Arrow recommends for buffers.
+/// Bytes with one owner, in which a [`Bitmap`](crate::Bitmap) can grow. If there are any, the first
+/// one's address is a multiple of 64, the size of a cache line and the alignment that Arrow
+/// recommends for buffers.
 ///
 /// ```
 /// use vortex_bits::{AlignedBytes, Bitmap};

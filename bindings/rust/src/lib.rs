@@ -18,21 +18,22 @@
 //!
 //! Bit `i` of some bytes is bit `i % 8` of byte `i / 8`. A window is the `len` bits starting at bit
 //! `offset`. [`Bits`] reads one, [`BitsMut`] writes one, and a [`Validity`] has one or none. No
-//! call reads or changes a bit outside of its windows. Lengths, offsets and indices are in bits.
+//! result depends on a bit outside of the windows, and no call changes one. Lengths, offsets and
+//! indices are in bits.
 //!
 //! The constructor of a window tests that it is in bounds of its bytes. Later calls panic, with a
 //! message, only for conditions that the constructor can't test: that two windows have the same
-//! length, or that an index is in bounds. A call that returns a `Bitmap` (bits with their bytes),
-//! lets one grow, writes one with shared bytes, or makes it `Ranked` may allocate memory, and
-//! aborts if it runs out.
+//! length, or that an index is in bounds. A call that returns or grows a `Bitmap` (bits with their
+//! bytes) or a `Vec`, writes a bitmap with shared bytes, or makes one `Ranked` may allocate memory,
+//! and aborts if it runs out.
 //!
 //! # What is proved
 //!
 //! On x86-64 Linux, calls over more than 64 bits run C functions. They are proved in Rattle to meet
 //! their definitions at every offset and length, at the level x86-64-v2 or x86-64-v3, depending on
-//! the processor. Comparisons, packing, bits at indices and ranks run them at any length, values at
-//! indices, and counts and sums by group, for more than 16 of them. The rest is Rust of this crate,
-//! which isn't proved, but tested against loops over single bits:
+//! the processor. Comparisons, packing, unpacking, bits at indices and ranks run them at any
+//! length, values at indices, and counts and sums by group, for more than 16 of them. The rest is
+//! Rust of this crate, which isn't proved, but tested against loops over single bits:
 //!
 //! - single bits, other windows of at most 64, values at up to 16 indices, and types of values and
 //!   indices that [`Value`], [`Compare`], [`Summand`] and [`BitIndex`] exclude;

@@ -8,9 +8,10 @@ use crate::{Compare, Mask, portable};
 /// `order by` with a `limit`. Values are equal, above or below one another as Rust's operators say.
 /// Of equal values, such as 0.0 and -0.0, those of the first rows count. A NaN is never among them.
 ///
-/// A batch allocates only if it has one of the first `k` values, and never holds more than a few
-/// times `k`. Once there are `k`, a value that doesn't come before the last one of these is only
-/// compared with it; the others are sorted whenever there are `k` more, and at the end.
+/// A batch allocates only if it has one of the first `k` values. It holds at most about twice `k`
+/// values, and 128 more. After the first sort, a value that doesn't come before the last of the
+/// first `k` is only compared with it. The values are sorted whenever there are `k` more, or 64
+/// more if `k` is smaller, and at the end of a batch.
 ///
 /// ```
 /// use vortex_bits::{Bits, TopK};

@@ -164,14 +164,17 @@ impl Array {
         Ok(Validity::new(bits, self.len))
     }
 
-    /// Returns the number of null rows. It is the array's own number if that is 0 or these are all
-    /// of its rows; otherwise this counts the bits. Rows that name a null item of a dictionary are
-    /// not counted.
+    /// Returns the number of null rows: all rows of an array of the null type. Of other types it is
+    /// the array's own number if that is 0 or these are all of its rows; otherwise this counts the
+    /// bits. Rows that name a null item of a dictionary are not counted.
     ///
     /// # Errors
     ///
-    /// Returns the errors of [`validity`](Array::validity).
+    /// Returns the errors of [`validity`](Array::validity) if it has to count bits.
     pub fn null_count(&self) -> Result<usize, ArrowError> {
+        if self.node.field.layout == Layout::Nulls {
+            return Ok(self.len);
+        }
         match self.node.nulls_of(self.len) {
             Some(nulls) => Ok(nulls),
             None => self.validity().map(Validity::count_zeros),

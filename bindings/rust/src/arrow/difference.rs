@@ -7,7 +7,6 @@ use super::array::Array;
 use super::error::{ArrowError, Of};
 use super::export::Export;
 use super::field::{Field, NULLABLE};
-use super::layout::Layout;
 
 /// The words for two types in an error.
 pub(super) struct Between {
@@ -125,10 +124,7 @@ impl Between {
 /// Returns the number of null rows. Unions and run-end-encoded arrays have their nulls in the
 /// children only.
 fn null_count(rows: &Array) -> usize {
-    match rows.field().layout {
-        Layout::Nulls => rows.len(),
-        _ => rows.null_count().unwrap_or(0),
-    }
+    rows.null_count().unwrap_or(0)
 }
 
 /// Returns the name of a column within another one.

@@ -13,7 +13,8 @@ pub(super) const EINVAL: i32 = 22;
 /// producer of an [`ExportStream`](super::ExportStream) returns it too.
 #[derive(Clone, Debug, PartialEq, Eq)]
 pub struct StreamError {
-    /// A number of `errno.h`: 5 is EIO, 12 ENOMEM, 22 EINVAL.
+    /// A number of `errno.h`: 5 is EIO, 12 ENOMEM, 22 EINVAL. A producer's 0 reaches the consumer
+    /// as 5.
     pub errno: i32,
     /// A message for people.
     pub text: String,

@@ -178,7 +178,8 @@ impl Export {
     /// # Errors
     ///
     /// Returns the errors of `with_format`. Returns [`ArrowError::Field`] if a child or the
-    /// dictionary has another type, if a row is null and the field allows no null, or if the field
+    /// dictionary has another type, if a row is null and the field allows no null (items of lists
+    /// and dictionaries count even if no row names them), or if the field
     /// has any other flag that the rows don't have.
     pub fn with_field(self, field: &Field) -> Result<Export, ArrowError> {
         let typed = self.with_format(field.format())?;
@@ -285,9 +286,9 @@ impl Export {
     ///
     /// # Errors
     ///
-    /// Returns [`ArrowError::Malformed`] if there are more than 64 levels of children and
-    /// dictionaries. [`into_raw`](Export::into_raw) exports these, but this crate doesn't read
-    /// them.
+    /// Returns [`ArrowError::Malformed`] if the type has more than 64 levels: its own, and those of
+    /// its children and dictionaries. [`into_raw`](Export::into_raw) exports these, but this crate
+    /// doesn't read them.
     pub fn try_into_array(self) -> Result<Array, ArrowError> {
         self.field.is_shallow()?;
         // SAFETY: the array is as the interface requires, and this is its only owner.

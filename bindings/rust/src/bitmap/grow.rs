@@ -98,7 +98,7 @@ impl<B: Grow> Bitmap<B> {
     }
 
     /// Appends a bit. If the bytes can be shared, each call tests that they aren't.
-    /// [`BitmapMut`](crate::BitmapMut) needs no test, and [`Extend`] tests once.
+    /// [`BitmapMut`](crate::BitmapMut) needs no test, and [`Extend`] tests once for 512 bits.
     ///
     /// ```
     /// use vortex_bits::Bitmap;
@@ -107,11 +107,17 @@ impl<B: Grow> Bitmap<B> {
     /// rows.append(true);
     /// assert_eq!(format!("{rows:?}"), "Bits(1)");
     /// ```
+    ///
+    /// # Panics
+    ///
+    /// Panics if the end of the bits isn't a `usize`.
     #[doc(alias("push"))]
     #[inline]
     pub fn append(&mut self, value: bool) {
         let (bytes, offset, len) = self.owned();
         let end = offset + *len;
+        // No memory has as many bits as an address of 64 bits counts.
+        assert!(usize::BITS == 64 || end < usize::MAX, "an end is a usize");
         match bytes.byte_mut(end / 8) {
             Some(byte) => *byte = *byte & !(1 << (end % 8)) | u8::from(value) << (end % 8),
             None => bytes.push(u8::from(value)),
@@ -128,6 +134,10 @@ impl<B: Grow> Bitmap<B> {
     /// rows.append_n(10, false);
     /// assert_eq!((rows.len(), rows.count_ones()), (13, 3));
     /// ```
+    ///
+    /// # Panics
+    ///
+    /// Panics if the end of the bits isn't a `usize`.
     #[doc(alias("resize"))]
     pub fn append_n(&mut self, n: usize, value: bool) {
         self.grow(n).fill(value);
@@ -142,6 +152,10 @@ impl<B: Grow> Bitmap<B> {
     /// rows.append_bits(Bits::new(&[0b1110_1000], 3, 5));
     /// assert_eq!(format!("{rows:?}"), "Bits(00010111)");
     /// ```
+    ///
+    /// # Panics
+    ///
+    /// Panics if the end of the bits isn't a `usize`.
     #[doc(alias("concat", "append_buffer"))]
     pub fn append_bits(&mut self, bits: Bits<'_>) {
         self.grow(bits.len()).copy_from(bits);
@@ -156,6 +170,10 @@ impl<B: Grow> Bitmap<B> {
     /// rows.append_bools(&[true, false]);
     /// assert_eq!(format!("{rows:?}"), "Bits(00010)");
     /// ```
+    ///
+    /// # Panics
+    ///
+    /// Panics if the end of the bits isn't a `usize`.
     pub fn append_bools(&mut self, bools: &[bool]) {
         kernels::pack_bools(&mut self.grow(bools.len()).written(), bools);
     }

@@ -8,7 +8,7 @@ use super::{Ranks, blocks};
 use crate::{Bitmap, Bits, SharedBytes};
 
 /// A [`Bitmap`] with the table of its [`Ranks`], to keep and to return. It has the calls of
-/// `Ranks`.
+/// `Ranks`, except `table`: `ranks().table()` returns that.
 ///
 /// ```
 /// use vortex_bits::Bitmap;

@@ -318,7 +318,7 @@ fn indices_and_their_dictionary_are_reached() {
 fn other_types_have_a_length_and_a_validity() {
     let array = import_as(raw::Array::new(5, vec![], &Count::default()).at(2), "n").unwrap();
     assert_eq!(array.len(), 5);
-    assert_eq!(array.null_count(), array.validity().map(|_| 0));
+    assert_eq!(array.null_count(), Ok(5));
     assert!(array.validity().is_err() && array.values::<u8>().is_err() && array.bits().is_err());
     assert!(array.columns().is_err() && array.column("a").is_err() && array.texts().is_err());
     assert!(array.items().is_err() && array.ranges().is_err() && array.bytes().is_err());

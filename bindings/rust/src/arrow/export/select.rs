@@ -213,9 +213,10 @@ impl Export {
     /// are no rows. If the arrays have several dictionaries, the joined one may have an item twice:
     /// rows with different indices may then be equal.
     ///
-    /// It copies the rows as [`Array::filter`] does. Arrays that share a dictionary continue to
-    /// share it. Otherwise the items of all dictionaries are put one after the other too, and the
-    /// indices are adjusted. The items are then in no order, whatever the field's flags say.
+    /// It copies the rows as [`Array::filter`] does, and the items of list views of several arrays.
+    /// Slices of one array continue to share its dictionary. Otherwise the items of all
+    /// dictionaries are put one after the other too, and the indices are adjusted. The items are
+    /// then in no order, whatever the field's flags say.
     ///
     /// ```
     /// use vortex_bits::arrow::{Export, Field};

@@ -105,8 +105,8 @@ impl Export {
     }
 
     /// Returns the rows of texts or binary values at indices, with their name, type and validity.
-    /// It copies the bytes of valid rows only. For views it copies the views and shares the
-    /// buffers.
+    /// The column may then have nulls. It copies the bytes of valid rows only. For views it copies
+    /// the views and shares the buffers.
     ///
     /// ```
     /// use vortex_bits::arrow::Export;
