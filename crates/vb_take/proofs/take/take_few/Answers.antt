@@ -1,4 +1,4 @@
-use Rattle.std.proofs.Common.{ℕ, ◌≡◌, ◌+◌, ◌<◌, Bool, List, ℤ, map, length, Option, Some, sym}
+use Rattle.std.proofs.Common.{ℕ, ◌≡◌, ◌+◌, ◌<◌, Bool, List, map, Option, Some, sym}
 use Rattle.std.proofs.Common.{◌∙◌, arith}
 use mir.Val.{bool_byte}
 use Rattle.std.specs.Option.{option_map}
