@@ -243,6 +243,8 @@ fn members_of_a_set_are_those_of_a_loop() {
         let bytes = random.bytes();
         let set = Bits::new(&bytes, random.below(10), random.below(100));
         members!(random, rows, set: i8 u32 i64 u128);
+        let set = Bits::new(&[], 0, 0);
+        members!(random, rows, set: u8 i64);
     });
     let (set, mask) = (Bitmap::new_set(5), Bitmap::new_set(3));
     assert!(panics(|| drop(values::is_in(&[1, 2], &set, &mask))).is_some());

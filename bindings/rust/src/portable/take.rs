@@ -124,14 +124,18 @@ fn among<I: BitIndex>(bits: Bits<'_>, indices: &[I]) -> u64 {
         .fold(last, |word, eight| word << 8 | few_among(bits, eight))
 }
 
-/// The same for up to eight indices.
+/// The same for up to eight indices. An index that is out of bounds reads the last byte, and its
+/// bit is then discarded: whether it is often can't be predicted, and so isn't a branch.
 #[inline]
 fn few_among<I: BitIndex>(bits: Bits<'_>, indices: &[I]) -> u64 {
     let (bytes, offset, len) = (bits.bytes(), bits.offset(), bits.len());
+    let Some(last) = bytes.len().checked_sub(1) else {
+        return 0;
+    };
     indices.iter().rev().fold(0, |word, index| {
         let place = index.place_or_far();
         let bit = offset.wrapping_add(place);
-        let byte = bytes.get(bit / 8).copied().unwrap_or(0);
+        let byte = bytes[(bit / 8).min(last)];
         // A bit behind the window may be in its last byte.
         word << 1 | u64::from(byte >> (bit % 8) & u8::from(place < len))
     })
