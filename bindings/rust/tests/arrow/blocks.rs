@@ -200,3 +200,40 @@ fn rows_of_blocks_are_those_of_plain_calls() {
     let is_some = |passed: &usize| *passed > all / 50 && *passed < all;
     assert!(passed.iter().all(is_some), "{passed:?} of {all}");
 }
+
+/// Returns texts of which no two are equal. Most begin with the same eight bytes, so that some of
+/// many have a key with a high end of their own. Some end with zeros.
+fn different(number: usize) -> Vec<Vec<u8>> {
+    let text = |it: usize| match it % 16 {
+        0 => format!("{it} is another"),
+        1 => format!("{}\0\0", it + 1),
+        2 => it.to_string(),
+        _ => format!("the same {it}"),
+    };
+    (0..number).map(|it| text(it).into_bytes()).collect()
+}
+
+/// Sets of so many texts that each high end of a key is that of none, one or more of them, and that
+/// their indices are a byte or not.
+#[test]
+fn rows_in_sets_of_any_size_are_those_of_a_loop() {
+    let (mut maker, mut passed) = (Maker::new(26, false), 0);
+    for number in [0, 1, 2, 6, 16, 17, 64, 255, 256, 257, 400, 1000] {
+        let set = different(number);
+        for len in [1, 15, 63, 64, 65, 200] {
+            let all = different(number + maker.one_of(&[1, 40]) + number / 2);
+            let row = |maker: &mut Maker| all[maker.below(all.len())].clone();
+            let rows = Rows {
+                rows: (0..len).map(|_| row(&mut maker)).collect(),
+                valid: (0..len).map(|_| maker.below(10) > 0).collect(),
+            };
+            let wanted = rows.that(|row| set.iter().any(|it| it == row));
+            let array = rows.array(&mut maker);
+            let texts = array.texts().unwrap();
+            passed += compare(&mut maker, &wanted, &texts.is_in(&set), |mask| {
+                texts.and_is_in(&set, mask);
+            });
+        }
+    }
+    assert!(passed > 1000, "{passed}");
+}

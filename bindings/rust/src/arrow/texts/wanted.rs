@@ -15,9 +15,11 @@ pub(super) struct Wanted<T> {
     texts: Vec<(u64, T)>,
     /// The bits of the texts' lengths.
     lengths: u64,
-    /// The bits of the high ends of their keys.
+    /// The bits of the high ends of their keys, and of those that more than one text has.
     highs: u64,
-    /// The index of the first text with each high end that a key has, if there are few texts.
+    crowded: u64,
+    /// The index of the first text with each high end that a key has, if it is a `u8`. If not, all
+    /// bits of `crowded` are set.
     places: [u8; 64],
     /// The length of the shortest, and how much longer the longest is.
     shortest: u32,
@@ -35,6 +37,7 @@ impl<T: AsRef<[u8]>> Wanted<T> {
         let mut wanted = Wanted {
             lengths: 0,
             highs: 0,
+            crowded: 0,
             places: [0; 64],
             shortest: u32::MAX,
             longer: 0,
@@ -50,12 +53,17 @@ impl<T: AsRef<[u8]>> Wanted<T> {
         for (place, (key, text)) in self.texts.iter().enumerate().rev() {
             let len = text.as_ref().len();
             self.lengths |= length_bit(len);
-            self.highs |= 1 << high(*key);
+            let end = 1 << high(*key);
+            self.crowded |= self.highs & end;
+            self.highs |= end;
             self.places[high(*key)] = place.to_le_bytes()[0];
             let len = u32::try_from(len).unwrap_or(u32::MAX);
             (self.shortest, longest) = (self.shortest.min(len), longest.max(len));
         }
         self.longer = longest.saturating_sub(self.shortest);
+        if self.texts.len() > 1 << u8::BITS {
+            self.crowded = u64::MAX;
+        }
     }
 
     /// Returns whether a text may have the key.
@@ -64,7 +72,19 @@ impl<T: AsRef<[u8]>> Wanted<T> {
         self.highs >> high(key) & 1 == 1
     }
 
-    /// It is a separate function, so that loops over rows that it isn't called for stay small.
+    /// Returns the same as [`finds`](Wanted::finds), in fewer instructions where the key has a high
+    /// end that one text has.
+    #[inline]
+    fn finds_most(&self, key: u64, row: &[u8]) -> bool {
+        if self.crowded >> high(key) & 1 == 1 {
+            return self.finds(key, row);
+        }
+        let one = self.texts.get(usize::from(self.places[high(key)]));
+        one.is_some_and(|(own, text)| *own == key && is(text.as_ref(), row))
+    }
+
+    /// Returns whether a row with this key is one of the texts, at least one of which has its high
+    /// end. It is a separate function, so that loops over rows that it isn't called for stay small.
     #[inline(never)]
     fn finds(&self, key: u64, row: &[u8]) -> bool {
         if self.texts.len() <= FEW {
@@ -98,7 +118,7 @@ impl<T: AsRef<[u8]>> Test for Wanted<T> {
         let found = each_set(fit, |row| self.may_have(key(row)));
         each_set(found, |row| {
             let bytes = block.row(row).bytes();
-            bytes.is_some_and(|bytes| self.finds(key(row), bytes))
+            bytes.is_some_and(|bytes| self.finds_most(key(row), bytes))
         })
     }
 }
