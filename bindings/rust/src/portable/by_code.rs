@@ -15,8 +15,8 @@ pub fn split_by_code<I: BitIndex>(
     mask: Option<Bits<'_>>,
 ) -> Option<usize> {
     let selected = |start, len| match mask {
-        Some(mask) => only_word(mask.part(start, len)).to_le_bytes()[0],
-        None => u8::MAX,
+        Some(mask) => only_word(mask.part(start, len)),
+        None => u64::MAX,
     };
     let head = (first.wrapping_neg() % 8).min(codes.len());
     let (before, rest) = codes.split_at(head);
@@ -27,18 +27,16 @@ pub fn split_by_code<I: BitIndex>(
         number,
     };
     let digit = first % 8;
-    let past = bitmaps.set(first / 8, before, selected(0, head), digit);
+    let [of_head, ..] = selected(0, head).to_le_bytes();
+    let past = bitmaps.set(first / 8, before, of_head, digit);
     if past != 0 {
         return Some(past.trailing_zeros() as usize);
     }
-    for (i, eight) in rest.chunks(8).enumerate() {
-        let (row, byte) = (head + 8 * i, (first + head) / 8 + i);
-        let past = match eight.first_chunk::<8>() {
-            Some(eight) => bitmaps.set(byte, eight, selected(row, 8), 0),
-            None => bitmaps.set(byte, eight, selected(row, eight.len()), 0),
-        };
-        if past != 0 {
-            return Some(row + past.trailing_zeros() as usize);
+    for (i, codes) in rest.chunks(64).enumerate() {
+        let row = head + 64 * i;
+        let selected = selected(row, codes.len());
+        if let Some(past) = bitmaps.set_many((first + row) / 8, codes, selected) {
+            return Some(row + past);
         }
     }
     None
@@ -52,6 +50,20 @@ struct Bitmaps<'a> {
 }
 
 impl Bitmaps<'_> {
+    /// Sets the bits of up to 64 rows, of which the first is bit 0 of byte `at` of each bitmap.
+    /// Returns the first selected row whose code has no bitmap. Behind its eight it sets none.
+    #[inline]
+    fn set_many<I: BitIndex>(&mut self, at: usize, codes: &[I], selected: u64) -> Option<usize> {
+        let mut eights = codes.chunks(8).zip(selected.to_le_bytes()).enumerate();
+        eights.find_map(|(i, (eight, selected))| {
+            let past = match eight.first_chunk::<8>() {
+                Some(eight) => self.set(at + i, eight, selected, 0),
+                None => self.set(at + i, eight, selected, 0),
+            };
+            (past != 0).then(|| 8 * i + past.trailing_zeros() as usize)
+        })
+    }
+
     /// Sets the bits of up to eight rows whose bits are in one byte, from bit `digit` of byte `at`
     /// of each bitmap on. Returns which selected rows have a code without a bitmap. It doesn't
     /// branch by the mask, since that often can't be predicted.
@@ -60,8 +72,8 @@ impl Bitmaps<'_> {
         let mut past = 0;
         for (row, code) in codes.iter().enumerate() {
             let bit = selected & 1 << row;
-            let code = code.place().filter(|&code| code < self.number);
-            match code.and_then(|code| self.bytes.get_mut(code * self.stride + at)) {
+            let code = code.place_or_far().min(self.number);
+            match self.bytes.get_mut(code * self.stride + at) {
                 Some(byte) => *byte |= bit << digit,
                 None => past |= bit,
             }
