@@ -11,7 +11,9 @@ use crate::{Compare, Mask, portable};
 /// A batch allocates only if it has one of the first `k` values. It holds at most about twice `k`
 /// values, and 128 more. After the first sort, a value that doesn't come before the last of the
 /// first `k` is only compared with it. The values are sorted whenever there are `k` more, or 64
-/// more if `k` is smaller, and at the end of a batch.
+/// more if `k` is smaller, and at the end of a batch, which inserts up to 16 new ones instead. So a
+/// batch with one of the first `k` values takes time in proportion to `k` too, however few rows it
+/// has.
 ///
 /// ```
 /// use vortex_bits::{Bits, TopK};

@@ -73,6 +73,9 @@ fn calls_allocate_what_their_documents_say() {
     );
     let ((), requests, _) = counted(|| best.append(&column[..90_000], None::<Bits>));
     assert_eq!(requests, 0, "no value of this batch is among the first");
+    let few: Vec<u64> = (0..1600).map(|row| 100_000 + row).collect();
+    let ((), requests, _) = counted(|| few.chunks(16).for_each(|it| best.append(it, None::<Bits>)));
+    assert_eq!(requests, 0, "few values are inserted where they belong");
     // Sixteen times the rows take some twenty times as long; if each row moved others, 256 times.
     let (few, many) = (time_of_half(5_000), time_of_half(80_000));
     assert!(many < 100 * few, "{many:?} for 16 times what takes {few:?}");

@@ -323,6 +323,51 @@ fn the_first_rows_of_an_order_are_those_of_a_sort() {
     assert_eq!(best.rows(), [(1, 2), (4, 1), (5, 0)]);
 }
 
+/// Appends batches of fewer than `most` rows by chance, beside a stable sort after each of them.
+/// Later values tend to come before those of earlier batches.
+fn appended(random: &mut Random, k: usize, most: usize, is_greatest: bool) {
+    let (mut best, sign) = if is_greatest {
+        (TopK::greatest(k), 1.0)
+    } else {
+        (TopK::least(k), -1.0)
+    };
+    let (mut all, mut rows): (Vec<(f64, usize)>, _) = (Vec::new(), 0);
+    for _ in 0..30 {
+        let len = random.below(most);
+        let any = |random: &mut Random| match random.below(20) {
+            0 => f64::NAN,
+            1 => [0.0, -0.0][rows % 2],
+            _ => sign * f64::from(u32::try_from(random.below(60) + rows / 16).unwrap()),
+        };
+        let batch: Vec<f64> = (0..len).map(|_| any(random)).collect();
+        let mask: Bitmap = (0..len).map(|_| random.below(8) > 0).collect();
+        best.append(&batch, &mask);
+        let new = batch.iter().copied().zip(rows..).zip(&mask);
+        all.extend(new.filter_map(|(it, is)| (is && !it.0.is_nan()).then_some(it)));
+        all.sort_by(|one, other| {
+            let order = one.0.partial_cmp(&other.0).unwrap();
+            if is_greatest { order.reverse() } else { order }
+        });
+        all.truncate(k);
+        let bits = |it: &[(f64, usize)]| -> Vec<(u64, usize)> {
+            it.iter().map(|it| (it.0.to_bits(), it.1)).collect()
+        };
+        assert_eq!(bits(best.rows()), bits(&all), "{k} at row {rows}");
+        rows += len;
+    }
+}
+
+/// After a batch of up to 16 new values these are inserted, after one of more all are sorted.
+#[test]
+fn batches_of_few_values_and_of_many_are_those_of_a_sort() {
+    let mut random = Random(7);
+    for round in 0..200 {
+        let k = [1, 4, 16, 30, 200][random.below(5)];
+        let most = [3, 17, 18, 40, 400][random.below(5)];
+        appended(&mut random, k, most, round % 2 == 0);
+    }
+}
+
 /// In an ascending column each row comes before all rows above it.
 #[test]
 #[cfg(not(miri))]

@@ -22,7 +22,7 @@ pub fn keep_best<T: PartialOrd + Copy>(
     if k == 0 {
         return;
     }
-    let (most, before) = (k.saturating_add(k.max(SPARE)), best.len());
+    let (most, mut sorted) = (k.saturating_add(k.max(SPARE)), best.len());
     let mut last = best.get(k - 1).copied();
     for (i, values) in values.chunks(64).enumerate() {
         let mut left = mask.map_or(low(values.len()), |mask| word_at(mask, i));
@@ -37,12 +37,40 @@ pub fn keep_best<T: PartialOrd + Copy>(
             left &= left - 1;
         }
         if best.len() >= most {
-            sort(best, k, is_better);
-            last = best.get(k - 1).copied();
+            sort(best, is_better);
+            best.truncate(k);
+            (sorted, last) = (best.len(), best.get(k - 1).copied());
         }
     }
-    if best.len() > before {
-        sort(best, k, is_better);
+    match best.len() - sorted {
+        0 => {}
+        1..=FEW => insert(best, sorted, is_better),
+        _ => sort(best, is_better),
+    }
+    best.truncate(k);
+}
+
+/// The greatest number of new values that are inserted. A sort of all values would compare each of
+/// them and allocate memory for half of them; so few need no memory but the stack, to be sorted
+/// and to be moved.
+const FEW: usize = 16;
+
+/// Inserts the values from `sorted` on among those before, each one behind its equals. It doesn't
+/// allocate.
+fn insert<T: Copy>(
+    best: &mut [(T, usize)],
+    sorted: usize,
+    is_better: impl Fn(T, T) -> bool + Copy,
+) {
+    sort(&mut best[sorted..], is_better);
+    // The last new value takes its place first. The other ones move with it, so that each value
+    // before moves once.
+    let mut end = sorted;
+    for added in (1..=best.len() - sorted).rev() {
+        let (value, _) = best[end + added - 1];
+        let place = best[..end].partition_point(|&(other, _)| !is_better(value, other));
+        best[place..end + added].rotate_right(added);
+        end = place;
     }
 }
 
@@ -62,9 +90,8 @@ fn better<T: Copy>(values: &[T], is_better: impl Fn(T) -> bool + Copy) -> u64 {
     }
 }
 
-/// Sorts the values, the best first, and removes those after the first `k`. The values come in the
-/// order of their rows, and the sort keeps it for equal ones.
-fn sort<T: Copy>(best: &mut Vec<(T, usize)>, k: usize, is_better: impl Fn(T, T) -> bool) {
+/// Sorts the values, the best first. They come in the order of their rows, and the sort keeps it
+/// for equal ones.
+fn sort<T: Copy>(best: &mut [(T, usize)], is_better: impl Fn(T, T) -> bool) {
     best.sort_by(|&(one, _), &(other, _)| is_better(other, one).cmp(&is_better(one, other)));
-    best.truncate(k);
 }
