@@ -40,7 +40,8 @@ impl BitmapsByCode {
     ///
     /// # Panics
     ///
-    /// Panics if the bits of all codes are more than a `usize`, as do the calls that append.
+    /// Panics if the bits of all codes are more than a `usize`, or exceed the memory that a [`Vec`]
+    /// can have, as do the calls that append.
     #[must_use]
     #[track_caller]
     pub fn with_capacity(codes: usize, rows: usize) -> BitmapsByCode {
@@ -114,7 +115,8 @@ impl BitmapsByCode {
     ///
     /// # Panics
     ///
-    /// Panics if the bits of all codes are more than a `usize`.
+    /// Panics if the bits of all codes are more than a `usize`, or exceed the memory that a [`Vec`]
+    /// can have.
     #[track_caller]
     pub fn try_append<I: BitIndex>(
         &mut self,
@@ -139,6 +141,11 @@ impl BitmapsByCode {
 
     /// Returns a bitmap per code. They share one buffer, which is freed with the last of them. Does
     /// not copy it.
+    ///
+    /// # Panics
+    ///
+    /// Panics if the bitmaps exceed the memory that a [`Vec`] can have, as those of `usize::MAX`
+    /// codes without rows do.
     #[must_use]
     pub fn into_bitmaps(self) -> Vec<Bitmap> {
         let (bits, rows) = (8 * self.stride, self.rows);
@@ -222,7 +229,8 @@ pub fn bitmaps_by_code<I: BitIndex>(codes: &[I], number: usize, mask: impl Mask)
 ///
 /// # Panics
 ///
-/// Panics if the bits of all codes are more than a `usize`.
+/// Panics if the bits of all codes are more than a `usize`, or if they or the bitmaps exceed the
+/// memory that a [`Vec`] can have.
 #[track_caller]
 pub fn try_bitmaps_by_code<I: BitIndex>(
     codes: &[I],

@@ -86,10 +86,11 @@ impl Array {
     ///
     /// # Errors
     ///
-    /// - Returns [`ArrowError::Type`] if the column has no dictionary, or the items have no validity
-    ///   bits by their type.
+    /// - Returns [`ArrowError::Type`] if the column has no dictionary, or the items, the innermost
+    ///   ones if they have a dictionary too, have no validity bits by their type.
     /// - Returns [`ArrowError::Unaligned`] if the buffer of the indices isn't aligned for them.
-    /// - Returns [`ArrowError::Take`] with the first valid index that names no item.
+    /// - Returns [`ArrowError::Take`] with the first valid index that names no item. It tests the
+    ///   indices of the items first, if they have a dictionary.
     pub fn dictionary_validity(&self) -> Result<Option<Bitmap>, ArrowError> {
         let items = self.items_of_indices()?;
         by_index!(self.validity_taken::<_>(&items))
