@@ -142,11 +142,13 @@ pub enum ArrowError {
     BadIndex(BadIndex),
     /// A window or a slice ends after the bits or rows, or starts after its end.
     OutOfBounds(OutOfBounds),
-    /// Memory runs out for the bytes of texts, or for copied rows.
+    /// Memory runs out for the bytes of texts, for copied rows, or for the numbers that say which
+    /// rows to copy.
     Memory {
         /// The name of the column.
         column: String,
-        /// Their total size in bytes; `usize::MAX` if it is more.
+        /// Their total size in bytes; `usize::MAX` if it is more, or if the number of rows or items
+        /// isn't a `usize`.
         bytes: usize,
     },
     /// The mask has another number of bits than there are rows.
@@ -162,7 +164,8 @@ pub enum ArrowError {
     TooLong {
         /// The name of the column.
         column: String,
-        /// What they count: items of lists or of a dictionary, rows of runs, or buffers of views.
+        /// What they count: rows, rows of runs, bytes of texts, buffers of views, or items of
+        /// lists, of a union or of a dictionary.
         what: &'static str,
         /// Their number. For offsets it ends with the first row that ends too far.
         number: usize,

@@ -203,10 +203,15 @@ impl Asker {
         let len = array.len();
         let mask: Bitmap = (0..len).map(|_| self.maker.below(2) == 0).collect();
         let indices: Vec<usize> = (0..9).map(|_| self.maker.below(len + 1)).collect();
-        match self.maker.below(3) {
+        let part = array.slice(len / 2..);
+        match self.maker.below(4) {
             0 => array.filter(&mask),
             1 => array.take_valid(&indices, self.valid(9)),
-            _ => Export::concat(array.field(), &[array.slice(len / 2..), array.clone()]),
+            2 => Export::concat(array.field(), &[part, array.clone()]),
+            _ => {
+                let again = Export::from(array.clone()).try_into_array()?;
+                Export::concat(array.field(), &[part, again])
+            }
         }
     }
 

@@ -163,9 +163,8 @@ impl Reader {
             array.filter(&mask),
             array.take(&indices),
             array.take_valid(&indices, Bits::new(&[0b0101_1010, 1], 0, 9)),
-            Export::concat(array.field(), &[array.clone(), array.slice(number / 2..)]),
         ];
-        for export in made {
+        for export in made.into_iter().chain(joined(array)) {
             self.asked_for(export);
         }
         let own = array.clone().try_into_export();
@@ -206,6 +205,15 @@ impl Reader {
             black_box(texts.iter().flatten().map(sum).sum::<u64>());
         }
     }
+}
+
+/// The rows and a part of them, and the same of rows that came once more and share nothing.
+fn joined(array: &Array) -> [Result<Export, ArrowError>; 2] {
+    let part = array.slice(array.len() / 2..);
+    let again = array.clone().try_into_export();
+    let again = again.and_then(Export::try_into_array);
+    let again = again.unwrap_or(array.clone());
+    [array.clone(), again].map(|it| Export::concat(array.field(), &[it, part.clone()]))
 }
 
 /// Rounds of trees that lie in their items, or of such of which a number is wrong too.

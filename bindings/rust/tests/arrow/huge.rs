@@ -91,12 +91,15 @@ fn items_beyond_63_bits_are_refused() {
 #[test]
 fn items_of_several_arrays_are_counted_without_overflow() {
     let items = || (nulls(MOST), field("n", vec![], None));
-    let [starts, sizes] = [MOST - 1, 1].map(|it| Some(number(it)));
-    let views = imported("+vL", 1, vec![None, starts, sizes], vec![items()]);
-    refused(&times(2, &views), &format!("column \"0\": {TWICE}"));
+    let all = [(); 4].map(|()| {
+        let [starts, sizes] = [MOST - 1, 1].map(|it| Some(number(it)));
+        imported("+vL", 1, vec![None, starts, sizes], vec![items()])
+    });
+    refused(&all[..2], &format!("column \"0\": {TWICE}"));
     for number in [3, 4] {
-        refused(&times(number, &views), NO_MEMORY);
+        refused(&all[..number], NO_MEMORY);
     }
+    shared(&all[0]);
     let below = format!("column \"dictionary\": {TWICE}");
     let few = TWICE.replace("rows", "items of a dictionary");
     for (format, wanted) in [("l", [&few[..]; 3]), ("L", [&below, NO_MEMORY, NO_MEMORY])] {
@@ -116,12 +119,43 @@ fn items_of_several_arrays_are_counted_without_overflow() {
 #[test]
 fn items_beyond_offsets_of_32_bits_are_refused() {
     let number = |it: i32| Some(Buffer::exact(&it.to_ne_bytes()));
-    let rows = vec![None, number(i32::MAX - 1), number(1)];
-    let items = (nulls(i32::MAX.into()), field("n", vec![], None));
-    let views = imported("+vl", 1, rows, vec![items]);
-    assert!(Export::concat(views.field(), &times(1, &views)).is_ok());
+    let views = |items: i32| {
+        let rows = vec![None, number(items - 1), number(1)];
+        let items = (nulls(items.into()), field("n", vec![], None));
+        imported("+vl", 1, rows, vec![items])
+    };
+    let [one, other] = [i32::MAX, i32::MAX].map(views);
+    assert!(Export::concat(one.field(), &times(1, &one)).is_ok());
     let items = "4294967294 items of lists, and numbers up to 2147483647";
-    refused(&times(2, &views), items);
+    refused(&[one.clone(), other], items);
+    shared(&one);
+    // The items of each array count once.
+    let [half, one] = [i32::MAX - 1, 1].map(views);
+    let joined = Export::concat(half.field(), &[half.clone(), one.clone(), half.clone()]);
+    assert_eq!(joined.unwrap().into_array().len(), 3);
+    let few = [half, views(2)];
+    refused(&few, &items.replace("4294967294", "2147483648"));
+}
+
+/// Parts of one array share its items.
+#[track_caller]
+fn shared(array: &Array) {
+    let joined = Export::concat(array.field(), &times(5, array)).unwrap();
+    assert_eq!(joined.into_array().len(), 5 * array.len());
+}
+
+#[test]
+fn items_beyond_offsets_of_64_bits_are_refused() {
+    let ends = Buffer::exact(&[0, 1i64 << 62].map(i64::to_ne_bytes).concat());
+    let items = (nulls(1 << 62), field("n", vec![], None));
+    let lists = imported("+L", 1, vec![None, Some(ends)], vec![items]);
+    assert_eq!(lists.take(&[0u8]).unwrap().into_array().len(), 1);
+    let wanted = "9223372036854775808 items of lists, and numbers up to 9223372036854775807";
+    for number in 2..6 {
+        let taken = lists.take(&vec![0u8; number]).map(drop);
+        assert_eq!(taken.unwrap_err().to_string(), wanted);
+        refused(&times(number, &lists), wanted);
+    }
 }
 
 #[test]

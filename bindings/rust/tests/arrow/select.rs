@@ -148,8 +148,14 @@ fn rows_of_several_arrays_are_those_of_a_plain_reader() {
     for _ in 0..rounds(1000) {
         maker.count = Count::default();
         let (array, _) = some(&mut maker, 2);
-        let arrays: Vec<Array> = (0..maker.below(4))
-            .map(|_| part(&mut maker, &array))
+        // Parts of one array, or of two that share nothing.
+        let again = Export::from(array.clone()).into_array();
+        let both = [&array, maker.one_of(&[&array, &again])];
+        let arrays: Vec<Array> = (0..maker.below(5))
+            .map(|_| {
+                let of = maker.one_of(&both);
+                part(&mut maker, of)
+            })
             .collect();
         let rows: Vec<Cell> = arrays.iter().flat_map(rows_as_they_came).collect();
         let joined = Export::concat(array.field(), &arrays).unwrap();

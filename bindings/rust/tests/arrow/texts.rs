@@ -199,6 +199,33 @@ fn views_share_their_buffers() {
     }
 }
 
+/// A reader that tests the views of null rows finds nothing that is wrong, whatever they were.
+#[test]
+fn views_of_null_rows_become_empty() {
+    let array = texts(&ROWS, "vu", &Count::default());
+    let again = texts(&ROWS, "vu", &Count::default());
+    let all = Bitmap::new_set(9);
+    for made in [
+        Export::texts_kept(&array, &all),
+        Export::texts_kept(&array, None::<Bits>),
+        Export::texts_taken(&array, &[0u8, 1, 2, 3, 4, 5, 6, 7, 8]),
+        array.filter(&all),
+        Export::concat(array.field(), &[array.slice(..4), array.slice(4..)]),
+        Export::concat(array.field(), &[array.slice(..4), again.slice(4..)]),
+    ] {
+        let (mut array, mut schema) = raw_of(made.unwrap());
+        // SAFETY: there are nine views, and neither is released.
+        unsafe {
+            let views = *array.buffers.add(1).cast::<*const [[u8; 16]; 9]>();
+            for (row, view) in ROWS.iter().zip(&*views) {
+                assert!(row.is_some() || view == &[0; 16]);
+            }
+            array.release.unwrap()(&raw mut array);
+            schema.release.unwrap()(&raw mut schema);
+        }
+    }
+}
+
 #[test]
 fn what_has_no_texts_is_refused() {
     let numbers = Export::values(vec![1i32], None).named("n").read_back();

@@ -146,23 +146,37 @@ impl Array {
     /// Returns [`ArrowError::Type`] if the column has no dictionary, and [`ArrowError::Take`] with
     /// the first valid index that names no item.
     pub fn dictionary_indices(&self) -> Result<Vec<usize>, ArrowError> {
-        let items = self.items_of_indices()?;
-        by_index!(self.places_among::<_>(items.len))
+        let mut places = Vec::with_capacity(self.len);
+        self.each_index(|_, place| {
+            places.push(place);
+            Ok(())
+        })?;
+        Ok(places)
     }
 
-    fn places_among<I: Primitive + BitIndex>(
+    /// Calls `take` with each row and its index, as [`Array::dictionary_indices`] returns it. Does
+    /// not allocate.
+    pub(in crate::arrow) fn each_index(
         &self,
-        items: usize,
-    ) -> Result<Vec<usize>, ArrowError> {
+        take: impl FnMut(usize, usize) -> Result<(), ArrowError>,
+    ) -> Result<(), ArrowError> {
+        let items = self.items_of_indices()?.len;
+        by_index!(self.each_place::<_>((items, take)))
+    }
+
+    fn each_place<I: Primitive + BitIndex>(
+        &self,
+        (items, mut take): (usize, impl FnMut(usize, usize) -> Result<(), ArrowError>),
+    ) -> Result<(), ArrowError> {
         let (indices, valid) = (self.unaligned::<I>()?, self.validity()?);
-        let place = |(position, index): (usize, I)| {
-            if valid.get(position) == Some(false) {
-                return Ok(0);
+        indices.iter().enumerate().try_for_each(|(row, index)| {
+            if valid.get(row) == Some(false) {
+                return take(row, 0);
             }
             let place = index.place().filter(|place| *place < items);
-            place.ok_or_else(|| self.lost(position, index.number(), items))
-        };
-        indices.iter().enumerate().map(place).collect()
+            let place = place.ok_or_else(|| self.lost(row, index.number(), items));
+            take(row, place?)
+        })
     }
 
     /// Returns the error of an index that names none of `values` items.

@@ -6,6 +6,7 @@ mod joined;
 mod made;
 mod memory;
 mod nested;
+mod nodes;
 mod rows;
 mod runs;
 mod unions;
@@ -25,6 +26,7 @@ use crate::arrow::layout::{Layout, Of};
 use crate::{BitIndex, Bits, Mask};
 pub(super) use made::Owners;
 use made::{Made, Nulls};
+pub(super) use memory::all_true;
 use memory::reserved;
 use rows::{Rows, Runs};
 
@@ -102,6 +104,9 @@ impl Array {
     /// - Returns [`ArrowError::Take`] with the first index that names no row.
     /// - Returns [`ArrowError::LongTexts`] or [`ArrowError::TooLong`] if offsets of 32 bits or the
     ///   ends of runs can't represent the ends of the rows.
+    /// - Returns [`ArrowError::TooLong`] if there are 2^63 items of lists or more, and
+    ///   [`ArrowError::Memory`] with `usize::MAX` bytes if their number isn't a `usize`. Both are
+    ///   possible if these take no memory.
     /// - Returns the errors of `filter`.
     #[doc(alias = "gather")]
     pub fn take<I: BitIndex>(&self, indices: &[I]) -> Result<Export, ArrowError> {
@@ -213,9 +218,10 @@ impl Export {
     /// are no rows. If the arrays have several dictionaries, the joined one may have an item twice:
     /// rows with different indices may then be equal.
     ///
-    /// It copies the rows as [`Array::filter`] does, and the items of list views of several arrays.
-    /// Slices of one array continue to share its dictionary. Otherwise the items of all
-    /// dictionaries are put one after the other too, and the indices are adjusted. The items are
+    /// It copies the rows as [`Array::filter`] does. Slices of one array continue to share its
+    /// dictionary, the items of its list views and the buffers of its views. Otherwise the
+    /// dictionaries and the items of list views are copied, those of each array once and one array
+    /// after the other, and the indices and offsets are adjusted. The items of a dictionary are
     /// then in no order, whatever the field's flags say.
     ///
     /// ```
@@ -240,8 +246,14 @@ impl Export {
     /// - Returns [`ArrowError::Field`] if an array doesn't have the type of the field, or has a
     ///   null and the field allows none.
     /// - Returns [`ArrowError::LongTexts`] or [`ArrowError::TooLong`] if offsets of 32 bits, the
-    ///   ends of runs or the indices of a dictionary can't represent all rows, or if there are 2^63
-    ///   rows or items or more, which is possible if these take no memory.
+    ///   ends of runs or the indices of a dictionary can't represent all rows.
+    /// - Returns [`ArrowError::TooLong`] if there are 2^63 rows or items or more, and
+    ///   [`ArrowError::Memory`] with `usize::MAX` bytes if their number isn't a `usize`. Both are
+    ///   possible if these take no memory.
+    /// - If there are several dictionaries, returns [`ArrowError::Take`] with the first valid index
+    ///   of an array that names no item of its own dictionary.
+    /// - Returns [`ArrowError::Malformed`] if list views of several arrays are out of bounds of
+    ///   their items. Returns the errors of [`Array::texts`] for views of several arrays.
     /// - Returns the errors of `filter`.
     pub fn concat(field: &Field, arrays: &[Array]) -> Result<Export, ArrowError> {
         for array in arrays {
@@ -281,7 +293,7 @@ fn selected(field: &Field, of: &[Array], rows: Rows<'_>) -> Result<Owned<ArrowAr
             variable::texts(field, width, of, rows, nulls.valid(rows.len()))?
         }
         (Layout::Ranges(width, Of::Items), _) => variable::lists(field, width, of, rows)?,
-        (Layout::Views, _) => variable::views(field, of, rows)?,
+        (Layout::Views, _) => variable::views(field, of, rows, nulls.valid(rows.len()))?,
         (Layout::Struct, _) => nested::structs(field, of, rows)?,
         (Layout::Lists(each), _) => nested::fixed_lists(field, each, of, rows)?,
         (Layout::ListViews(width), _) => nested::list_views(field, width, of, rows)?,

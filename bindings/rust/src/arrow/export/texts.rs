@@ -1,19 +1,17 @@
 //! Exports texts.
 
 use alloc::sync::Arc;
-use alloc::vec;
 use alloc::vec::Vec;
 use core::ffi::c_void;
-use core::slice;
 
 use super::growing::TextsMut;
+use super::select::all_true;
 use super::{Export, number};
 use crate::arrow::array::Array;
 use crate::arrow::error::ArrowError;
 use crate::arrow::field::Field;
 use crate::arrow::layout::{Layout, Of};
-use crate::arrow::texts::View;
-use crate::{BitIndex, Bitmap, Bits, Mask, TakeError, TakeValuesError, Validity, values};
+use crate::{BitIndex, Bitmap, Bits, Mask, TakeError, TakeValuesError};
 
 /// Texts.
 impl Export {
@@ -59,7 +57,7 @@ impl Export {
 
     /// Returns the rows of texts or binary values that a mask selects, in their order, with their
     /// name, type and validity. It copies the bytes of valid rows only. For views it copies the
-    /// views and shares the buffers.
+    /// views, empty ones for null rows, and shares the buffers.
     ///
     /// ```
     /// use vortex_bits::Bits;
@@ -75,8 +73,8 @@ impl Export {
     ///
     /// # Errors
     ///
-    /// Returns the errors of [`Array::texts`], and the errors of [`Array::filter`] for texts
-    /// between offsets.
+    /// Returns the errors of [`Array::texts`], and [`ArrowError::Memory`] if memory runs out for
+    /// the copies.
     ///
     /// # Panics
     ///
@@ -84,24 +82,13 @@ impl Export {
     #[track_caller]
     pub fn texts_kept(texts: &Array, mask: impl Mask) -> Result<Export, ArrowError> {
         let mask = mask.of_len(texts.len());
-        let Some(views) = texts.views() else {
-            texts.has_bytes()?;
-            // Without a mask, `filter` would copy by runs, with the bytes of null rows.
-            let all = mask.is_none() && texts.validity()?.bits().is_some();
-            let all = all.then(|| Bitmap::new_set(texts.len()));
-            return texts.filter(mask.or(all.as_ref().map(Bitmap::bits)));
-        };
-        texts.texts()?;
-        let valid = texts.validity()?.filter(mask);
-        let len = mask.map_or(views.len(), Bits::count_ones);
-        Ok(shown(texts, len, valid, |kept, valid| {
-            match mask {
-                Some(mask) => drop(mask.keep_into(views, kept)),
-                None => kept.copy_from_slice(views),
-            }
-            let nulls = valid.iter().flat_map(|valid| valid.unset_indices());
-            nulls.for_each(|row| kept[row] = View::default());
-        }))
+        texts.shows_texts()?;
+        if mask.is_some() || texts.validity()?.bits().is_none() {
+            return texts.filter(mask);
+        }
+        // Without a mask, `filter` would copy by runs, with the bytes of null rows.
+        let all = all_true(texts.field(), texts.len())?;
+        texts.filter(Bits::new(&all, 0, texts.len()))
     }
 
     /// Returns the rows of texts or binary values at indices, with their name, type and validity.
@@ -153,17 +140,8 @@ impl Export {
         indices: &[I],
         validity: impl Mask,
     ) -> Result<Export, ArrowError> {
-        let Some(views) = texts.views() else {
-            texts.has_bytes()?;
-            return texts.take_valid(indices, validity).map(Export::or_null);
-        };
-        texts.texts()?;
-        let refused = |error| texts.not_taken(values_error(error));
-        let valid = valid_at(texts.validity()?, indices, &validity).map_err(refused)?;
-        let taken = shown(texts, indices.len(), valid, |taken, valid| {
-            values::take_valid_into(views, indices, valid, taken);
-        });
-        Ok(taken.or_null())
+        texts.shows_texts()?;
+        texts.take_valid(indices, validity).map(Export::or_null)
     }
 
     /// Converts offsets of 64 bits to new ones of 32 bits: `U` to `u`, and `Z` to `z`. It does not
@@ -226,6 +204,17 @@ impl Export {
     }
 }
 
+impl Array {
+    /// Tests that the rows are texts or binary values. It tests each view too, since a consumer
+    /// follows them; offsets are tested when the rows are copied.
+    fn shows_texts(&self) -> Result<(), ArrowError> {
+        match self.node.field.layout {
+            Layout::Views => self.texts().map(drop),
+            _ => self.has_bytes(),
+        }
+    }
+}
+
 /// The end of each row, after a first 0.
 enum Ends {
     Narrow(Vec<i32>),
@@ -253,34 +242,6 @@ impl Ends {
             Ends::Wide(ends) => ends.as_ptr().cast(),
         }
     }
-}
-
-/// Returns `len` new views of the buffers of another array of views. `write` fills them in; it
-/// reads their validity.
-fn shown(
-    of: &Array,
-    len: usize,
-    valid: Option<Bitmap>,
-    write: impl FnOnce(&mut [View], Option<&Bitmap>),
-) -> Export {
-    // The alignment of `u128` is the one that some consumers require.
-    let mut views = vec![0u128; len];
-    // SAFETY: a number of 128 bits has the size of a view, and any such bytes are valid as either.
-    let written = unsafe { slice::from_raw_parts_mut(views.as_mut_ptr().cast::<View>(), len) };
-    write(written, valid.as_ref());
-    let buffers = [&[views.as_ptr().cast()], &of.node.buffers[2..]].concat();
-    let kept = Arc::new((views, Arc::clone(&of.node)));
-    Export::column(of.field().clone(), len, 0, &buffers, kept, valid)
-}
-
-/// Returns which rows at the indices are valid. An index that isn't valid gives a row that isn't.
-fn valid_at<I: BitIndex>(
-    rows: Validity<'_>,
-    indices: &[I],
-    validity: &impl Mask,
-) -> Result<Option<Bitmap>, TakeError> {
-    crate::take::one_each(indices, validity)?;
-    rows.try_take_valid(indices, Validity::new(validity.mask(), indices.len()))
 }
 
 /// Converts an error of bits to the one of values.

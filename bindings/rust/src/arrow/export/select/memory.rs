@@ -13,6 +13,16 @@ pub(super) fn zeroed(field: &Field, len: usize, width: usize) -> Result<AlignedB
     zeros.ok_or_else(|| none_for(field, bytes.unwrap_or(usize::MAX)))
 }
 
+/// Allocates the bytes of `len` bits, all true.
+pub(in crate::arrow::export) fn all_true(
+    field: &Field,
+    len: usize,
+) -> Result<AlignedBytes, ArrowError> {
+    let mut bytes = zeroed(field, len.div_ceil(8), 1)?;
+    bytes.fill(u8::MAX);
+    Ok(bytes)
+}
+
 /// Allocates capacity for `bytes` bytes, without contents.
 pub(super) fn with_room(field: &Field, bytes: usize) -> Result<AlignedBytes, ArrowError> {
     AlignedBytes::try_with_capacity(bytes).ok_or_else(|| none_for(field, bytes))
@@ -38,8 +48,9 @@ pub(super) fn copied<T: Copy>(field: &Field, items: &[T]) -> Result<Vec<T>, Arro
 #[inline]
 pub(super) fn push<T>(field: &Field, items: &mut Vec<T>, item: T) -> Result<(), ArrowError> {
     if items.try_reserve(1).is_err() {
-        let bytes = items.len().saturating_mul(size_of::<T>());
-        return Err(none_for(field, bytes));
+        // It asks for twice the capacity, and for four items at first.
+        let wanted = items.capacity().saturating_mul(2).max(4);
+        return Err(none_for(field, wanted.saturating_mul(size_of::<T>())));
     }
     items.push(item);
     Ok(())

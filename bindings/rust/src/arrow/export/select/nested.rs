@@ -1,10 +1,10 @@
 //! Selects rows of types with children, and of columns with a dictionary.
 
-use alloc::sync::Arc;
 use alloc::vec::Vec;
 
 use super::made::Made;
 use super::memory::{copied, too_many, zeroed};
+use super::nodes::{Nodes, only};
 use super::rows::{Rows, Run, Runs};
 use super::{fixed, put, selected, too_long, whole};
 use crate::arrow::array::Array;
@@ -56,43 +56,35 @@ pub(super) fn list_views(
     of: &[Array],
     rows: Rows<'_>,
 ) -> Result<Made, ArrowError> {
-    let numbers: Vec<[&[u8]; 2]> = of.iter().map(|it| it.list_view_numbers(width)).collect();
-    let sizes: Vec<&[u8]> = numbers.iter().map(|it| it[1]).collect();
-    let items = whole(of, 0);
-    let mut moved = Vec::new();
-    let mut before = 0_usize;
-    for (one, items) in of.iter().zip(&items).filter(|_| of.len() > 1) {
-        moved.push(moved_offsets(one, width, items.len(), before)?);
-        before = items.len().saturating_add(before);
-    }
-    let offsets: Vec<&[u8]> = if let [[offsets, _]] = numbers[..] {
-        [offsets].into()
-    } else {
-        moved.iter().map(Vec::as_slice).collect()
-    };
-    if width == 4 && i32::try_from(before).is_err() {
-        return Err(too_long(field, "items of lists", before, i32::MAX.into()));
-    }
-    let offsets = fixed::values(field, width, &offsets, rows)?;
-    let mut made = Made::of([offsets, fixed::values(field, width, &sizes, rows)?]);
-    if let [one] = &items[..] {
-        made.below
-            .push(shared(&one.node, one.node.offset, one.node.len));
+    let numbers = of.iter().map(|it| it.list_view_numbers(width));
+    let (offsets, sizes): (Vec<&[u8]>, Vec<&[u8]>) = numbers.map(|[it, sizes]| (it, sizes)).unzip();
+    let items = || of.iter().map(|it| &it.node.children[0]);
+    if let Some(items) = only(items()) {
+        let offsets = fixed::values(field, width, &offsets, rows)?;
+        let mut made = Made::of([offsets, fixed::values(field, width, &sizes, rows)?]);
+        made.below.push(shared(items, items.offset, items.len));
         return Ok(made);
     }
-    let all = all_rows(field, &items)?;
-    made.children(field, |place| whole(of, place), |_| all.rows())?;
+    let items = Nodes::of(items());
+    let moved = of.iter().zip(items.before(Array::len));
+    let moved = moved.map(|(one, before)| moved_offsets(one, width, before));
+    let moved = moved.collect::<Result<Vec<_>, _>>()?;
+    let number = items.each.iter().map(Array::len);
+    let number = number.fold(0, usize::saturating_add);
+    if width == 4 && i32::try_from(number).is_err() {
+        return Err(too_long(field, "items of lists", number, i32::MAX.into()));
+    }
+    let moved: Vec<&[u8]> = moved.iter().map(Vec::as_slice).collect();
+    let offsets = fixed::values(field, width, &moved, rows)?;
+    let mut made = Made::of([offsets, fixed::values(field, width, &sizes, rows)?]);
+    let all = all_rows(field, &items.each)?;
+    made.children(field, |_| &items.each[..], |_| all.rows())?;
     Ok(made)
 }
 
 /// Returns the offsets of list views, with `before` items in front of their own.
-fn moved_offsets(
-    of: &Array,
-    width: usize,
-    items: usize,
-    before: usize,
-) -> Result<Vec<u8>, ArrowError> {
-    let [offsets, sizes] = of.list_view_numbers(width);
+fn moved_offsets(of: &Array, width: usize, before: usize) -> Result<Vec<u8>, ArrowError> {
+    let ([offsets, sizes], items) = (of.list_view_numbers(width), of.node.children[0].len);
     let mut moved = copied(of.field(), offsets)?;
     for row in 0..of.len() {
         let (start, size) = (signed(offsets, row, width), signed(sizes, row, width));
@@ -125,31 +117,25 @@ pub(super) fn coded(
     rows: Rows<'_>,
 ) -> Result<Made, ArrowError> {
     let width = field.layout.widest().0;
-    let dictionaries: Vec<Array> = of.iter().filter_map(Array::dictionary).collect();
-    let is_same = |pair: &[Array]| Arc::ptr_eq(&pair[0].node, &pair[1].node);
-    let one = dictionaries
-        .first()
-        .filter(|_| dictionaries.windows(2).all(is_same));
-    if let Some(one) = one {
+    let dictionaries = || of.iter().filter_map(|it| it.node.dictionary.as_ref());
+    if let Some(one) = only(dictionaries()) {
         let mut made = Made::of([fixed::own_values(field, width, of, rows)?]);
-        let Node { offset, len, .. } = *one.node;
-        made.dictionary = Some(shared(&one.node, offset, len));
+        let Node { offset, len, .. } = **one;
+        made.dictionary = Some(shared(one, offset, len));
         // If there is no item, no row can name one.
-        if one.is_empty() && rows.has_nulls() && !field.is_nullable() {
+        if len == 0 && rows.has_nulls() && !field.is_nullable() {
             return Err(of[0].lost(0, 0, 0));
         }
         return Ok(made);
     }
-    let mut moved = Vec::new();
-    let mut before = 0_usize;
-    for (one, items) in of.iter().zip(&dictionaries) {
-        moved.push(moved_indices(field, one, before)?);
-        before = items.len().saturating_add(before);
-    }
-    let bytes: Vec<&[u8]> = moved.iter().map(|it| &it[..]).collect();
-    let mut made = Made::of([fixed::values(field, width, &bytes, rows)?]);
-    let all = all_rows(field, &dictionaries)?;
-    let items = selected(items, &dictionaries, all.rows());
+    let dictionaries = Nodes::of(dictionaries());
+    let moved = of.iter().zip(dictionaries.before(Array::len));
+    let moved = moved.map(|(one, before)| moved_indices(field, one, before));
+    let moved = moved.collect::<Result<Vec<_>, _>>()?;
+    let moved: Vec<&[u8]> = moved.iter().map(|it| &it[..]).collect();
+    let mut made = Made::of([fixed::values(field, width, &moved, rows)?]);
+    let all = all_rows(field, &dictionaries.each)?;
+    let items = selected(items, &dictionaries.each, all.rows());
     made.dictionary = Some(items.map_err(|error| error.under("dictionary"))?);
     Ok(made)
 }
@@ -160,7 +146,7 @@ fn moved_indices(field: &Field, of: &Array, before: usize) -> Result<AlignedByte
     let is_signed = matches!(field.layout, Layout::Fixed(Kind::Signed, _));
     let most = u64::MAX >> (64 - 8 * width + usize::from(is_signed));
     let mut moved = zeroed(field, of.len(), width)?;
-    for (row, index) in of.dictionary_indices()?.into_iter().enumerate() {
+    of.each_index(|row, index| {
         let index = if valid.get(row) == Some(true) {
             index.saturating_add(before)
         } else {
@@ -172,7 +158,8 @@ fn moved_indices(field: &Field, of: &Array, before: usize) -> Result<AlignedByte
             return Err(too_long(field, "items of a dictionary", items, most));
         }
         put(&mut moved, row, width, index);
-    }
+        Ok(())
+    })?;
     Ok(moved)
 }
 

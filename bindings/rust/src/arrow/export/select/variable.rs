@@ -5,6 +5,7 @@ use core::ffi::c_void;
 
 use super::made::Made;
 use super::memory::{copied, zeroed};
+use super::nodes::{Nodes, only};
 use super::rows::{Rows, Run, Runs};
 use super::{fixed, joined, put, too_long, whole};
 use crate::Bits;
@@ -63,7 +64,7 @@ fn offsets(
     rows: Rows<'_>,
 ) -> Result<(AlignedBytes, Runs), ArrowError> {
     let mut offsets = zeroed(field, rows.len().saturating_add(1), width)?;
-    let mut parts = Runs::default();
+    let (mut parts, most) = (Runs::default(), most(width));
     rows.each(|before, run| {
         let end = parts.len();
         let Run {
@@ -77,7 +78,7 @@ fn offsets(
         };
         let span = ranges.span(start..start + len).unwrap_or_default();
         let all = end.checked_add(span.len());
-        if all.is_none_or(|all| width == 4 && i32::try_from(all).is_err()) {
+        if all.is_none_or(|all| is_beyond(all, most)) {
             let ends = (start..start + len).filter_map(|row| ranges.get(row));
             let ends = ends.map(|it| end.saturating_add(it.end - span.start));
             return Err(long(field, ends));
@@ -95,49 +96,74 @@ fn offsets(
     Ok((offsets, parts))
 }
 
-/// Returns the error of rows with these ends, one of which 32 bits can't represent.
-#[cold]
-pub(super) fn long(field: &Field, mut ends: impl Iterator<Item = usize>) -> ArrowError {
-    let column = field.name.clone();
-    let is_too_far = |end: &usize| i32::try_from(*end).is_err();
-    let number = ends.find(is_too_far).unwrap_or(usize::MAX);
-    match field.layout {
-        Layout::Ranges(_, Of::Items) => too_long(field, "items of lists", number, i32::MAX.into()),
-        _ => ArrowError::LongTexts {
-            column,
-            bytes: number,
-        },
+/// Returns the greatest end that an offset of `width` bytes can represent.
+fn most(width: usize) -> i64 {
+    if width == 4 {
+        i32::MAX.into()
+    } else {
+        i64::MAX
     }
 }
 
-/// Selects rows of views: the views, and the buffers of all arrays.
-pub(super) fn views(field: &Field, of: &[Array], rows: Rows<'_>) -> Result<Made, ArrowError> {
+fn is_beyond(end: usize, most: i64) -> bool {
+    !i64::try_from(end).is_ok_and(|end| end <= most)
+}
+
+/// Returns the error of rows with these ends, one of which the offsets can't represent.
+#[cold]
+pub(super) fn long(field: &Field, mut ends: impl Iterator<Item = usize>) -> ArrowError {
+    let (most, what) = match field.layout {
+        Layout::Ranges(width, Of::Items) => (most(width), "items of lists"),
+        layout => (most(layout.widest().0), "bytes of texts"),
+    };
+    let number = ends.find(|end| is_beyond(*end, most)).unwrap_or(usize::MAX);
+    match field.layout {
+        Layout::Ranges(4, Of::Bytes) => ArrowError::LongTexts {
+            column: field.name.clone(),
+            bytes: number,
+        },
+        _ => too_long(field, what, number, most),
+    }
+}
+
+/// Selects rows of views: the views, and the buffers of all arrays. `valid` has a bit per row. Null
+/// rows get empty views, since those that they have may name a buffer that isn't there.
+pub(super) fn views(
+    field: &Field,
+    of: &[Array],
+    rows: Rows<'_>,
+    valid: Option<Bits<'_>>,
+) -> Result<Made, ArrowError> {
     let width = size_of::<View>();
-    if let [one] = of {
-        let mut made = Made::of([fixed::own_values(field, width, of, rows)?]);
-        made.shared.extend_from_slice(&one.node.buffers[2..]);
-        made.keep(of);
+    if let Some(node) = only(of.iter().map(|it| &it.node)) {
+        let mut views = fixed::own_values(field, width, of, rows)?;
+        let nulls = valid.into_iter().flat_map(Bits::unset_indices);
+        nulls.for_each(|row| views[row * width..][..width].fill(0));
+        let mut made = Made::of([views]);
+        made.shared.extend_from_slice(&node.buffers[2..]);
+        made.keep(&of[..1]);
         return Ok(made);
     }
-    let (mut moved, mut sizes, mut shared) = (Vec::new(), Vec::new(), Vec::new());
-    for one in of {
-        let before = sizes.len();
-        moved.push(moved_views(field, one, before)?);
-        for buffer in one.view_buffers()? {
-            shared.push(buffer.as_ptr().cast());
-            sizes.push(buffer.len());
-        }
-    }
+    let nodes = Nodes::of(of.iter().map(|it| &it.node));
+    // Behind the buffers of texts come their sizes, before them the validity and the views.
+    let moved = of.iter().zip(nodes.before(|it| it.node.buffers.len() - 3));
+    let moved = moved.map(|(one, before)| moved_views(field, one, before));
+    let moved = moved.collect::<Result<Vec<_>, _>>()?;
     let moved: Vec<&[u8]> = moved.iter().map(Vec::as_slice).collect();
     let mut made = Made::of([fixed::values(field, width, &moved, rows)?]);
-    let mut numbers = zeroed(field, sizes.len(), size_of::<i64>())?;
-    for (place, size) in sizes.into_iter().enumerate() {
-        put(&mut numbers, place, size_of::<i64>(), size);
+    let buffers = nodes.each.iter().map(|it| {
+        let buffers = it.view_buffers();
+        buffers.map_err(|fault| it.malformed(fault))
+    });
+    let buffers = buffers.collect::<Result<Vec<_>, _>>()?.concat();
+    let mut sizes = zeroed(field, buffers.len(), size_of::<i64>())?;
+    for (place, buffer) in buffers.iter().enumerate() {
+        put(&mut sizes, place, size_of::<i64>(), buffer.len());
     }
-    shared.push(numbers.as_ptr().cast::<c_void>());
-    made.shared = shared;
-    made.kept.push(numbers);
-    made.keep(of);
+    made.shared = buffers.iter().map(|it| it.as_ptr().cast()).collect();
+    made.shared.push(sizes.as_ptr().cast::<c_void>());
+    made.kept.push(sizes);
+    made.keep(&nodes.each);
     Ok(made)
 }
 
