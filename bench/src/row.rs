@@ -309,12 +309,14 @@ impl Measured {
         row.count("bits", self.bits).count("items", self.items);
         row.list("offsets", self.offsets.iter().map(usize::to_string));
         row.number("set", self.set);
-        let mut times = Object::default();
+        let (mut times, mut ratios) = (Object::default(), Object::default());
+        let ours = &self.times[0];
         for (name, time) in self.names.iter().zip(&self.times) {
             times.number(name, Some(time.median()));
+            ratios.number(name, Some(ours.over(time)));
         }
-        row.object("ns", times);
-        let range = self.times[0].range();
+        row.object("ns", times).object("ours_over", ratios);
+        let range = ours.range();
         row.list("ours_from_to", range.iter().map(f64::to_string));
         row.list("targets", self.targets.iter().map(Outcome::json));
         row.line()
