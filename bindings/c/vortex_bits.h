@@ -28,8 +28,9 @@
  * loads and stores only the bytes that have a bit of the window; the other bits of the first and
  * the last byte are stored unchanged. Of items, such as values, indices and runs, it stores only
  * those that it returns, whatever the capacity; a take that finds a bad index may store items for
- * all indices. Any thread may call any function. Two threads may write windows of one bitmap at
- * once if these share no byte, such as the first 1,000 bits and the next 1,000.
+ * all indices, and a call by group that finds a bad code stores totals again as they were. Any
+ * thread may call any function. Two threads may write windows of one bitmap at once if these share
+ * no byte, such as the first 1,000 bits and the next 1,000.
  *
  * For every call, the caller must ensure: each pointer points to the number of items that the next
  * argument gives, and may be null if that is 0; the last pointer of a vb_try_ function, to the
