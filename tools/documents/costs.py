@@ -20,7 +20,7 @@ LISTED = re.compile(r'^ +"(\w+) (\w+)",$', re.MULTILINE)
 # The words of a docstring for a cost that grows with the input, or doesn't.
 PROMISE = re.compile(
     r"\bconstant\b|amortized|\blinear in\b|at the cost of|\bby words\b|packed by 64"
-    r"|\b(?:64|a word|four words|\d+ bytes) at a time|by 64 bits|four words at once"
+    r"|\b(?:64|a word|four words|\d+ bytes) at a time|by 64 bits|(?:four words|eight) at once"
     r"|\b[Rr]eads? (?:as|up to|from the end|one or two)\b|\bone pass over\b|halves the groups",
 )
 

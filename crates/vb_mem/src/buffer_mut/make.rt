@@ -201,7 +201,7 @@ impl<T: Element, A: Allocator> BufferMut<T, A> {
 
     /// Returns the items of an iterator whose length is known, over-aligned to 256 bytes. The
     /// caller must prove that its `next` may be called. Returns `OutOfMemory`, before it polls the
-    /// first item, if memory runs out. Does not allocate if the iterator has no items.
+    /// first item, if memory runs out, but never if the iterator has no items.
     pub fn from_trusted_len_iter<I: TrustedLen<Item = T>>(alloc: A, iter: I) -> Result<Self>
         requires { I.can_next iter }
         ensures made { Makes (λ b. (items : List T) × Drains I.next_gives iter items
