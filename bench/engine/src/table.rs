@@ -1,7 +1,7 @@
-//! The table: vectors, which plain loops read, and the same rows as Arrow batches, which the engine
-//! reads. Both have the same values at nulls.
+//! The table: vectors, which plain loops read, and the same rows as the batches of an Arrow stream,
+//! which the engine reads. Both have the same values at nulls.
 
-use vortex_bits::arrow::{Array, ArrowError, Export, Primitive};
+use vortex_bits::arrow::{Array, ArrowError, Export, ExportStream, Primitive};
 use vortex_bits::{Bitmap, Bits};
 
 /// The number of texts in the dictionary.
@@ -160,7 +160,7 @@ impl Rows {
         }
     }
 
-    fn batch(&self) -> Result<Array, ArrowError> {
+    fn batch(&self) -> Result<Export, ArrowError> {
         let cities = Export::texts((0..CITIES).map(|it| format!("city{it}")), None).narrow()?;
         let names = (0..self.id.len()).map(|row| self.name(row).map(String::from_utf8_lossy));
         let columns = [
@@ -171,7 +171,7 @@ impl Rows {
             Export::bits(self.flag.bitmap(), None).named("flag"),
             Export::texts_or_nulls(names).narrow()?.named("name"),
         ];
-        Ok(Export::batch(columns).into_array())
+        Ok(Export::batch(columns))
     }
 
     /// Returns the rows of a batch.
@@ -208,7 +208,10 @@ impl Table {
             }
             parts[row / batch].push_random(&mut random, id);
         }
-        let batches = parts.iter().map(Rows::batch).collect::<Result<_, _>>()?;
+        let batches = parts.iter().map(Rows::batch).collect::<Result<Vec<_>, _>>()?;
+        let field = batches[0].field().clone();
+        let stream = ExportStream::new(field, batches.into_iter().map(Ok));
+        let batches = stream.into_stream()?.collect::<Result<_, _>>()?;
         Ok(Table { parts, batches })
     }
 }

@@ -118,10 +118,11 @@ fn some_among<I: BitIndex>(bits: Bits<'_>, indices: &[I], selected: u64) -> u64 
 #[inline]
 fn among<I: BitIndex>(bits: Bits<'_>, indices: &[I]) -> u64 {
     let eights = indices.chunks_exact(8);
-    let last = few_among(bits, eights.remainder());
+    let starts = (0..u64::BITS as usize).step_by(8);
+    let last = few_among(bits, eights.remainder()) << (indices.len() / 8 * 8 % 64);
     eights
-        .rev()
-        .fold(last, |word, eight| word << 8 | few_among(bits, eight))
+        .zip(starts)
+        .fold(last, |word, (eight, at)| word | few_among(bits, eight) << at)
 }
 
 /// The same for up to eight indices. An index that is out of bounds reads the last byte, and its
