@@ -189,9 +189,9 @@ OF_PAIRS = [
         [
             Pair(
                 "is_disjoint", AND, TRUTH, "disjoint",
-                "Returns whether no index below `len` has a set bit both of `left` from bit `l` on "
-                "and of `right` from bit `r` on (true for no bits). Reads up to the first word "
-                "that has such an index.",
+                "Returns whether no index below `len` has a set bit in both windows: `left` from "
+                "bit `l` on, and `right` from bit `r` on (true for no bits). Reads up to the first "
+                "word that has such an index.",
                 "Returns whether no bit is set both here and in `right`. Reads up to the first bit "
                 "that is.",
                 "intersects",
@@ -201,9 +201,9 @@ OF_PAIRS = [
             ),
             Pair(
                 "is_subset", AND_NOT, TRUTH, "subset",
-                "Returns whether each set bit of `left` from bit `l` on, of `len` bits, is set in "
-                "`right` from bit `r` on too (true for no bits). Reads up to the first word that "
-                "has a bit set in `left` alone.",
+                "Returns whether each index below `len` that has a set bit in `left` from bit `l` "
+                "on also has one in `right` from bit `r` on (true for no bits). Reads up to the "
+                "first word that has a bit set in `left` alone.",
                 "Returns whether each bit set here is set in `right`. Reads up to the first bit "
                 "that isn't.",
                 "contains",

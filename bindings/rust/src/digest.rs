@@ -4,6 +4,6 @@
 /// What tools/digest prints; tools/write-lists writes it here.
 macro_rules! digest {
     () => {
-        "606b4fff0706978d25564adbf80048da9c9cfc4b0f645f7f5ba0c386d31b129e"
+        "d6d0f8661b75bd096aa343c85287f19fee133993d1ef496d80c7cc820366a03d"
     };
 }

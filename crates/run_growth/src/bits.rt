@@ -63,7 +63,7 @@ pub const ROWS: &[&str] = &[
     "writes set_bit_to",
 ];
 
-/// Makes the calls of a row, and returns a sum of what they returned.
+/// Makes the calls of a row, and returns a sum of their results.
 pub fn measure(alloc: Global, family: &str, row: &str, case: Case) -> Result<usize> {
     match family {
         "counts" => counts::measure(alloc, row, case),

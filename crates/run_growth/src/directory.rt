@@ -41,7 +41,7 @@ pub const ROWS: &[&str] = &[
     "tables select_unset_by",
 ];
 
-/// Makes the calls of a row, and returns a sum of what they returned.
+/// Makes the calls of a row, and returns a sum of their results.
 pub fn measure(alloc: Global, family: &str, row: &str, case: Case) -> Result<usize> {
     match family {
         "ranked" => asked::measure(alloc, row, case),

@@ -1,5 +1,5 @@
-//! What the calls that `tools/growth` measures are given: a size and a number of calls, and inputs
-//! of that size.
+//! The inputs of the calls that `tools/growth` measures: a size, a number of calls, and bytes and
+//! truth values of that size.
 mod bytes;
 mod case;
 mod windows;

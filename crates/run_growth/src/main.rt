@@ -1,8 +1,8 @@
 //! Calls whose cost is promised: the program of `tools/growth`, which counts its steps.
 //!
-//! It takes a family, a row, a size and a number of calls, makes the input once and the call so
-//! often, and prints a sum of what the calls returned. `all` in place of a family and a row goes
-//! over all of them.
+//! It takes a family, a row, a size and a number of calls, makes the input once, makes that number
+//! of calls, and prints a sum of their results. The family `all` makes the calls of all rows and
+//! ignores the row.
 #![tactic(auto)]
 
 mod bits;
@@ -40,7 +40,7 @@ fn measure_all(alloc: Global, case: Case) -> Result<usize> {
     Ok(bits ^ sets.rotate_left(8) ^ values.rotate_left(16) ^ directory.rotate_left(24))
 }
 
-/// Makes the calls of these rows. In the sum their order counts.
+/// Makes the calls of these rows. The sum depends on their order.
 fn measure_rows(alloc: Global, rows: &[&str], case: Case) -> Result<usize> {
     let mut sum = 0usize;
     for words in rows {

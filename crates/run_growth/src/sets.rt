@@ -115,7 +115,7 @@ pub const ROWS: &[&str] = &[
     "shared freeze",
 ];
 
-/// Makes the calls of a row, and returns a sum of what they returned.
+/// Makes the calls of a row, and returns a sum of their results.
 pub fn measure(alloc: Global, family: &str, row: &str, case: Case) -> Result<usize> {
     match family {
         "sets" => asked::mixed_ones(alloc, row, case),

@@ -88,7 +88,7 @@ pub const ROWS: &[&str] = &[
     "owners fixed",
 ];
 
-/// Makes the calls of a row, and returns a sum of what they returned.
+/// Makes the calls of a row, and returns a sum of their results.
 pub fn measure(alloc: Global, family: &str, row: &str, case: Case) -> Result<usize> {
     match family {
         "filtered" => filtered::by_half(alloc, row, case),

@@ -8,12 +8,12 @@ use std::alloc::Global;
 use use_columns::{Condition, rows_where};
 use vortex_buffer::{Alignment, BitBuffer, BitBufferMut, Buffer, BufferMut, Filter, TryIntoMut};
 
-/// Words of a page of values, and of one of masks.
+/// The number of words in a page of values; `BITS` is the number in a page of masks.
 const VALUES: usize = 131_072;
 
 const BITS: usize = 65_536;
 
-/// Sets of some hundreds of thousands of bits, and many small ones.
+/// Builds sets of hundreds of thousands of bits, buffers, and many small sets.
 pub fn build(alloc: Global, rounds: u32, random: &mut Random, digest: &mut Digest) -> Result<()> {
     let pages = Pages::new(alloc, random, VALUES, BITS)?;
     for _ in 0..rounds {
@@ -32,7 +32,7 @@ pub fn build(alloc: Global, rounds: u32, random: &mut Random, digest: &mut Diges
     Ok(())
 }
 
-/// Some tens of thousands of values, from a byte at random on.
+/// Returns 100,000 to 120,000 values of the page, from a random byte on.
 fn values(alloc: Global, pages: &Pages, random: &mut Random) -> Result<Buffer<u32>> {
     let bytes = pages.values.as_slice();
     let size = 400_000 + 4 * random.below(20_000);
@@ -44,7 +44,8 @@ fn values(alloc: Global, pages: &Pages, random: &mut Random) -> Result<Buffer<u3
     Ok(Buffer::read_from(alloc, part, Alignment::of::<u32>())?)
 }
 
-/// Sets of comparisons, of the truth values of a slice, and of those that an iterator gives.
+/// Adds sets that are built from a comparison, from a slice of truth values, and from an iterator
+/// over them.
 fn of_values(alloc: Global, values: &Buffer<u32>, digest: &mut Digest) -> Result<()> {
     let below = rows_where(alloc, values, Condition::Below(1 << 30))?;
     digest.add_bits(below.as_view());
@@ -59,7 +60,7 @@ fn of_values(alloc: Global, values: &Buffer<u32>, digest: &mut Digest) -> Result
     Ok(())
 }
 
-/// Buffers of items that are added one by one, by slices, and by an iterator.
+/// Adds buffers that are built item by item, and by slices and an iterator.
 fn of_items(alloc: Global, values: &[u32], digest: &mut Digest) -> Result<()> {
     let mut single = BufferMut::empty(alloc);
     for value in values {
@@ -78,7 +79,7 @@ fn of_items(alloc: Global, values: &[u32], digest: &mut Digest) -> Result<()> {
     Ok(())
 }
 
-/// A set of bits that are added one by one.
+/// Adds a set that is built bit by bit.
 fn of_bits(alloc: Global, pages: &Pages, random: &mut Random, digest: &mut Digest) -> Result<()> {
     let bits = window(&pages.random, random, 100_000)?;
     let mut set = BitBufferMut::empty(alloc);
@@ -91,7 +92,7 @@ fn of_bits(alloc: Global, pages: &Pages, random: &mut Random, digest: &mut Diges
     Ok(())
 }
 
-/// A set of sets, one behind the other, with some equal bits between two of them.
+/// Adds a set that joins 2,000 sets, with 0 to 10 equal bits after each.
 fn of_sets(alloc: Global, pages: &Pages, random: &mut Random, digest: &mut Digest) -> Result<()> {
     let mut set = BitBufferMut::empty(alloc);
     for turn in 0..2_000 {
@@ -107,7 +108,8 @@ fn of_sets(alloc: Global, pages: &Pages, random: &mut Random, digest: &mut Diges
     Ok(())
 }
 
-/// Sets of the places where a mask is set, and of edits of a set that has another owner.
+/// Adds a set that is built from the indices of a mask's set bits, and the difference between that
+/// set and an edited copy.
 fn of_places(alloc: Global, pages: &Pages, random: &mut Random, digest: &mut Digest) -> Result<()> {
     let len = 100_000 + random.below(100_000);
     let mask = window(&pages.random, random, len)?;
@@ -130,7 +132,8 @@ fn of_places(alloc: Global, pages: &Pages, random: &mut Random, digest: &mut Dig
     Ok(())
 }
 
-/// Sets of 64 to 512 bits: combined, negated, kept by one another, thawed and edited.
+/// Adds sets of 64 to 512 bits that are combined, negated, filtered by one another, thawed and
+/// edited.
 fn small(pages: &Pages, random: &mut Random, digest: &mut Digest) -> Result<()> {
     let len = 64 + random.below(449);
     let left = window(&pages.random, random, len)?;
@@ -144,7 +147,7 @@ fn small(pages: &Pages, random: &mut Random, digest: &mut Digest) -> Result<()> 
     edited(rest, digest)
 }
 
-/// Adds a set that is thawed, edited and frozen.
+/// Thaws, edits and freezes a set, and adds it.
 fn edited(set: BitBuffer, digest: &mut Digest) -> Result<()> {
     let mut open = match set.try_into_mut() {
         Ok(open) => open,

@@ -1,7 +1,7 @@
-//! What all answers come to.
+//! A digest of all results.
 use vortex_buffer::BitBufferView;
 
-/// A sum of all answers so far, and one in which their order counts.
+/// A sum of all results so far, and a sum that depends on their order.
 #[derive(Clone, Copy)]
 pub struct Digest {
     sum: u64,
@@ -9,17 +9,17 @@ pub struct Digest {
 }
 
 impl Digest {
-    /// No answers.
+    /// Returns the digest of no results.
     pub fn new() -> Self {
         Digest { sum: 0, order: 0 }
     }
 
-    /// The sum of the answers.
+    /// Returns the sum of the results.
     pub fn sum(&self) -> u64 {
         self.sum
     }
 
-    /// The sum in which their order counts.
+    /// Returns the sum that depends on their order.
     pub fn order(&self) -> u64 {
         self.order
     }
@@ -31,13 +31,13 @@ impl Digest {
         self.order = self.order.wrapping_add(self.sum);
     }
 
-    /// Adds a count or a place.
+    /// Adds a count or an index.
     #[inline(always)]
     pub fn add_place(&mut self, place: usize) {
         self.add(place as u64);
     }
 
-    /// Adds a place, if there is one.
+    /// Adds an index, or `u64::MAX` if there is none.
     #[inline(always)]
     pub fn add_option(&mut self, place: Option<usize>) {
         match place {
@@ -46,7 +46,7 @@ impl Digest {
         }
     }
 
-    /// Adds values, and how many they are.
+    /// Adds values and their number.
     pub fn add_values(&mut self, values: &[u32]) {
         let mut digest = *self;
         for value in values {
@@ -56,7 +56,7 @@ impl Digest {
         *self = digest;
     }
 
-    /// Adds bytes, and how many they are.
+    /// Adds bytes and their number.
     pub fn add_bytes(&mut self, bytes: &[u8]) {
         let mut digest = *self;
         for byte in bytes {
@@ -66,7 +66,7 @@ impl Digest {
         *self = digest;
     }
 
-    /// Adds bits by their words, and how many they are.
+    /// Adds the words of bits and the number of bits.
     pub fn add_bits(&mut self, bits: BitBufferView<'_>) {
         for word in bits.chunks().iter_padded() {
             self.add(word);

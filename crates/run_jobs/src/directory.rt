@@ -6,7 +6,8 @@ use anyhow::Result;
 use std::alloc::Global;
 use vortex_buffer::{BitBufferMut, ByteBuffer, Ranked};
 
-/// Directories of 10, 40 and 200 million bits and of 512, one of each a round.
+/// Builds and queries directories of 10, 40 and 200 million bits and of 512 bits, one of each per
+/// round.
 pub fn directory(
     alloc: Global,
     rounds: u32,
@@ -26,7 +27,7 @@ pub fn directory(
     Ok(())
 }
 
-/// Makes a directory of a page, asks it so many questions, and sets a bit behind each `each` of
+/// Builds a directory over a page, makes `questions` queries, and edits a bit after every `each` of
 /// them.
 fn asked(
     alloc: Global,
@@ -55,7 +56,7 @@ fn asked(
     Ok(())
 }
 
-/// Adds the answer to a question: a rank, or the place of a true or a false bit.
+/// Adds the result of a query: a rank, or the index of a set or an unset bit.
 fn ask(ranked: &Ranked, random: &mut Random, digest: &mut Digest) {
     let len = ranked.len();
     let place = random.below(len).min(len);
@@ -66,7 +67,7 @@ fn ask(ranked: &Ranked, random: &mut Random, digest: &mut Digest) {
     }
 }
 
-/// Sets or unsets a bit; one time in 16 a bit is added.
+/// Sets or unsets a bit, or appends one in one of 16 calls.
 fn edit(ranked: &mut Ranked, random: &mut Random) -> Result<()> {
     let number = random.number();
     if number % 16 == 0 {

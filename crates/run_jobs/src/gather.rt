@@ -9,17 +9,18 @@ use anyhow::{Result, bail};
 use std::alloc::Global;
 use vortex_buffer::{Alignment, BitBuffer, Buffer, Take, take_bits};
 
-/// How many values a table has that fits the caches, and one that doesn't.
+/// The number of values in a table that fits the caches; `LARGE` is that of one that doesn't.
 const SMALL: usize = 50_000;
 
 const LARGE: usize = 6_000_000;
 
-/// How many indices there are at once, and how many such parts a table has.
+/// The number of indices in a take; a table has `PARTS` times as many.
 const INDICES: usize = 65_536;
 
 const PARTS: usize = 16;
 
-/// Takes of tens of thousands of values and bits from a small table and a large one, and texts.
+/// Takes tens of thousands of values and bits at a time from a small table and a large one, and
+/// reads texts.
 pub fn gather(alloc: Global, rounds: u32, random: &mut Random, digest: &mut Digest) -> Result<()> {
     let small = Tables::new(alloc, random, SMALL)?;
     let large = Tables::new(alloc, random, LARGE)?;
@@ -38,7 +39,7 @@ pub fn gather(alloc: Global, rounds: u32, random: &mut Random, digest: &mut Dige
     Ok(())
 }
 
-/// Values and bits, and indices of them: at random, and rising.
+/// Values and bits, and indices into them: random and ascending ones.
 #[derive(Drop)]
 struct Tables {
     pages: Pages,
@@ -48,7 +49,7 @@ struct Tables {
 }
 
 impl Tables {
-    /// Tables of so many values.
+    /// Returns tables of about `len` values.
     fn new(alloc: Global, random: &mut Random, len: usize) -> Result<Self> {
         let pages = Pages::new(alloc, random, len.div_ceil(2), len.div_ceil(64) + 2_048)?;
         let part = pages.values.as_slice();
@@ -63,8 +64,8 @@ impl Tables {
         })
     }
 
-    /// Adds what is taken at a part of the indices, of which some don't count. Turns take the parts
-    /// in order, and no two overlap.
+    /// Adds the values and bits at one part of the indices; some of the random ones are null.
+    /// `turn` selects the part.
     fn taken(
         &self,
         alloc: Global,
@@ -87,7 +88,7 @@ impl Tables {
     }
 }
 
-/// Indices at random, below a number.
+/// Returns random indices below `end`.
 fn at_random(alloc: Global, random: &mut Random, end: usize) -> Result<Vec<u32>> {
     let mut indices = Vec::new(alloc);
     for _ in 0..PARTS * INDICES {
@@ -96,7 +97,7 @@ fn at_random(alloc: Global, random: &mut Random, end: usize) -> Result<Vec<u32>>
     Ok(indices)
 }
 
-/// Indices that rise, below a number.
+/// Returns indices below `end` that ascend, and start again at 0 when they reach it.
 fn rising(alloc: Global, random: &mut Random, end: usize) -> Result<Vec<u64>> {
     let mut indices = Vec::new(alloc);
     let mut place = 0usize;
@@ -110,7 +111,7 @@ fn rising(alloc: Global, random: &mut Random, end: usize) -> Result<Vec<u64>> {
     Ok(indices)
 }
 
-/// Adds the values and the bits at indices, where these count.
+/// Adds the values and the bits at the valid indices, and 0 and false at the others.
 fn take_some(
     alloc: Global,
     values: &Buffer<u32>,
@@ -130,7 +131,7 @@ fn take_some(
     Ok(())
 }
 
-/// Adds the values and the bits at indices that all count.
+/// Adds the values and the bits at indices that are all valid.
 fn take_rising(
     alloc: Global,
     values: &Buffer<u32>,

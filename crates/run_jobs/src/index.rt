@@ -1,4 +1,5 @@
-//! A bitmap index: sets of rows, combined and counted, their first places and their runs.
+//! A bitmap index: sets of rows that are combined and counted, with their first indices and their
+//! runs.
 use crate::digest::Digest;
 use crate::pages::{random_page, runs_page, scattered, window};
 use crate::random::Random;
@@ -6,10 +7,10 @@ use anyhow::Result;
 use std::alloc::Global;
 use vortex_buffer::{BitBuffer, Buffer, ByteBuffer};
 
-/// How many sets an index has.
+/// The number of sets in an index.
 const SETS: usize = 22;
 
-/// Indexes of one to ten million rows, one a round.
+/// Builds and queries indexes of one to ten million rows, one per round.
 pub fn index(alloc: Global, rounds: u32, random: &mut Random, digest: &mut Digest) -> Result<()> {
     for round in 0..rounds {
         let rows = if round % 8 == 7 {
@@ -25,7 +26,7 @@ pub fn index(alloc: Global, rounds: u32, random: &mut Random, digest: &mut Diges
     Ok(())
 }
 
-/// The sets of an index, each at an offset of its own.
+/// Returns the sets of an index, each at its own offset.
 fn sets(alloc: Global, rows: usize, random: &mut Random) -> Result<Vec<BitBuffer>> {
     let mut sets = Vec::new(alloc);
     for kind in 0..SETS {
@@ -38,8 +39,8 @@ fn sets(alloc: Global, rows: usize, random: &mut Random) -> Result<Vec<BitBuffer
     Ok(sets)
 }
 
-/// A page of so many bits: in four densities at random, in clusters, one bit in two, all of them or
-/// none.
+/// Returns a page of `bits` bits: random ones in four densities, clusters, every second bit set,
+/// all bits set or none.
 fn page(alloc: Global, kind: usize, bits: usize, random: &mut Random) -> Result<ByteBuffer> {
     match kind % 10 {
         0 => scattered(alloc, bits, 10_000, true, random),
@@ -54,7 +55,8 @@ fn page(alloc: Global, kind: usize, bits: usize, random: &mut Random) -> Result<
     }
 }
 
-/// Asks each set with each other one: both, one of them, and the first alone.
+/// Combines each set with itself and with each later one, by `and`, `or` and `and not`, and adds
+/// the results.
 fn ask_pairs(sets: &[BitBuffer], digest: &mut Digest) -> Result<()> {
     for (place, left) in sets.iter().enumerate() {
         for right in &sets[place..] {
@@ -66,7 +68,8 @@ fn ask_pairs(sets: &[BitBuffer], digest: &mut Digest) -> Result<()> {
     Ok(())
 }
 
-/// Adds a set: its bits, their count, its first places, and where few bits are set its runs.
+/// Adds the parts of a set: its bits, their count, its first indices, and its runs if few bits are
+/// set.
 fn ask(set: BitBuffer, digest: &mut Digest) {
     digest.add_bits(set.as_view());
     let count = set.true_count();
@@ -84,7 +87,7 @@ fn ask(set: BitBuffer, digest: &mut Digest) {
     drop(set);
 }
 
-/// Adds the places of what is in each of the sets, or in one of them.
+/// Combines all sets, by `or`, `and not` and `xor` in turn, and adds the indices of the result.
 fn ask_all(sets: &[BitBuffer], digest: &mut Digest) -> Result<()> {
     let Some(first) = sets.first() else {
         return Ok(());

@@ -1,8 +1,8 @@
-//! The jobs that users of the library wait for, on inputs made of a seed: the program of
+//! The jobs that users of the library wait for, on inputs generated from a seed: the program of
 //! `bench/workloads.txt`.
 //!
-//! It takes the name of a job, how many rounds it goes, and a seed, and prints a digest of all that
-//! the calls answered. Each round has inputs of its own.
+//! It takes the name of a job, the number of rounds, and a seed, and prints a digest of all results
+//! of the calls. Each round has its own inputs.
 #![tactic(auto)]
 
 mod build;
@@ -42,7 +42,7 @@ fn main(rt: HostRuntime) -> Result<()> {
     Ok(())
 }
 
-/// The jobs. All of them together are one too.
+/// The jobs. The name `all` runs all of them.
 const JOBS: &[&str] = &[
     "scan",
     "index",
@@ -53,7 +53,7 @@ const JOBS: &[&str] = &[
     "sessions",
 ];
 
-/// Goes so many rounds of a job, or of each.
+/// Runs `rounds` rounds of a job, or of each job if its name is `all`.
 fn do_jobs(alloc: Global, job: &str, rounds: u32, seed: u64, digest: &mut Digest) -> Result<()> {
     let random = &mut Random::new(seed);
     if job != "all" {
@@ -65,7 +65,7 @@ fn do_jobs(alloc: Global, job: &str, rounds: u32, seed: u64, digest: &mut Digest
     Ok(())
 }
 
-/// Goes so many rounds of one job.
+/// Runs `rounds` rounds of one job.
 fn do_job(
     alloc: Global,
     job: &str,

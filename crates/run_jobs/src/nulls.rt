@@ -1,5 +1,5 @@
-//! Values of five widths, and bits, at indices of three types, beside the shares of nulls that
-//! `gather` doesn't have.
+//! Takes of values of five widths, and of bits, at indices of three types, with shares of nulls
+//! that `gather` doesn't have.
 use crate::digest::Digest;
 use crate::pages::{random_page, runs_page, scattered, window};
 use crate::random::Random;
@@ -7,15 +7,16 @@ use anyhow::{Result, bail};
 use std::alloc::Global;
 use vortex_buffer::{Alignment, BitBuffer, BitIndex, Buffer, ByteBuffer, Element, Take, take_bits};
 
-/// How many values and bits there are, so few that they fit the caches.
+/// The number of values and of bits, which fit the caches.
 const VALUES: usize = 50_000;
 
-/// How many indices there are at once, and how many bits the page has that their validity is of.
+/// The number of indices in a take; `BITS` is the number of bits in a page of validities.
 const INDICES: usize = 65_536;
 
 const BITS: usize = 4 * INDICES;
 
-/// Values and bits at the same indices, a validity of each kind beside them, new ones a round.
+/// Takes new values and bits per round at the same indices, without a validity and with each kind
+/// of validity.
 pub fn nulls(alloc: Global, rounds: u32, random: &mut Random, digest: &mut Digest) -> Result<()> {
     let indices = Indices::new(alloc, random)?;
     let pages = pages(alloc, random)?;
@@ -29,7 +30,7 @@ pub fn nulls(alloc: Global, rounds: u32, random: &mut Random, digest: &mut Diges
     Ok(())
 }
 
-/// The pages of validities.
+/// Returns the pages of validities.
 fn pages(alloc: Global, random: &mut Random) -> Result<Vec<ByteBuffer>> {
     let mut pages = Vec::new(alloc);
     for kind in 0..5 {
@@ -39,7 +40,8 @@ fn pages(alloc: Global, random: &mut Random) -> Result<Vec<ByteBuffer>> {
     Ok(pages)
 }
 
-/// A page with no null, with one in 10 or in 64 at random, in runs, or with each second one a null.
+/// Returns a page of validities: without nulls, with one null in 10 or in 64 at random, with nulls
+/// in runs, or with every second row null.
 fn page(alloc: Global, kind: usize, random: &mut Random) -> Result<ByteBuffer> {
     match kind {
         0 => Ok(Buffer::full(alloc, 0xFF, BITS / 8)?),
@@ -50,7 +52,7 @@ fn page(alloc: Global, kind: usize, random: &mut Random) -> Result<ByteBuffer> {
     }
 }
 
-/// A validity of each page, from a place at random on.
+/// Returns a validity from each page, from a random bit on.
 fn windows(alloc: Global, pages: &[ByteBuffer], random: &mut Random) -> Result<Vec<BitBuffer>> {
     let mut valid = Vec::new(alloc);
     for page in pages {
@@ -60,7 +62,7 @@ fn windows(alloc: Global, pages: &[ByteBuffer], random: &mut Random) -> Result<V
     Ok(valid)
 }
 
-/// Indices at random, of three types.
+/// Random indices of three types.
 #[derive(Drop)]
 struct Indices {
     narrow: Vec<u32>,
@@ -132,7 +134,7 @@ impl Indices {
     }
 }
 
-/// Indices of a type, at random.
+/// Returns random indices of a type.
 fn at_random<I: BitIndex + From<u32>>(alloc: Global, random: &mut Random) -> Result<Vec<I>> {
     let mut indices = Vec::new(alloc);
     for _ in 0..INDICES {
@@ -141,7 +143,7 @@ fn at_random<I: BitIndex + From<u32>>(alloc: Global, random: &mut Random) -> Res
     Ok(indices)
 }
 
-/// Values of a type, at random.
+/// Returns random values of a type.
 fn values<T: Element>(alloc: Global, random: &mut Random) -> Result<Buffer<T>> {
     let bytes = random.bytes(alloc, VALUES.saturating_mul(T::SIZE) / 8)?;
     let values = Buffer::read_from(alloc, bytes.as_slice(), Alignment::of::<T>());
@@ -166,7 +168,7 @@ fn add_values<T: Item, I: BitIndex>(
     Ok(())
 }
 
-/// Adds items, and how many they are.
+/// Adds items and their number.
 fn add_items<T: Item>(items: Buffer<T>, digest: &mut Digest) {
     let mut sums = *digest;
     for item in items.as_slice() {
@@ -201,7 +203,7 @@ fn add_bits<I: BitIndex>(
 
 /// An element, as a number for the digest.
 trait Item: Element {
-    /// Its lowest 64 binary digits.
+    /// Returns its lowest 64 bits.
     fn low(self) -> u64;
 }
 

@@ -6,7 +6,7 @@ use anyhow::{Result, bail};
 use std::alloc::Global;
 use vortex_buffer::{BitBuffer, BitBufferMut, Buffer, ByteBuffer};
 
-/// The bytes of values, and the bits of two masks: at random, and in runs.
+/// The bytes of values, and the bits of two masks: random ones, and ones in runs.
 #[derive(Drop)]
 pub struct Pages {
     pub values: Vec<u8>,
@@ -15,7 +15,7 @@ pub struct Pages {
 }
 
 impl Pages {
-    /// Pages with so many words of values, and of each mask.
+    /// Returns pages with `values` words of values, and `bits` words of each mask.
     pub fn new(alloc: Global, random: &mut Random, values: usize, bits: usize) -> Result<Self> {
         let numbers = random.bytes(alloc, values)?;
         let bytes = random_page(alloc, random, bits)?;
@@ -28,13 +28,13 @@ impl Pages {
     }
 }
 
-/// So many words of random bits.
+/// Returns `words` words of random bits.
 pub fn random_page(alloc: Global, random: &mut Random, words: usize) -> Result<ByteBuffer> {
     let bytes = random.bytes(alloc, words)?;
     Ok(Buffer::from_vec(alloc, bytes)?)
 }
 
-/// The bytes of so many bits in runs of true and of false bits, each of at most `most`.
+/// Returns the bytes of `bits` bits, in runs of false and of true bits of at most `most` each.
 pub fn runs_page(
     alloc: Global,
     random: &mut Random,
@@ -55,7 +55,8 @@ pub fn runs_page(
     Ok(set.into_inner().freeze()?)
 }
 
-/// The bytes of so many bits, of which at random one in `each` is `value`, and the others aren't.
+/// Returns the bytes of `bits` bits: at random, about one in `each` is `value`, and the others are
+/// not.
 pub fn scattered(
     alloc: Global,
     bits: usize,
@@ -76,7 +77,7 @@ pub fn scattered(
     Ok(set.into_inner().freeze()?)
 }
 
-/// So many bits of a page, from a place at random on, which share its storage.
+/// Returns `bits` bits of a page, from a random bit on, which share its storage.
 pub fn window(page: &ByteBuffer, random: &mut Random, bits: usize) -> Result<BitBuffer>
     ensures { IfOk result (λ s. length s.bits ≡ bits) }
 {

@@ -11,12 +11,12 @@ pub struct Random {
 }
 
 impl Random {
-    /// The sequence of a seed.
+    /// Returns the sequence of a seed.
     pub fn new(seed: u64) -> Self {
         Random { state: seed }
     }
 
-    /// The next number.
+    /// Returns the next number.
     #[inline(always)]
     pub fn number(&mut self) -> u64 {
         self.state = self.state.wrapping_add(0x9E37_79B9_7F4A_7C15);
@@ -26,7 +26,7 @@ impl Random {
         mixed ^ (mixed >> 31)
     }
 
-    /// A number below another one; 0 where that is 0.
+    /// Returns a number below `end`; 0 if `end` is 0.
     #[inline(always)]
     pub fn below(&mut self, end: usize) -> usize
         ensures below { 0 < end → result < end }
@@ -42,7 +42,7 @@ impl Random {
         (number % end as u64) as usize
     }
 
-    /// So many words, as bytes.
+    /// Returns the next `words` numbers as bytes.
     pub fn bytes(&mut self, alloc: Global, words: usize) -> Result<Vec<u8>> {
         let mut bytes = Vec::new(alloc);
         for _ in 0..words {

@@ -1,4 +1,4 @@
-//! Texts that stand one behind the other in a page of bytes.
+//! Texts one after the other in a page of bytes.
 use crate::digest::Digest;
 use crate::random::Random;
 use anyhow::Result;
@@ -6,10 +6,10 @@ use std::alloc::Global;
 use std::hash::{FoldHasher, Hash, Hasher};
 use vortex_buffer::{AlignedBuf, Alignment, BufferString, ByteBuffer, ByteBufferMut};
 
-/// How many texts a page has.
+/// The number of texts in a page.
 const TEXTS: usize = 3_000;
 
-/// A page of texts, and where each begins.
+/// A page of texts, with the start of each and the end of the page.
 #[derive(Drop)]
 pub struct Records {
     page: ByteBuffer,
@@ -17,7 +17,7 @@ pub struct Records {
 }
 
 impl Records {
-    /// Texts of 10 to 1,000 bytes, of which some have other letters than ASCII's.
+    /// Returns texts of 10 to 1,000 bytes, some of which have letters that aren't ASCII.
     pub fn new(alloc: Global, random: &mut Random) -> Result<Self> {
         let mut page = ByteBufferMut::empty(alloc);
         let mut starts = Vec::new(alloc);
@@ -32,15 +32,16 @@ impl Records {
         })
     }
 
-    /// Adds the texts: shared parts of the page, compared and hashed, and then copies that are read
-    /// from its front.
+    /// Adds the texts: first as shared parts of the page, compared and hashed, then as copies that
+    /// are read from its front.
     pub fn read(&self, alloc: Global, digest: &mut Digest) -> Result<()> {
         let starts = self.starts.as_slice();
         self.parts(starts, digest)?;
         self.copies(alloc, starts, digest)
     }
 
-    /// Adds the texts between these places, as parts of the page, each beside the one before.
+    /// Adds the texts between these indices as parts of the page, each compared with the one
+    /// before.
     fn parts(&self, starts: &[usize], digest: &mut Digest) -> Result<()> {
         let mut before = self.page.slice_unaligned(0..0)?;
         let mut at = 0;
@@ -59,7 +60,7 @@ impl Records {
         Ok(())
     }
 
-    /// Adds copies of the texts between these places, read from the front.
+    /// Adds copies of the texts between these indices, read from the front.
     fn copies(&self, alloc: Global, starts: &[usize], digest: &mut Digest) -> Result<()> {
         let mut rest = self.page.as_slice();
         let mut at = 0;
@@ -93,7 +94,7 @@ const PARTS: &[&str] = &[
     "–", "ä ", "é",
 ];
 
-/// Adds a text of 10 to 1,000 bytes: in one of five the last parts come too, which aren't ASCII.
+/// Adds a text of 10 to 1,000 bytes. One in five may also have the last parts, which aren't ASCII.
 fn push_text(page: &mut ByteBufferMut, random: &mut Random) -> Result<()> {
     let few = if random.below(5) == 0 { 16 } else { 12 };
     let most = if random.below(8) == 0 { 198 } else { 30 };

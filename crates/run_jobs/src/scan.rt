@@ -1,4 +1,4 @@
-//! A scan of a column: values by one copy from a page, masks, what these keep.
+//! A scan of a column: values copied from a page, masks, and the values that these select.
 ghost use Rattle.std.specs.Prelude.{◌≡◌, length, IfOk};
 
 use crate::digest::Digest;
@@ -9,12 +9,12 @@ use std::alloc::Global;
 use use_columns::{Condition, rows_where};
 use vortex_buffer::{Alignment, BitBuffer, Buffer, Filter};
 
-/// Words of a page of values, and of one of masks.
+/// The number of words in a page of values; `BITS` is the number in a page of masks.
 const VALUES: usize = 262_144;
 
 const BITS: usize = 65_536;
 
-/// Batches of 8,192 and 65,536 rows, sixteen a round, the last of each of few rows or one.
+/// Scans sixteen batches per round, of 8,192 and 65,536 rows; the last one has few rows.
 pub fn scan(alloc: Global, rounds: u32, random: &mut Random, digest: &mut Digest) -> Result<()> {
     let pages = Pages::new(alloc, random, VALUES, BITS)?;
     for _ in 0..rounds {
@@ -31,13 +31,14 @@ pub fn scan(alloc: Global, rounds: u32, random: &mut Random, digest: &mut Digest
     Ok(())
 }
 
-/// A number of rows below some hundreds, often one.
+/// Returns a number of rows from 1 to 300; small ones are more likely.
 fn few(random: &mut Random) -> usize {
     let most = random.below(300).saturating_add(1);
     random.below(most).saturating_add(1)
 }
 
-/// The values of a batch that a condition and two masks keep, and their bits of a third mask.
+/// Adds the values of a batch that a condition and two masks select, and their bits of the first
+/// mask.
 fn batch(
     alloc: Global,
     pages: &Pages,
@@ -56,7 +57,7 @@ fn batch(
     Ok(())
 }
 
-/// The values of so many rows, from a byte at random on.
+/// Returns the values of `rows` rows, from a random byte on.
 fn values(alloc: Global, pages: &Pages, rows: usize, random: &mut Random) -> Result<Buffer<u32>> {
     let bytes = pages.values.as_slice();
     let size = rows.saturating_mul(4);
@@ -68,7 +69,7 @@ fn values(alloc: Global, pages: &Pages, rows: usize, random: &mut Random) -> Res
     Ok(Buffer::read_from(alloc, part, Alignment::of::<u32>())?)
 }
 
-/// A condition that one value in 1,000, in 10 or in 2 meets, or nearly all.
+/// Returns a condition that one value in 1,000, in 10 or in 2 meets, or nearly all values.
 fn condition(random: &mut Random) -> Condition {
     match random.below(4) {
         0 => Condition::Below(4_294_967),
@@ -78,7 +79,7 @@ fn condition(random: &mut Random) -> Condition {
     }
 }
 
-/// The rows whose value meets the condition, combined with two masks.
+/// Returns the rows whose value meets the condition, combined with one or two masks.
 fn rows_kept(
     alloc: Global,
     values: &Buffer<u32>,
@@ -104,7 +105,7 @@ fn rows_kept(
     Ok(kept?)
 }
 
-/// Adds what a mask keeps of values, and of bits.
+/// Adds the values and the bits that a mask selects.
 fn filtered(
     values: &Buffer<u32>,
     flags: &BitBuffer,

@@ -1,12 +1,12 @@
-//! Sessions of lines: questions, edits, sets that come and go, and lists of sets.
+//! Sessions of lines: queries, edits, sets that are imported and dropped, and lists of sets.
 use crate::digest::Digest;
 use crate::random::Random;
 use anyhow::Result;
 use std::alloc::{AllocError, Global};
 use vb_script::{FromRead, ToWrite, drive};
 
-/// So many rounds of four sessions, each of tens of thousands of lines or of sets that print long
-/// lists.
+/// Runs `rounds` rounds of four sessions, each of tens of thousands of lines or of sets that print
+/// long lists.
 pub fn sessions(
     alloc: Global,
     rounds: u32,
@@ -21,7 +21,7 @@ pub fn sessions(
     Ok(())
 }
 
-/// Four sessions, whose lines share one room.
+/// Runs four sessions, whose lines share one buffer.
 fn round(
     alloc: Global,
     lines: &mut Vec<u8>,
@@ -38,7 +38,7 @@ fn round(
     answer(alloc, lines, digest)
 }
 
-/// Adds the answers to these lines, each of which can be read, and takes the lines away.
+/// Adds the answers to these lines, each of which can be read, and removes the lines.
 fn answer(alloc: Global, lines: &mut Vec<u8>, digest: &mut Digest) -> Result<()> {
     let mut input = FromRead::new(lines.as_slice());
     let mut output = ToWrite::new(Vec::new(alloc));
@@ -51,7 +51,8 @@ fn answer(alloc: Global, lines: &mut Vec<u8>, digest: &mut Digest) -> Result<()>
     Ok(ended?)
 }
 
-/// What a call answers that adds to lines. There are millions of these calls, so it holds no text.
+/// The result of a call that adds to lines. There are millions of these calls, so its error has no
+/// text.
 type Added = Result<(), AllocError>;
 
 /// Adds words.
@@ -59,12 +60,12 @@ fn put(lines: &mut Vec<u8>, words: &str) -> Added {
     lines.extend_from_slice(words.as_bytes())
 }
 
-/// Adds a space and a number below ten million.
+/// Adds a space and then a number, modulo ten million.
 fn put_number(lines: &mut Vec<u8>, number: usize) -> Added {
     put_behind(lines, b' ', number)
 }
 
-/// Adds a byte, and a number below ten million behind it.
+/// Adds a byte and then a number, modulo ten million.
 fn put_behind(lines: &mut Vec<u8>, before: u8, number: usize) -> Added {
     let mut text = [before; 8];
     let mut left = (number % 10_000_000) as u32;
@@ -80,7 +81,7 @@ fn put_behind(lines: &mut Vec<u8>, before: u8, number: usize) -> Added {
     lines.extend_from_slice(&text[start.min(7)..])
 }
 
-/// Adds so many words of bytes in hexadecimal digits.
+/// Adds `words` words of random bytes in hexadecimal digits.
 fn put_bytes(lines: &mut Vec<u8>, random: &mut Random, words: usize) -> Added {
     for _ in 0..words {
         let mut digits = [b'0'; 16];
@@ -94,7 +95,7 @@ fn put_bytes(lines: &mut Vec<u8>, random: &mut Random, words: usize) -> Added {
     Ok(())
 }
 
-/// Adds a set of 1,000 random bits, and questions of it.
+/// Adds a set of 1,000 random bits, and queries of it.
 fn put_questions(lines: &mut Vec<u8>, random: &mut Random) -> Added {
     put(lines, "# a set of one thousand bits\nimport 0 3 1000 ")?;
     put_bytes(lines, random, 16)?;
@@ -122,7 +123,7 @@ fn put_question(lines: &mut Vec<u8>, words: &str, number: usize) -> Added {
     put_number(lines, number)
 }
 
-/// Adds a set of 100,000 bits, edits of it, and now and then what shares it.
+/// Adds a set of 100,000 bits, edits of it, and after one edit in 500 lines that share it.
 fn put_edits(lines: &mut Vec<u8>, random: &mut Random) -> Added {
     put(lines, "full 0 0 100000\n")?;
     for turn in 0..60_000 {
@@ -135,7 +136,7 @@ fn put_edits(lines: &mut Vec<u8>, random: &mut Random) -> Added {
     Ok(())
 }
 
-/// Adds an edit of one bit or of some; some are refused.
+/// Adds an edit of one bit or of several; some edits are refused.
 fn put_edit(lines: &mut Vec<u8>, random: &mut Random) -> Added {
     let place = random.below(103_000);
     match random.below(8) {
@@ -150,14 +151,14 @@ fn put_edit(lines: &mut Vec<u8>, random: &mut Random) -> Added {
     put(lines, if place % 2 == 0 { " 1" } else { " 0" })
 }
 
-/// A set of 100,000 bits or more is frozen, shared whole and by two windows of one length, and
-/// opened beside them. Operators combine the windows: into a new set, in a set of two owners, and
-/// in one of one owner.
+/// Lines that freeze a set of 100,000 bits or more, share it whole and by two windows of one
+/// length, and thaw it while the others share it. Operators combine the windows: into a new set, in
+/// a set with two owners, and in one with one owner.
 const SHARED: &str = "count 0\nfreeze 0\nclone 0 1\nslice 0 5 90005 2\nslice 0 8 90008 3\neq 0 1\n\
     thaw 0\ntruncate 0 100000\nand ref 2 3 4\nxor own 3 2 3\nor own 4 2 4\nnot ref 4 5\n\
     count 3\ncount 4\nlast 5\ndrop 1\ndrop 2\ndrop 3\ndrop 4\ndrop 5\n";
 
-/// Adds sets of 8 to 800 bytes that come, are asked and go.
+/// Adds sets of 8 to 800 bytes that are imported, queried and dropped.
 fn put_imports(lines: &mut Vec<u8>, random: &mut Random) -> Added {
     for turn in 0..20_000 {
         let words = if turn % 50 == 0 { 100 } else { 1 };
@@ -169,7 +170,7 @@ fn put_imports(lines: &mut Vec<u8>, random: &mut Random) -> Added {
     Ok(())
 }
 
-/// Adds random sets of 160,000 bits whose lists are printed.
+/// Adds random sets of 160,000 bits, and queries that print their lists.
 fn put_lists(lines: &mut Vec<u8>, random: &mut Random) -> Added {
     for _ in 0..3 {
         put(lines, "import 0 0 160000 ")?;

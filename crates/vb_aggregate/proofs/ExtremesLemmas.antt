@@ -16,7 +16,7 @@ use Rattle.vb_walk.proofs.WordOnes.{ones, ones_first, map-ones}
 use Rattle.vb_aggregate.specs.Extremes.{IsLeast, IsGreatest, Chooses}
 use mathlib.Core.Logic.{inl, inr}
 
--- what contains a value twice at its front contains the same as with it once
+-- a list whose first value is repeated contains no other values than without the repetition
 once : {T : Type 0} (x m : T) (xs : List T) → Contains (x ∷ x ∷ xs) m → Contains (x ∷ xs) m
 once x m xs there =
     elim (Contains-append_cases (x ∷ []) (x ∷ xs) m there) [
@@ -96,7 +96,7 @@ module _ {T : Type 0} (number : T → ℤ) where
       greatest = All-push (λ y. number y ≤ℤ number m) xs x so_far.greatest (omega (arith, ints));
     }
 
--- what a word selects, folded from the first of it on
+-- the state shows the values that a word selects, if the fold starts from the first of them
 pub word_chooses : {T : Type 0} (shows : T → List T → Type 0) (keep : ℕ) (values : List T)
     (first next : T) → Chooses shows → 0 < keep → keep < 2 ^ length values → length values ≤ 64
     → first ≡ get_or values (trailing_zeros w64 keep) first

@@ -34,7 +34,8 @@ pub record IsOrder (order : Float → Float → Ordering) : Type 0 where
   pub trans : (x y z : Float) → NotNan x → NotNan y → NotNan z → order x y ≡ Less
       → order y z ≡ Less → order x z ≡ Less
 
--- the result of `total_cmp`: whether the first one is less, and greater, and their signs
+-- the result of `total_cmp`, from whether the first float is less, whether it is greater, and both
+-- signs
 abbrev result : Bool → Bool → Bool → Bool → Ordering
 result less more s t =
     cond less Less (cond more Greater (cond s (cond t Equal Less) (cond t Greater Equal)))
@@ -242,7 +243,7 @@ module _ {V : Type 0} (order : Float → Float → Ordering) (float : V → Floa
       first_stays order float xs values m m_number
       (subst (All no_less) (take_all i values end) (so_far (is_off found none))) first
 
--- what the first number so far says of all values
+-- the result for all values, if m is a NaN, and if it is a number
 module _ {V : Type 0} (order : Float → Float → Ordering) (float : V → Float) (xs : List V) (m : V)
     (so_far : IsFirstSoFar order float xs m) where
   pub told_none : is_nan (float m) ≡ true → AreNan float xs

@@ -47,7 +47,7 @@ kept_few keep xs clear =
       length-digits keep 0 (length xs),
     )
 
--- a state has the values at the ones of a word that aren't left
+-- the state has the values at the ones of `keep` that are no longer in `left`
 pub record TakesOnes {S T : Type 0} (shows : S → List T → Type 0) (start state : S)
     (values : List T) (keep left : ℕ) : Type 0 where
   pub done : List T

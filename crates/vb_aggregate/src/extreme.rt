@@ -63,7 +63,7 @@ impl<T: Copy, F: Fold<T, State = T>> WordFold<T> for FromFirst<F> {
     }
 }
 
-/// Returns what was found; if nothing was, the first value whose bit of `keep` is 1.
+/// Returns the value that was found; if there is none, the first value whose bit of `keep` is 1.
 #[inline(always)]
 fn or_first<T: Copy>(found: Option<T>, values: &[T], keep: u64) -> T
     requires few { length values.now ≤ 64 }

@@ -19,8 +19,8 @@ trait Search<T>: Fold<T> {
             → (xs : List T) → Self.shows state xs → Self.shows state (xs ++ values.now) };
 }
 
-/// A search that first tests whether the values of a word whose bits are all true can change its
-/// state: most words of a long mask can't.
+/// A search that skips a full word of the mask (all bits are true) if the word's values leave the
+/// state unchanged. Most full words of a long mask do.
 struct ByTests<S> {
     search: PhantomData<S>,
 }

@@ -16,7 +16,8 @@ pub(crate) trait Fold<T> {
         ensures { (xs : List T) → shows state xs → shows result (xs ++ (value ∷ [])) };
 }
 
-/// Folds those of at most 64 values into `start` whose bit of `keep` is 1, and returns the state.
+/// Folds the values whose bit of `keep` is 1 into `start`, and returns the state. There must be at
+/// most 64 values.
 #[inline(always)]
 pub(crate) fn fold_word<T: Copy, F: Fold<T>>(start: F::State, values: &[T], keep: u64) -> F::State
     requires few { length values.now ≤ 64 }

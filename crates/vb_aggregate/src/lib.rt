@@ -1,4 +1,4 @@
-//! Sums, the least and the greatest of the values that a mask selects, over slices.
+//! Sum, minimum and maximum of the values of a slice that a mask selects.
 //!
 //! Each call reads the mask 64 bits at a time. If all 64 bits are false, it skips 64 values by one
 //! test; if all are true, it takes them in a plain loop; else it visits the set bits. No call

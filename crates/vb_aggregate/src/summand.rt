@@ -8,8 +8,7 @@ use vb_core::{BitIndex, Element};
 
 /// A whole number that can be compared and summed. The twelve whole-number types implement it.
 pub trait Summand: BitIndex + Element {
-    // The value of the type that differs from a number by a multiple of 2^bits, for a type of so
-    // many bits.
+    // The value of the type that differs from a number by a multiple of 2^n, for a type of n bits.
     ghost wrapped: { ℤ → Self };
 
     /// Returns whether this value is less than `other`.

@@ -9,7 +9,7 @@ use crate::fold::{Fold, fold_word};
 use std::marker::PhantomData;
 use vb_view::{BitBufferView, view_word};
 
-/// A fold of the selected ones of at most 64 values at a time.
+/// A fold that takes at most 64 values and a word of the mask at a time.
 pub(crate) trait WordFold<T> {
     /// The state, of the values so far.
     type State: Copy;
@@ -17,7 +17,7 @@ pub(crate) trait WordFold<T> {
     // The relation of a state to the values folded into it, in order.
     ghost shows: { Self.State → List T → Type 0 };
 
-    /// Returns the state with those values added whose bit of `keep` is 1.
+    /// Returns the state after the values whose bit of `keep` is 1 are added.
     fn add_word(state: Self::State, values: &[T], keep: u64) -> Self::State
         requires few { length values.now ≤ 64 }
         requires clear { keep < 2 ^ length values.now }
@@ -74,7 +74,7 @@ pub(crate) fn fold_kept<T: Copy, W: WordFold<T>>(
 
 /// Returns the first of the words `from` to `whole - 1` that has a true bit; `whole` if none has.
 ///
-/// In a loop of its own an empty word takes the fewest instructions.
+/// A separate loop takes the fewest instructions for each empty word.
 #[inline(always)]
 fn next_nonempty(mask: BitBufferView<'_>, from: usize, whole: usize) -> usize
     requires order { from ≤ whole }

@@ -46,7 +46,7 @@ pub span_first : (a n : ℕ) → 0 < n → span a n ≡ a ∷ span (a + 1) (n - 
 unfolding span
 span_first a n some = let e : n ≡ suc (n - 1) = omega arith in ap (range_with_len a) e
 
--- no places
+-- no indices
 pub span_none : (a : ℕ) → span a 0 ≡ []
 unfolding span
 span_none a = refl
@@ -113,7 +113,7 @@ ones_of-few w a n few small =
     sym (places_in-cut t a (a + n) n 64 (64 - n) refl (omega arith)
     ∙ ap (λ l. places_in t a n ++ l) none ∙ append-nil (places_in t a n))
 
--- these are the indices of a window whose bit is v, if each digit tells whether the bit there is v
+-- these are the indices of a window whose bit is v, if each digit shows whether the bit there is v
 pub places_of-ones : (b : List ℕ) (o : ℕ) (v : Bool) (a n w : ℕ) → n ≤ 64 → w < 2 ^ n
     → ((i : ℕ) → i < n
     → has_bit w i ≡ cond v (bit_of b (o + (a + i))) (not (bit_of b (o + (a + i)))))

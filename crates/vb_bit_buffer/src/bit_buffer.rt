@@ -355,8 +355,8 @@ impl<A: Allocator + Clone> BitBuffer<A> {
     }
 
     /// Returns the index of the `n`-th true bit, counted from 0, or `None` if at most `n` bits are
-    /// true. Counts from the start, 64 bytes at a time, up to the bytes that have the bit; of more
-    /// than 4,096 bytes it may also count some behind these.
+    /// true. Counts from the start, 64 bytes at a time, up to the bytes that have the bit; if there
+    /// are more than 4,096 bytes, it may also count some after these.
     ///
     /// ```rust
     /// let set = BitBuffer::from_bools(alloc, &[false, true, false, false, true, false])?;

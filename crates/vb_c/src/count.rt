@@ -20,8 +20,8 @@ pub extern "C" fn vb_count_ones(bytes: &[u8], offset: usize, len: usize) -> usiz
     vb_count::count_ones(bytes, offset, len)
 }
 
-/// Does [`vb_count_ones`] for vectors of at least 32 bytes: counts long windows by adders. It is in
-/// no header: from x86-64-v3 on `bindings/build` gives it the name of the other function.
+/// Does [`vb_count_ones`] for vectors of at least 32 bytes: counts long windows with carry-save
+/// adders. It is in no header: from x86-64-v3 on, `bindings/build` renames it to `vb_count_ones`.
 #[unsafe(no_mangle)]
 pub extern "C" fn vb_count_ones_wide(bytes: &[u8], offset: usize, len: usize) -> usize
     requires window { InBytes bytes.now offset len }

@@ -93,9 +93,9 @@ pub extern "C" fn vb_try_rank(
     true
 }
 
-/// Returns the index of the `n`-th set bit of the window, counted from 0, if there is one. Searches
-/// the table by halves, and then one block. The table must have one entry for each block. If it
-/// isn't the one of [`vb_block_counts`], the result is meaningless.
+/// Returns the index of the `n`-th set bit of the window, counted from 0, if there is one. Does a
+/// binary search of the table, and then searches one block. The table must have one entry for each
+/// block. If it isn't the one of [`vb_block_counts`], the result is meaningless.
 #[unsafe(no_mangle)]
 pub extern "C" fn vb_ranked_select(
     bytes: &[u8],
@@ -135,9 +135,9 @@ pub extern "C" fn vb_try_ranked_select(
     true
 }
 
-/// Returns the index of the `n`-th unset bit of the window, counted from 0, if there is one.
-/// Searches the table by halves, and then one block. The table must have one entry for each block.
-/// If it isn't the one of [`vb_block_counts`], the result is meaningless.
+/// Returns the index of the `n`-th unset bit of the window, counted from 0, if there is one. Does a
+/// binary search of the table, and then searches one block. The table must have one entry for each
+/// block. If it isn't the one of [`vb_block_counts`], the result is meaningless.
 #[unsafe(no_mangle)]
 pub extern "C" fn vb_ranked_select_unset(
     bytes: &[u8],

@@ -9,8 +9,8 @@ ghost use Rattle.vb_c_core.specs.Fits.{DoneIf};
 
 use vb_bits::window_fits;
 
-/// Returns whether no index below `len` has a set bit both of `left` from bit `l` on and of `right`
-/// from bit `r` on (true for no bits). Reads up to the first word that has such an index.
+/// Returns whether no index below `len` has a set bit in both windows: `left` from bit `l` on, and
+/// `right` from bit `r` on (true for no bits). Reads up to the first word that has such an index.
 #[unsafe(no_mangle)]
 pub extern "C" fn vb_is_disjoint(left: &[u8], l: usize, right: &[u8], r: usize, len: usize) -> bool
     requires { BothInBytes left.now l right.now r len }
@@ -43,9 +43,9 @@ pub extern "C" fn vb_try_is_disjoint(
     true
 }
 
-/// Returns whether each set bit of `left` from bit `l` on, of `len` bits, is set in `right` from
-/// bit `r` on too (true for no bits). Reads up to the first word that has a bit set in `left`
-/// alone.
+/// Returns whether each index below `len` that has a set bit in `left` from bit `l` on also has one
+/// in `right` from bit `r` on (true for no bits). Reads up to the first word that has a bit set in
+/// `left` alone.
 #[unsafe(no_mangle)]
 pub extern "C" fn vb_is_subset(left: &[u8], l: usize, right: &[u8], r: usize, len: usize) -> bool
     requires { BothInBytes left.now l right.now r len }

@@ -10,7 +10,8 @@ use vb_c_core::Place;
 
 /// Returns the index of the `n`-th set bit of the window of `len` bits from bit `offset` on,
 /// counted from 0; finds none if at most `n` are set. Counts from the front, 64 bytes at a time, up
-/// to the bytes that have it; of more than 4,096 bytes it may also count some behind these.
+/// to the bytes that have it; in a window of more than 4,096 bytes it may also count bytes after
+/// these.
 #[unsafe(no_mangle)]
 pub extern "C" fn vb_select(bytes: &[u8], offset: usize, len: usize, n: usize) -> Place
     requires window { InBytes bytes.now offset len }
@@ -31,8 +32,8 @@ pub extern "C" fn vb_select_unset(bytes: &[u8], offset: usize, len: usize, n: us
     vb_select::bit_select_unset(bytes, offset, len, n).into()
 }
 
-/// Does [`vb_select`] for vectors of at least 32 bytes: skips long windows by adders. It is in no
-/// header: from x86-64-v3 on `bindings/build` gives it the name of the other function.
+/// Does [`vb_select`] for vectors of at least 32 bytes: counts with carry-save adders in long
+/// windows. It is in no header: from x86-64-v3 on, `bindings/build` renames it to `vb_select`.
 #[unsafe(no_mangle)]
 pub extern "C" fn vb_select_wide(bytes: &[u8], offset: usize, len: usize, n: usize) -> Place
     requires window { InBytes bytes.now offset len }
@@ -42,8 +43,9 @@ pub extern "C" fn vb_select_wide(bytes: &[u8], offset: usize, len: usize, n: usi
     vb_select::bit_select_wide(bytes, offset, len, n).into()
 }
 
-/// Does [`vb_select_unset`] for vectors of at least 32 bytes: skips long windows by adders. It is
-/// in no header: from x86-64-v3 on `bindings/build` gives it the name of the other function.
+/// Does [`vb_select_unset`] for vectors of at least 32 bytes: counts with carry-save adders in long
+/// windows. It is in no header: from x86-64-v3 on, `bindings/build` renames it to
+/// `vb_select_unset`.
 #[unsafe(no_mangle)]
 pub extern "C" fn vb_select_unset_wide(bytes: &[u8], offset: usize, len: usize, n: usize) -> Place
     requires window { InBytes bytes.now offset len }

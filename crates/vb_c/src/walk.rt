@@ -49,7 +49,7 @@ pub extern "C" fn vb_set_indices(
     written
 }
 
-/// [`vb_set_indices`] if `out` has an item for each bit, without a test whether it is full.
+/// Does [`vb_set_indices`] if `out` has an item for each bit, without testing whether it is full.
 #[inline(always)]
 fn all_indices(out: &mut [usize], bytes: &[u8], offset: usize, len: usize) -> usize
     requires window { InBytes bytes.now offset len }
@@ -64,7 +64,7 @@ fn all_indices(out: &mut [usize], bytes: &[u8], offset: usize, len: usize) -> us
     written
 }
 
-/// [`vb_set_indices`] with indices of 32 bits, of a window of at most 2^32 bits.
+/// Does [`vb_set_indices`] with indices of 32 bits, for a window of at most 2^32 bits.
 #[unsafe(no_mangle)]
 pub extern "C" fn vb_set_indices_u32(
     out: &mut [u32],
@@ -93,7 +93,8 @@ pub extern "C" fn vb_set_indices_u32(
     written
 }
 
-/// [`vb_set_indices_u32`] if `out` has an item for each bit, without a test whether it is full.
+/// Does [`vb_set_indices_u32`] if `out` has an item for each bit, without testing whether it is
+/// full.
 #[inline(always)]
 fn all_indices_u32(out: &mut [u32], bytes: &[u8], offset: usize, len: usize) -> usize
     requires window { InBytes bytes.now offset len }

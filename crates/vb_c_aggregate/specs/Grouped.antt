@@ -5,8 +5,8 @@ use Rattle.std.specs.List.{zip}
 use Rattle.vb_c_core.specs.declared.taken.Taken.{Taken}
 use Rattle.vb_group.specs.Groups.{AddsRows, HaveGroups, IsFirstPast, codes_of, selected}
 
--- either all selected codes are those of groups; or the result is the first row of which it isn't,
--- and nothing is changed
+-- either each selected code is that of a group; or the result is the first selected row whose code
+-- isn't, and nothing is changed
 pub record InGroups {C T : Type 0} (number : C → ℤ) (codes : List C) (mask : Option (List Bool))
     (old new : List T) (answer : Taken) : Type 0 where
   pub groups : answer.out_of_range ≡ false

@@ -1,6 +1,6 @@
 -- Written by tools/write-lists from tools/families/masked_sums.txt.
 
--- What a value that may be missing stands for, as it crosses to C.
+-- The values that C receives as a flag and a value.
 use Rattle.std.specs.Float.{Float}
 use Rattle.std.specs.Prelude.{ℕ, ℤ, Option, Some, None, if◌then◌else◌}
 use Rattle.vb_c_aggregate.specs.declared.optional.OptionalU8.{OptionalU8}

@@ -1,4 +1,4 @@
--- The values whose bit of a mask in bytes is true, and what is told of them.
+-- The values whose bit of a mask in bytes is true, and their aggregates.
 use Rattle.std.specs.Float.{Float, Format}
 use Rattle.std.specs.Prelude.{◌≡◌, ℕ, ℤ, List, [], length, map, Option, MatchOption}
 use Rattle.std.specs.declared.cmp.Ordering.{Ordering}

@@ -1,4 +1,4 @@
--- What two halves of 64 bits stand for.
+-- The numbers that two halves of 64 bits represent.
 use Rattle.std.specs.Prelude.{◌+◌, ◌*◌, ◌^◌, ℤ, pos, ◌+ℤ◌, ◌*ℤ◌}
 use Rattle.vb_c_aggregate.specs.declared.wide.Wide.{Wide}
 use Rattle.vb_c_aggregate.specs.declared.wide.SignedWide.{SignedWide}

@@ -12,8 +12,8 @@ use crate::optional::{OptionalF32, OptionalF64};
 use crate::selected::{float_sum, greatest_number, least_number};
 use vb_bits::window_fits;
 
-/// Returns the sum of the floats whose bit of `mask` from bit `m` on is true: from 0.0 on one after
-/// the other, each sum rounded.
+/// Returns the sum of the floats whose bit of `mask` from bit `m` on is true. Starts from 0.0, adds
+/// one float after the other, and rounds each sum.
 #[unsafe(no_mangle)]
 pub extern "C" fn vb_masked_sum_f32(values: &[f32], mask: &[u8], m: usize) -> f32
     requires { InBytes mask.now m (length values.now) }
@@ -22,7 +22,8 @@ pub extern "C" fn vb_masked_sum_f32(values: &[f32], mask: &[u8], m: usize) -> f3
     float_sum(values, mask, m)
 }
 
-/// Whether the mask has a bit for each value; [`vb_masked_sum_f32`] is then in `sum`.
+/// Returns whether the mask has a bit for each value. If so, writes the result of
+/// [`vb_masked_sum_f32`] to `sum`; else leaves it unchanged.
 #[unsafe(no_mangle)]
 pub extern "C" fn vb_try_masked_sum_f32(
     values: &[f32],
@@ -51,7 +52,8 @@ pub extern "C" fn vb_masked_min_f32(values: &[f32], mask: &[u8], m: usize) -> Op
     least_number(values, mask, m).into()
 }
 
-/// Whether the mask has a bit for each value; [`vb_masked_min_f32`] is then in `least`.
+/// Returns whether the mask has a bit for each value. If so, writes the result of
+/// [`vb_masked_min_f32`] to `least`; else leaves it unchanged.
 #[unsafe(no_mangle)]
 pub extern "C" fn vb_try_masked_min_f32(
     values: &[f32],
@@ -80,7 +82,8 @@ pub extern "C" fn vb_masked_max_f32(values: &[f32], mask: &[u8], m: usize) -> Op
     greatest_number(values, mask, m).into()
 }
 
-/// Whether the mask has a bit for each value; [`vb_masked_max_f32`] is then in `greatest`.
+/// Returns whether the mask has a bit for each value. If so, writes the result of
+/// [`vb_masked_max_f32`] to `greatest`; else leaves it unchanged.
 #[unsafe(no_mangle)]
 pub extern "C" fn vb_try_masked_max_f32(
     values: &[f32],
@@ -99,8 +102,8 @@ pub extern "C" fn vb_try_masked_max_f32(
     true
 }
 
-/// Returns the sum of the floats whose bit of `mask` from bit `m` on is true: from 0.0 on one after
-/// the other, each sum rounded.
+/// Returns the sum of the floats whose bit of `mask` from bit `m` on is true. Starts from 0.0, adds
+/// one float after the other, and rounds each sum.
 #[unsafe(no_mangle)]
 pub extern "C" fn vb_masked_sum_f64(values: &[f64], mask: &[u8], m: usize) -> f64
     requires { InBytes mask.now m (length values.now) }
@@ -109,7 +112,8 @@ pub extern "C" fn vb_masked_sum_f64(values: &[f64], mask: &[u8], m: usize) -> f6
     float_sum(values, mask, m)
 }
 
-/// Whether the mask has a bit for each value; [`vb_masked_sum_f64`] is then in `sum`.
+/// Returns whether the mask has a bit for each value. If so, writes the result of
+/// [`vb_masked_sum_f64`] to `sum`; else leaves it unchanged.
 #[unsafe(no_mangle)]
 pub extern "C" fn vb_try_masked_sum_f64(
     values: &[f64],
@@ -138,7 +142,8 @@ pub extern "C" fn vb_masked_min_f64(values: &[f64], mask: &[u8], m: usize) -> Op
     least_number(values, mask, m).into()
 }
 
-/// Whether the mask has a bit for each value; [`vb_masked_min_f64`] is then in `least`.
+/// Returns whether the mask has a bit for each value. If so, writes the result of
+/// [`vb_masked_min_f64`] to `least`; else leaves it unchanged.
 #[unsafe(no_mangle)]
 pub extern "C" fn vb_try_masked_min_f64(
     values: &[f64],
@@ -167,7 +172,8 @@ pub extern "C" fn vb_masked_max_f64(values: &[f64], mask: &[u8], m: usize) -> Op
     greatest_number(values, mask, m).into()
 }
 
-/// Whether the mask has a bit for each value; [`vb_masked_max_f64`] is then in `greatest`.
+/// Returns whether the mask has a bit for each value. If so, writes the result of
+/// [`vb_masked_max_f64`] to `greatest`; else leaves it unchanged.
 #[unsafe(no_mangle)]
 pub extern "C" fn vb_try_masked_max_f64(
     values: &[f64],

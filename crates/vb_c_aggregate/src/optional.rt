@@ -1,5 +1,5 @@
 // Written by tools/write-lists from tools/families/masked_sums.txt.
-//! Values that may be missing, as they cross to C.
+//! Values that may be missing, in the layout that C receives.
 ghost use Rattle.std.specs.Prelude.{◌≡◌};
 ghost use Rattle.vb_c_aggregate.specs.Optional.{optional_u8, optional_u16};
 ghost use Rattle.vb_c_aggregate.specs.Optional.{optional_u32, optional_u64};
@@ -7,13 +7,13 @@ ghost use Rattle.vb_c_aggregate.specs.Optional.{optional_i8, optional_i16};
 ghost use Rattle.vb_c_aggregate.specs.Optional.{optional_i32, optional_i64};
 ghost use Rattle.vb_c_aggregate.specs.Optional.{optional_f32, optional_f64};
 
-/// An `Option<u8>`, as it crosses to C.
+/// An `Option<u8>` for C.
 #[repr(C)]
 #[derive(Clone, Copy)]
 pub struct OptionalU8 {
     /// Whether there is a value.
     pub has_value: bool,
-    /// The value; it says something only where `has_value` is true.
+    /// The value; meaningful only if `has_value` is true.
     pub value: u8,
 }
 
@@ -28,13 +28,13 @@ impl From<Option<u8>> for OptionalU8 {
     }
 }
 
-/// An `Option<u16>`, as it crosses to C.
+/// An `Option<u16>` for C.
 #[repr(C)]
 #[derive(Clone, Copy)]
 pub struct OptionalU16 {
     /// Whether there is a value.
     pub has_value: bool,
-    /// The value; it says something only where `has_value` is true.
+    /// The value; meaningful only if `has_value` is true.
     pub value: u16,
 }
 
@@ -49,13 +49,13 @@ impl From<Option<u16>> for OptionalU16 {
     }
 }
 
-/// An `Option<u32>`, as it crosses to C.
+/// An `Option<u32>` for C.
 #[repr(C)]
 #[derive(Clone, Copy)]
 pub struct OptionalU32 {
     /// Whether there is a value.
     pub has_value: bool,
-    /// The value; it says something only where `has_value` is true.
+    /// The value; meaningful only if `has_value` is true.
     pub value: u32,
 }
 
@@ -70,13 +70,13 @@ impl From<Option<u32>> for OptionalU32 {
     }
 }
 
-/// An `Option<u64>`, as it crosses to C.
+/// An `Option<u64>` for C.
 #[repr(C)]
 #[derive(Clone, Copy)]
 pub struct OptionalU64 {
     /// Whether there is a value.
     pub has_value: bool,
-    /// The value; it says something only where `has_value` is true.
+    /// The value; meaningful only if `has_value` is true.
     pub value: u64,
 }
 
@@ -91,13 +91,13 @@ impl From<Option<u64>> for OptionalU64 {
     }
 }
 
-/// An `Option<i8>`, as it crosses to C.
+/// An `Option<i8>` for C.
 #[repr(C)]
 #[derive(Clone, Copy)]
 pub struct OptionalI8 {
     /// Whether there is a value.
     pub has_value: bool,
-    /// The value; it says something only where `has_value` is true.
+    /// The value; meaningful only if `has_value` is true.
     pub value: i8,
 }
 
@@ -112,13 +112,13 @@ impl From<Option<i8>> for OptionalI8 {
     }
 }
 
-/// An `Option<i16>`, as it crosses to C.
+/// An `Option<i16>` for C.
 #[repr(C)]
 #[derive(Clone, Copy)]
 pub struct OptionalI16 {
     /// Whether there is a value.
     pub has_value: bool,
-    /// The value; it says something only where `has_value` is true.
+    /// The value; meaningful only if `has_value` is true.
     pub value: i16,
 }
 
@@ -133,13 +133,13 @@ impl From<Option<i16>> for OptionalI16 {
     }
 }
 
-/// An `Option<i32>`, as it crosses to C.
+/// An `Option<i32>` for C.
 #[repr(C)]
 #[derive(Clone, Copy)]
 pub struct OptionalI32 {
     /// Whether there is a value.
     pub has_value: bool,
-    /// The value; it says something only where `has_value` is true.
+    /// The value; meaningful only if `has_value` is true.
     pub value: i32,
 }
 
@@ -154,13 +154,13 @@ impl From<Option<i32>> for OptionalI32 {
     }
 }
 
-/// An `Option<i64>`, as it crosses to C.
+/// An `Option<i64>` for C.
 #[repr(C)]
 #[derive(Clone, Copy)]
 pub struct OptionalI64 {
     /// Whether there is a value.
     pub has_value: bool,
-    /// The value; it says something only where `has_value` is true.
+    /// The value; meaningful only if `has_value` is true.
     pub value: i64,
 }
 
@@ -175,13 +175,13 @@ impl From<Option<i64>> for OptionalI64 {
     }
 }
 
-/// An `Option<f32>`, as it crosses to C.
+/// An `Option<f32>` for C.
 #[repr(C)]
 #[derive(Clone, Copy)]
 pub struct OptionalF32 {
     /// Whether there is a value.
     pub has_value: bool,
-    /// The value; it says something only where `has_value` is true.
+    /// The value; meaningful only if `has_value` is true.
     pub value: f32,
 }
 
@@ -196,13 +196,13 @@ impl From<Option<f32>> for OptionalF32 {
     }
 }
 
-/// An `Option<f64>`, as it crosses to C.
+/// An `Option<f64>` for C.
 #[repr(C)]
 #[derive(Clone, Copy)]
 pub struct OptionalF64 {
     /// Whether there is a value.
     pub has_value: bool,
-    /// The value; it says something only where `has_value` is true.
+    /// The value; meaningful only if `has_value` is true.
     pub value: f64,
 }
 

@@ -20,7 +20,8 @@ pub extern "C" fn vb_masked_min_i8(values: &[i8], mask: &[u8], m: usize) -> Opti
     least(values, mask, m).into()
 }
 
-/// Whether the mask has a bit for each value; [`vb_masked_min_i8`] is then in `least`.
+/// Returns whether the mask has a bit for each value. If so, writes the result of
+/// [`vb_masked_min_i8`] to `least`; else leaves it unchanged.
 #[unsafe(no_mangle)]
 pub extern "C" fn vb_try_masked_min_i8(
     values: &[i8],
@@ -48,7 +49,8 @@ pub extern "C" fn vb_masked_max_i8(values: &[i8], mask: &[u8], m: usize) -> Opti
     greatest(values, mask, m).into()
 }
 
-/// Whether the mask has a bit for each value; [`vb_masked_max_i8`] is then in `greatest`.
+/// Returns whether the mask has a bit for each value. If so, writes the result of
+/// [`vb_masked_max_i8`] to `greatest`; else leaves it unchanged.
 #[unsafe(no_mangle)]
 pub extern "C" fn vb_try_masked_max_i8(
     values: &[i8],
@@ -76,7 +78,8 @@ pub extern "C" fn vb_masked_min_i16(values: &[i16], mask: &[u8], m: usize) -> Op
     least(values, mask, m).into()
 }
 
-/// Whether the mask has a bit for each value; [`vb_masked_min_i16`] is then in `least`.
+/// Returns whether the mask has a bit for each value. If so, writes the result of
+/// [`vb_masked_min_i16`] to `least`; else leaves it unchanged.
 #[unsafe(no_mangle)]
 pub extern "C" fn vb_try_masked_min_i16(
     values: &[i16],
@@ -104,7 +107,8 @@ pub extern "C" fn vb_masked_max_i16(values: &[i16], mask: &[u8], m: usize) -> Op
     greatest(values, mask, m).into()
 }
 
-/// Whether the mask has a bit for each value; [`vb_masked_max_i16`] is then in `greatest`.
+/// Returns whether the mask has a bit for each value. If so, writes the result of
+/// [`vb_masked_max_i16`] to `greatest`; else leaves it unchanged.
 #[unsafe(no_mangle)]
 pub extern "C" fn vb_try_masked_max_i16(
     values: &[i16],
@@ -132,7 +136,8 @@ pub extern "C" fn vb_masked_min_i32(values: &[i32], mask: &[u8], m: usize) -> Op
     least(values, mask, m).into()
 }
 
-/// Whether the mask has a bit for each value; [`vb_masked_min_i32`] is then in `least`.
+/// Returns whether the mask has a bit for each value. If so, writes the result of
+/// [`vb_masked_min_i32`] to `least`; else leaves it unchanged.
 #[unsafe(no_mangle)]
 pub extern "C" fn vb_try_masked_min_i32(
     values: &[i32],
@@ -160,7 +165,8 @@ pub extern "C" fn vb_masked_max_i32(values: &[i32], mask: &[u8], m: usize) -> Op
     greatest(values, mask, m).into()
 }
 
-/// Whether the mask has a bit for each value; [`vb_masked_max_i32`] is then in `greatest`.
+/// Returns whether the mask has a bit for each value. If so, writes the result of
+/// [`vb_masked_max_i32`] to `greatest`; else leaves it unchanged.
 #[unsafe(no_mangle)]
 pub extern "C" fn vb_try_masked_max_i32(
     values: &[i32],
@@ -188,7 +194,8 @@ pub extern "C" fn vb_masked_min_i64(values: &[i64], mask: &[u8], m: usize) -> Op
     least(values, mask, m).into()
 }
 
-/// Whether the mask has a bit for each value; [`vb_masked_min_i64`] is then in `least`.
+/// Returns whether the mask has a bit for each value. If so, writes the result of
+/// [`vb_masked_min_i64`] to `least`; else leaves it unchanged.
 #[unsafe(no_mangle)]
 pub extern "C" fn vb_try_masked_min_i64(
     values: &[i64],
@@ -216,7 +223,8 @@ pub extern "C" fn vb_masked_max_i64(values: &[i64], mask: &[u8], m: usize) -> Op
     greatest(values, mask, m).into()
 }
 
-/// Whether the mask has a bit for each value; [`vb_masked_max_i64`] is then in `greatest`.
+/// Returns whether the mask has a bit for each value. If so, writes the result of
+/// [`vb_masked_max_i64`] to `greatest`; else leaves it unchanged.
 #[unsafe(no_mangle)]
 pub extern "C" fn vb_try_masked_max_i64(
     values: &[i64],

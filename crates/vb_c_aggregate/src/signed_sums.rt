@@ -15,7 +15,7 @@ use crate::selected::{checked_sum, exact_sum, wrapping_sum};
 use crate::wide::SignedWide;
 use vb_bits::window_fits;
 
-/// Returns the sum of the values whose bit of `mask` from bit `m` on is true, exactly.
+/// Returns the exact sum of the values whose bit of `mask` from bit `m` on is true.
 #[unsafe(no_mangle)]
 pub extern "C" fn vb_masked_sum_i8(values: &[i8], mask: &[u8], m: usize) -> SignedWide
     requires { InBytes mask.now m (length values.now) }
@@ -24,7 +24,8 @@ pub extern "C" fn vb_masked_sum_i8(values: &[i8], mask: &[u8], m: usize) -> Sign
     exact_sum(values, mask, m).into()
 }
 
-/// Whether the mask has a bit for each value; [`vb_masked_sum_i8`] is then in `sum`.
+/// Returns whether the mask has a bit for each value. If so, writes the result of
+/// [`vb_masked_sum_i8`] to `sum`; else leaves it unchanged.
 #[unsafe(no_mangle)]
 pub extern "C" fn vb_try_masked_sum_i8(
     values: &[i8],
@@ -53,7 +54,8 @@ pub extern "C" fn vb_masked_checked_sum_i8(values: &[i8], mask: &[u8], m: usize)
     checked_sum(values, mask, m).into()
 }
 
-/// Whether the mask has a bit for each value; [`vb_masked_checked_sum_i8`] is then in `sum`.
+/// Returns whether the mask has a bit for each value. If so, writes the result of
+/// [`vb_masked_checked_sum_i8`] to `sum`; else leaves it unchanged.
 #[unsafe(no_mangle)]
 pub extern "C" fn vb_try_masked_checked_sum_i8(
     values: &[i8],
@@ -81,7 +83,8 @@ pub extern "C" fn vb_masked_wrapping_sum_i8(values: &[i8], mask: &[u8], m: usize
     wrapping_sum(values, mask, m)
 }
 
-/// Whether the mask has a bit for each value; [`vb_masked_wrapping_sum_i8`] is then in `sum`.
+/// Returns whether the mask has a bit for each value. If so, writes the result of
+/// [`vb_masked_wrapping_sum_i8`] to `sum`; else leaves it unchanged.
 #[unsafe(no_mangle)]
 pub extern "C" fn vb_try_masked_wrapping_sum_i8(
     values: &[i8],
@@ -99,7 +102,7 @@ pub extern "C" fn vb_try_masked_wrapping_sum_i8(
     true
 }
 
-/// Returns the sum of the values whose bit of `mask` from bit `m` on is true, exactly.
+/// Returns the exact sum of the values whose bit of `mask` from bit `m` on is true.
 #[unsafe(no_mangle)]
 pub extern "C" fn vb_masked_sum_i16(values: &[i16], mask: &[u8], m: usize) -> SignedWide
     requires { InBytes mask.now m (length values.now) }
@@ -108,7 +111,8 @@ pub extern "C" fn vb_masked_sum_i16(values: &[i16], mask: &[u8], m: usize) -> Si
     exact_sum(values, mask, m).into()
 }
 
-/// Whether the mask has a bit for each value; [`vb_masked_sum_i16`] is then in `sum`.
+/// Returns whether the mask has a bit for each value. If so, writes the result of
+/// [`vb_masked_sum_i16`] to `sum`; else leaves it unchanged.
 #[unsafe(no_mangle)]
 pub extern "C" fn vb_try_masked_sum_i16(
     values: &[i16],
@@ -137,7 +141,8 @@ pub extern "C" fn vb_masked_checked_sum_i16(values: &[i16], mask: &[u8], m: usiz
     checked_sum(values, mask, m).into()
 }
 
-/// Whether the mask has a bit for each value; [`vb_masked_checked_sum_i16`] is then in `sum`.
+/// Returns whether the mask has a bit for each value. If so, writes the result of
+/// [`vb_masked_checked_sum_i16`] to `sum`; else leaves it unchanged.
 #[unsafe(no_mangle)]
 pub extern "C" fn vb_try_masked_checked_sum_i16(
     values: &[i16],
@@ -165,7 +170,8 @@ pub extern "C" fn vb_masked_wrapping_sum_i16(values: &[i16], mask: &[u8], m: usi
     wrapping_sum(values, mask, m)
 }
 
-/// Whether the mask has a bit for each value; [`vb_masked_wrapping_sum_i16`] is then in `sum`.
+/// Returns whether the mask has a bit for each value. If so, writes the result of
+/// [`vb_masked_wrapping_sum_i16`] to `sum`; else leaves it unchanged.
 #[unsafe(no_mangle)]
 pub extern "C" fn vb_try_masked_wrapping_sum_i16(
     values: &[i16],
@@ -184,7 +190,7 @@ pub extern "C" fn vb_try_masked_wrapping_sum_i16(
     true
 }
 
-/// Returns the sum of the values whose bit of `mask` from bit `m` on is true, exactly.
+/// Returns the exact sum of the values whose bit of `mask` from bit `m` on is true.
 #[unsafe(no_mangle)]
 pub extern "C" fn vb_masked_sum_i32(values: &[i32], mask: &[u8], m: usize) -> SignedWide
     requires { InBytes mask.now m (length values.now) }
@@ -193,7 +199,8 @@ pub extern "C" fn vb_masked_sum_i32(values: &[i32], mask: &[u8], m: usize) -> Si
     exact_sum(values, mask, m).into()
 }
 
-/// Whether the mask has a bit for each value; [`vb_masked_sum_i32`] is then in `sum`.
+/// Returns whether the mask has a bit for each value. If so, writes the result of
+/// [`vb_masked_sum_i32`] to `sum`; else leaves it unchanged.
 #[unsafe(no_mangle)]
 pub extern "C" fn vb_try_masked_sum_i32(
     values: &[i32],
@@ -222,7 +229,8 @@ pub extern "C" fn vb_masked_checked_sum_i32(values: &[i32], mask: &[u8], m: usiz
     checked_sum(values, mask, m).into()
 }
 
-/// Whether the mask has a bit for each value; [`vb_masked_checked_sum_i32`] is then in `sum`.
+/// Returns whether the mask has a bit for each value. If so, writes the result of
+/// [`vb_masked_checked_sum_i32`] to `sum`; else leaves it unchanged.
 #[unsafe(no_mangle)]
 pub extern "C" fn vb_try_masked_checked_sum_i32(
     values: &[i32],
@@ -250,7 +258,8 @@ pub extern "C" fn vb_masked_wrapping_sum_i32(values: &[i32], mask: &[u8], m: usi
     wrapping_sum(values, mask, m)
 }
 
-/// Whether the mask has a bit for each value; [`vb_masked_wrapping_sum_i32`] is then in `sum`.
+/// Returns whether the mask has a bit for each value. If so, writes the result of
+/// [`vb_masked_wrapping_sum_i32`] to `sum`; else leaves it unchanged.
 #[unsafe(no_mangle)]
 pub extern "C" fn vb_try_masked_wrapping_sum_i32(
     values: &[i32],
@@ -269,7 +278,7 @@ pub extern "C" fn vb_try_masked_wrapping_sum_i32(
     true
 }
 
-/// Returns the sum of the values whose bit of `mask` from bit `m` on is true, exactly.
+/// Returns the exact sum of the values whose bit of `mask` from bit `m` on is true.
 #[unsafe(no_mangle)]
 pub extern "C" fn vb_masked_sum_i64(values: &[i64], mask: &[u8], m: usize) -> SignedWide
     requires { InBytes mask.now m (length values.now) }
@@ -278,7 +287,8 @@ pub extern "C" fn vb_masked_sum_i64(values: &[i64], mask: &[u8], m: usize) -> Si
     exact_sum(values, mask, m).into()
 }
 
-/// Whether the mask has a bit for each value; [`vb_masked_sum_i64`] is then in `sum`.
+/// Returns whether the mask has a bit for each value. If so, writes the result of
+/// [`vb_masked_sum_i64`] to `sum`; else leaves it unchanged.
 #[unsafe(no_mangle)]
 pub extern "C" fn vb_try_masked_sum_i64(
     values: &[i64],
@@ -307,7 +317,8 @@ pub extern "C" fn vb_masked_checked_sum_i64(values: &[i64], mask: &[u8], m: usiz
     checked_sum(values, mask, m).into()
 }
 
-/// Whether the mask has a bit for each value; [`vb_masked_checked_sum_i64`] is then in `sum`.
+/// Returns whether the mask has a bit for each value. If so, writes the result of
+/// [`vb_masked_checked_sum_i64`] to `sum`; else leaves it unchanged.
 #[unsafe(no_mangle)]
 pub extern "C" fn vb_try_masked_checked_sum_i64(
     values: &[i64],
@@ -335,7 +346,8 @@ pub extern "C" fn vb_masked_wrapping_sum_i64(values: &[i64], mask: &[u8], m: usi
     wrapping_sum(values, mask, m)
 }
 
-/// Whether the mask has a bit for each value; [`vb_masked_wrapping_sum_i64`] is then in `sum`.
+/// Returns whether the mask has a bit for each value. If so, writes the result of
+/// [`vb_masked_wrapping_sum_i64`] to `sum`; else leaves it unchanged.
 #[unsafe(no_mangle)]
 pub extern "C" fn vb_try_masked_wrapping_sum_i64(
     values: &[i64],

@@ -20,7 +20,8 @@ pub extern "C" fn vb_masked_min_u8(values: &[u8], mask: &[u8], m: usize) -> Opti
     least(values, mask, m).into()
 }
 
-/// Whether the mask has a bit for each value; [`vb_masked_min_u8`] is then in `least`.
+/// Returns whether the mask has a bit for each value. If so, writes the result of
+/// [`vb_masked_min_u8`] to `least`; else leaves it unchanged.
 #[unsafe(no_mangle)]
 pub extern "C" fn vb_try_masked_min_u8(
     values: &[u8],
@@ -48,7 +49,8 @@ pub extern "C" fn vb_masked_max_u8(values: &[u8], mask: &[u8], m: usize) -> Opti
     greatest(values, mask, m).into()
 }
 
-/// Whether the mask has a bit for each value; [`vb_masked_max_u8`] is then in `greatest`.
+/// Returns whether the mask has a bit for each value. If so, writes the result of
+/// [`vb_masked_max_u8`] to `greatest`; else leaves it unchanged.
 #[unsafe(no_mangle)]
 pub extern "C" fn vb_try_masked_max_u8(
     values: &[u8],
@@ -76,7 +78,8 @@ pub extern "C" fn vb_masked_min_u16(values: &[u16], mask: &[u8], m: usize) -> Op
     least(values, mask, m).into()
 }
 
-/// Whether the mask has a bit for each value; [`vb_masked_min_u16`] is then in `least`.
+/// Returns whether the mask has a bit for each value. If so, writes the result of
+/// [`vb_masked_min_u16`] to `least`; else leaves it unchanged.
 #[unsafe(no_mangle)]
 pub extern "C" fn vb_try_masked_min_u16(
     values: &[u16],
@@ -104,7 +107,8 @@ pub extern "C" fn vb_masked_max_u16(values: &[u16], mask: &[u8], m: usize) -> Op
     greatest(values, mask, m).into()
 }
 
-/// Whether the mask has a bit for each value; [`vb_masked_max_u16`] is then in `greatest`.
+/// Returns whether the mask has a bit for each value. If so, writes the result of
+/// [`vb_masked_max_u16`] to `greatest`; else leaves it unchanged.
 #[unsafe(no_mangle)]
 pub extern "C" fn vb_try_masked_max_u16(
     values: &[u16],
@@ -132,7 +136,8 @@ pub extern "C" fn vb_masked_min_u32(values: &[u32], mask: &[u8], m: usize) -> Op
     least(values, mask, m).into()
 }
 
-/// Whether the mask has a bit for each value; [`vb_masked_min_u32`] is then in `least`.
+/// Returns whether the mask has a bit for each value. If so, writes the result of
+/// [`vb_masked_min_u32`] to `least`; else leaves it unchanged.
 #[unsafe(no_mangle)]
 pub extern "C" fn vb_try_masked_min_u32(
     values: &[u32],
@@ -160,7 +165,8 @@ pub extern "C" fn vb_masked_max_u32(values: &[u32], mask: &[u8], m: usize) -> Op
     greatest(values, mask, m).into()
 }
 
-/// Whether the mask has a bit for each value; [`vb_masked_max_u32`] is then in `greatest`.
+/// Returns whether the mask has a bit for each value. If so, writes the result of
+/// [`vb_masked_max_u32`] to `greatest`; else leaves it unchanged.
 #[unsafe(no_mangle)]
 pub extern "C" fn vb_try_masked_max_u32(
     values: &[u32],
@@ -188,7 +194,8 @@ pub extern "C" fn vb_masked_min_u64(values: &[u64], mask: &[u8], m: usize) -> Op
     least(values, mask, m).into()
 }
 
-/// Whether the mask has a bit for each value; [`vb_masked_min_u64`] is then in `least`.
+/// Returns whether the mask has a bit for each value. If so, writes the result of
+/// [`vb_masked_min_u64`] to `least`; else leaves it unchanged.
 #[unsafe(no_mangle)]
 pub extern "C" fn vb_try_masked_min_u64(
     values: &[u64],
@@ -216,7 +223,8 @@ pub extern "C" fn vb_masked_max_u64(values: &[u64], mask: &[u8], m: usize) -> Op
     greatest(values, mask, m).into()
 }
 
-/// Whether the mask has a bit for each value; [`vb_masked_max_u64`] is then in `greatest`.
+/// Returns whether the mask has a bit for each value. If so, writes the result of
+/// [`vb_masked_max_u64`] to `greatest`; else leaves it unchanged.
 #[unsafe(no_mangle)]
 pub extern "C" fn vb_try_masked_max_u64(
     values: &[u64],

@@ -16,7 +16,7 @@ use crate::selected::{checked_sum, exact_sum, wrapping_sum};
 use crate::wide::Wide;
 use vb_bits::window_fits;
 
-/// Returns the sum of the values whose bit of `mask` from bit `m` on is true, exactly.
+/// Returns the exact sum of the values whose bit of `mask` from bit `m` on is true.
 #[unsafe(no_mangle)]
 pub extern "C" fn vb_masked_sum_u8(values: &[u8], mask: &[u8], m: usize) -> Wide
     requires { InBytes mask.now m (length values.now) }
@@ -25,7 +25,8 @@ pub extern "C" fn vb_masked_sum_u8(values: &[u8], mask: &[u8], m: usize) -> Wide
     exact_sum(values, mask, m).into()
 }
 
-/// Whether the mask has a bit for each value; [`vb_masked_sum_u8`] is then in `sum`.
+/// Returns whether the mask has a bit for each value. If so, writes the result of
+/// [`vb_masked_sum_u8`] to `sum`; else leaves it unchanged.
 #[unsafe(no_mangle)]
 pub extern "C" fn vb_try_masked_sum_u8(values: &[u8], mask: &[u8], m: usize, sum: &mut Wide) -> bool
     ensures { DoneIf (InBytes mask.now m (length values.now))
@@ -49,7 +50,8 @@ pub extern "C" fn vb_masked_checked_sum_u8(values: &[u8], mask: &[u8], m: usize)
     checked_sum(values, mask, m).into()
 }
 
-/// Whether the mask has a bit for each value; [`vb_masked_checked_sum_u8`] is then in `sum`.
+/// Returns whether the mask has a bit for each value. If so, writes the result of
+/// [`vb_masked_checked_sum_u8`] to `sum`; else leaves it unchanged.
 #[unsafe(no_mangle)]
 pub extern "C" fn vb_try_masked_checked_sum_u8(
     values: &[u8],
@@ -77,7 +79,8 @@ pub extern "C" fn vb_masked_wrapping_sum_u8(values: &[u8], mask: &[u8], m: usize
     wrapping_sum(values, mask, m)
 }
 
-/// Whether the mask has a bit for each value; [`vb_masked_wrapping_sum_u8`] is then in `sum`.
+/// Returns whether the mask has a bit for each value. If so, writes the result of
+/// [`vb_masked_wrapping_sum_u8`] to `sum`; else leaves it unchanged.
 #[unsafe(no_mangle)]
 pub extern "C" fn vb_try_masked_wrapping_sum_u8(
     values: &[u8],
@@ -95,7 +98,7 @@ pub extern "C" fn vb_try_masked_wrapping_sum_u8(
     true
 }
 
-/// Returns the sum of the values whose bit of `mask` from bit `m` on is true, exactly.
+/// Returns the exact sum of the values whose bit of `mask` from bit `m` on is true.
 #[unsafe(no_mangle)]
 pub extern "C" fn vb_masked_sum_u16(values: &[u16], mask: &[u8], m: usize) -> Wide
     requires { InBytes mask.now m (length values.now) }
@@ -104,7 +107,8 @@ pub extern "C" fn vb_masked_sum_u16(values: &[u16], mask: &[u8], m: usize) -> Wi
     exact_sum(values, mask, m).into()
 }
 
-/// Whether the mask has a bit for each value; [`vb_masked_sum_u16`] is then in `sum`.
+/// Returns whether the mask has a bit for each value. If so, writes the result of
+/// [`vb_masked_sum_u16`] to `sum`; else leaves it unchanged.
 #[unsafe(no_mangle)]
 pub extern "C" fn vb_try_masked_sum_u16(
     values: &[u16],
@@ -133,7 +137,8 @@ pub extern "C" fn vb_masked_checked_sum_u16(values: &[u16], mask: &[u8], m: usiz
     checked_sum(values, mask, m).into()
 }
 
-/// Whether the mask has a bit for each value; [`vb_masked_checked_sum_u16`] is then in `sum`.
+/// Returns whether the mask has a bit for each value. If so, writes the result of
+/// [`vb_masked_checked_sum_u16`] to `sum`; else leaves it unchanged.
 #[unsafe(no_mangle)]
 pub extern "C" fn vb_try_masked_checked_sum_u16(
     values: &[u16],
@@ -161,7 +166,8 @@ pub extern "C" fn vb_masked_wrapping_sum_u16(values: &[u16], mask: &[u8], m: usi
     wrapping_sum(values, mask, m)
 }
 
-/// Whether the mask has a bit for each value; [`vb_masked_wrapping_sum_u16`] is then in `sum`.
+/// Returns whether the mask has a bit for each value. If so, writes the result of
+/// [`vb_masked_wrapping_sum_u16`] to `sum`; else leaves it unchanged.
 #[unsafe(no_mangle)]
 pub extern "C" fn vb_try_masked_wrapping_sum_u16(
     values: &[u16],
@@ -180,7 +186,7 @@ pub extern "C" fn vb_try_masked_wrapping_sum_u16(
     true
 }
 
-/// Returns the sum of the values whose bit of `mask` from bit `m` on is true, exactly.
+/// Returns the exact sum of the values whose bit of `mask` from bit `m` on is true.
 #[unsafe(no_mangle)]
 pub extern "C" fn vb_masked_sum_u32(values: &[u32], mask: &[u8], m: usize) -> Wide
     requires { InBytes mask.now m (length values.now) }
@@ -189,7 +195,8 @@ pub extern "C" fn vb_masked_sum_u32(values: &[u32], mask: &[u8], m: usize) -> Wi
     exact_sum(values, mask, m).into()
 }
 
-/// Whether the mask has a bit for each value; [`vb_masked_sum_u32`] is then in `sum`.
+/// Returns whether the mask has a bit for each value. If so, writes the result of
+/// [`vb_masked_sum_u32`] to `sum`; else leaves it unchanged.
 #[unsafe(no_mangle)]
 pub extern "C" fn vb_try_masked_sum_u32(
     values: &[u32],
@@ -218,7 +225,8 @@ pub extern "C" fn vb_masked_checked_sum_u32(values: &[u32], mask: &[u8], m: usiz
     checked_sum(values, mask, m).into()
 }
 
-/// Whether the mask has a bit for each value; [`vb_masked_checked_sum_u32`] is then in `sum`.
+/// Returns whether the mask has a bit for each value. If so, writes the result of
+/// [`vb_masked_checked_sum_u32`] to `sum`; else leaves it unchanged.
 #[unsafe(no_mangle)]
 pub extern "C" fn vb_try_masked_checked_sum_u32(
     values: &[u32],
@@ -246,7 +254,8 @@ pub extern "C" fn vb_masked_wrapping_sum_u32(values: &[u32], mask: &[u8], m: usi
     wrapping_sum(values, mask, m)
 }
 
-/// Whether the mask has a bit for each value; [`vb_masked_wrapping_sum_u32`] is then in `sum`.
+/// Returns whether the mask has a bit for each value. If so, writes the result of
+/// [`vb_masked_wrapping_sum_u32`] to `sum`; else leaves it unchanged.
 #[unsafe(no_mangle)]
 pub extern "C" fn vb_try_masked_wrapping_sum_u32(
     values: &[u32],
@@ -265,7 +274,7 @@ pub extern "C" fn vb_try_masked_wrapping_sum_u32(
     true
 }
 
-/// Returns the sum of the values whose bit of `mask` from bit `m` on is true, exactly.
+/// Returns the exact sum of the values whose bit of `mask` from bit `m` on is true.
 #[unsafe(no_mangle)]
 pub extern "C" fn vb_masked_sum_u64(values: &[u64], mask: &[u8], m: usize) -> Wide
     requires { InBytes mask.now m (length values.now) }
@@ -274,7 +283,8 @@ pub extern "C" fn vb_masked_sum_u64(values: &[u64], mask: &[u8], m: usize) -> Wi
     exact_sum(values, mask, m).into()
 }
 
-/// Whether the mask has a bit for each value; [`vb_masked_sum_u64`] is then in `sum`.
+/// Returns whether the mask has a bit for each value. If so, writes the result of
+/// [`vb_masked_sum_u64`] to `sum`; else leaves it unchanged.
 #[unsafe(no_mangle)]
 pub extern "C" fn vb_try_masked_sum_u64(
     values: &[u64],
@@ -303,7 +313,8 @@ pub extern "C" fn vb_masked_checked_sum_u64(values: &[u64], mask: &[u8], m: usiz
     checked_sum(values, mask, m).into()
 }
 
-/// Whether the mask has a bit for each value; [`vb_masked_checked_sum_u64`] is then in `sum`.
+/// Returns whether the mask has a bit for each value. If so, writes the result of
+/// [`vb_masked_checked_sum_u64`] to `sum`; else leaves it unchanged.
 #[unsafe(no_mangle)]
 pub extern "C" fn vb_try_masked_checked_sum_u64(
     values: &[u64],
@@ -331,7 +342,8 @@ pub extern "C" fn vb_masked_wrapping_sum_u64(values: &[u64], mask: &[u8], m: usi
     wrapping_sum(values, mask, m)
 }
 
-/// Whether the mask has a bit for each value; [`vb_masked_wrapping_sum_u64`] is then in `sum`.
+/// Returns whether the mask has a bit for each value. If so, writes the result of
+/// [`vb_masked_wrapping_sum_u64`] to `sum`; else leaves it unchanged.
 #[unsafe(no_mangle)]
 pub extern "C" fn vb_try_masked_wrapping_sum_u64(
     values: &[u64],

@@ -1,8 +1,8 @@
-//! Sums of 128 bits, as they cross to C.
+//! Sums of 128 bits, in the layout that C receives.
 ghost use Rattle.std.specs.Prelude.{◌≡◌, pos};
 ghost use Rattle.vb_c_aggregate.specs.Wide.{unsigned_number, signed_number};
 
-/// An unsigned number of 128 bits, as it crosses to C: `low + high * 2^64`.
+/// An unsigned number of 128 bits for C: `low + high * 2^64`.
 #[repr(C)]
 #[derive(Clone, Copy)]
 pub struct Wide {
@@ -23,7 +23,7 @@ impl From<u128> for Wide {
     }
 }
 
-/// A signed number of 128 bits, as it crosses to C: `low + high * 2^64`.
+/// A signed number of 128 bits for C: `low + high * 2^64`.
 #[repr(C)]
 #[derive(Clone, Copy)]
 pub struct SignedWide {

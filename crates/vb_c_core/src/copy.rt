@@ -56,7 +56,7 @@ pub fn move_to_window(bytes: &mut [u8], d: usize, s: usize, len: usize)
     }
 }
 
-/// [`move_to_window`] towards the front: the first block first.
+/// Does [`move_to_window`] towards the front: moves the first block first.
 fn move_down(bytes: &mut [u8], d: usize, s: usize, len: usize)
     requires down { d ≤ s }
     requires into { InBytes bytes.old d len }
@@ -73,7 +73,7 @@ fn move_down(bytes: &mut [u8], d: usize, s: usize, len: usize)
     move_by(&mut block, bytes, d + done, s + done, len - done);
 }
 
-/// [`move_to_window`] towards the end: the last block first.
+/// Does [`move_to_window`] towards the end: moves the last block first.
 fn move_up(bytes: &mut [u8], d: usize, s: usize, len: usize)
     requires up { s ≤ d }
     requires into { InBytes bytes.old d len }
@@ -90,7 +90,7 @@ fn move_up(bytes: &mut [u8], d: usize, s: usize, len: usize)
     }
 }
 
-/// [`move_to_window`] of as many bits as `block` has space for: by way of its bytes.
+/// Does [`move_to_window`] by way of the bytes of `block`, which must have space for the bits.
 fn move_by(block: &mut [u8], bytes: &mut [u8], d: usize, s: usize, len: usize)
     requires few { len ≤ 8 * length block.old }
     requires into { InBytes bytes.old d len }

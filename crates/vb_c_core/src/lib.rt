@@ -1,5 +1,5 @@
 //! The types that the C functions return, the contracts of their checked forms, and copies of bits
-//! to memory next to which other threads may write. The crates of C functions share these.
+//! to bytes whose neighbors other threads may write. The crates of C functions share these.
 #![tactic(auto)]
 
 mod copy;

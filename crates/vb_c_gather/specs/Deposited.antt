@@ -5,8 +5,8 @@ use Rattle.vb_bits.specs.InBytes.{InBytes}
 use Rattle.vb_bits.specs.Writes.{Writes}
 use Rattle.vb_filter.specs.Spread.{spread_by}
 
--- the window to write and that of the mask are in their bytes, and so is a bit for each one of the
--- mask
+-- the window to write and that of the mask are in their bytes, and the values have a bit for each
+-- set bit of the mask
 pub record DepositFits (out : List ℕ) (o : ℕ) (values : List ℕ) (v : ℕ) (mask : List ℕ) (m n : ℕ)
     : Type 0 where
   pub into : InBytes out o n

@@ -11,8 +11,8 @@ pub record FiltersBitsAt (mask values : List Bool) (old new : List ℕ) (o answe
   pub number : answer ≡ count mask
   pub window : Writes old new o (kept_by mask values)
 
--- a mask of n bits from bit m on is in its bytes, and a window from bit o on with a bit for each
--- one of the mask is in `out`
+-- a mask of n bits from bit m on is in its bytes, and `out` has a window from bit o on with a bit
+-- for each set bit of the mask
 pub record KeptFitsAt (out : List ℕ) (o : ℕ) (mask : List ℕ) (m n : ℕ) : Type 0 where
   pub by : InBytes mask m n
   pub into : InBytes out o (count (bits mask m n))

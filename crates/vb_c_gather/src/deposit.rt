@@ -11,7 +11,8 @@ use vb_view::BitBufferView;
 
 /// Writes `len` bits to `out` from bit `o` on: where the bit of `mask` from bit `m` on is true,
 /// those of `bytes` from bit `offset` on, in order; elsewhere false. `bytes` must have a bit for
-/// each set bit of the mask. Every other bit of `out` is unchanged. It undoes `vb_filter_bits`.
+/// each set bit of the mask. Every other bit of `out` is unchanged. It is the inverse of
+/// `vb_filter_bits` for the bits that the mask selects.
 #[unsafe(no_mangle)]
 pub extern "C" fn vb_deposit_bits(
     out: &mut [u8],
@@ -25,7 +26,7 @@ pub extern "C" fn vb_deposit_bits(
     requires { DepositFits out.old o bytes.now offset mask.now m len }
     ensures { Deposits bytes.now offset (bits mask.now m len) out.old out.new o }
 {
-    // For no bits too, the kernel would store the byte of bit `o` again.
+    // Even for no bits, the kernel would store the byte of bit `o` again.
     if len == 0 {
         return;
     }

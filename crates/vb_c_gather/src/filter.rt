@@ -11,9 +11,10 @@ use vb_count::count_ones_wide;
 use vb_filter::{filter_into, filter_into_at, filter_word};
 use vb_view::BitBufferView;
 
-/// Writes those of the `len` bits of `bytes` from bit `offset` on whose bit of `mask` from bit `m`
-/// on is true, in order, to the bits of `out` from bit `o` on, which must be in it. Returns their
-/// number. Every other bit of `out` is unchanged.
+/// Writes the bits that the mask selects to the bits of `out` from bit `o` on, in order, and
+/// returns their number. It selects among the `len` bits of `bytes` from bit `offset` on those
+/// whose bit of `mask`, from bit `m` on, is true. The bits to write must be in `out`. Every other
+/// bit of `out` is unchanged.
 #[unsafe(no_mangle)]
 pub extern "C" fn vb_filter_bits(
     out: &mut [u8],
@@ -70,8 +71,8 @@ pub extern "C" fn vb_try_filter_bits(
     true
 }
 
-/// Does what [`vb_filter_bits`] does for at most 64 bits. The bits to write are counted in the word
-/// of the mask that selects them: a count before would read it twice.
+/// Does [`vb_filter_bits`] for at most 64 bits. Counts the bits to write in the same word of the
+/// mask that selects them: a separate count would read it twice.
 fn filter_few(
     out: &mut [u8],
     o: usize,
@@ -94,8 +95,8 @@ fn filter_few(
     kept
 }
 
-/// Does what [`vb_filter_bits`] does, if the mask selects `kept` bits. The kernel gets only the
-/// bytes of these bits.
+/// Does [`vb_filter_bits`] if the mask selects `kept` bits. Passes the kernel only the bytes of
+/// these bits.
 fn filter_at(
     out: &mut [u8],
     o: usize,

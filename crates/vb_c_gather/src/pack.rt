@@ -8,10 +8,10 @@ ghost use Rattle.vb_c_gather.specs.Packed.{Packs};
 use vb_bits::window_fits;
 use vb_compare::{Comparison, compare_into};
 
-/// Packs bytes into the bits of `out` from bit `o` on, one each, which must be in `out`: true if
-/// the byte isn't 0. Every other bit of `out` is unchanged.
+/// Packs bytes into the bits of `out` from bit `o` on, one bit per byte: true if the byte isn't 0.
+/// The bits must be in `out`. Every other bit of `out` is unchanged.
 ///
-/// Compares them with 0, 64 at a time by vectors.
+/// Compares 64 bytes at a time with 0, by vectors.
 #[unsafe(no_mangle)]
 pub extern "C" fn vb_pack_truthy(out: &mut [u8], o: usize, truthy: &[u8])
     requires { InBytes out.old o (length truthy.now) }

@@ -13,9 +13,9 @@ use vb_count::count_ones_wide;
 use vb_filter::{filter_elements_into, filter_word_into};
 use vb_view::BitBufferView;
 
-/// Writes the values whose bit of `mask`, from bit `m` on, is true, in order, to the front of
-/// `out`, which must have an item for each. Returns their number. The items of `out` after them are
-/// unchanged.
+/// Writes the values that the mask selects to the front of `out`, in order, and returns their
+/// number. A value is selected if its bit of `mask`, from bit `m` on, is true. `out` must have an
+/// item for each selected value; the items after these are unchanged.
 #[unsafe(no_mangle)]
 pub extern "C" fn vb_filter_values_u8(out: &mut [u8], values: &[u8], mask: &[u8], m: usize) -> usize
     requires { KeptFits mask.now m (length values.now) (length out.old) }
@@ -42,9 +42,9 @@ pub extern "C" fn vb_try_filter_values_u8(
     try_filter_values(out, values, mask, m, written)
 }
 
-/// Writes the values, of two bytes each, whose bit of `mask`, from bit `m` on, is true, in order,
-/// to the front of `out`, which must have an item for each. Returns their number. The items of
-/// `out` after them are unchanged.
+/// Writes the values that the mask selects to the front of `out`, in order, and returns their
+/// number. A value of two bytes is selected if its bit of `mask`, from bit `m` on, is true. `out`
+/// must have an item for each selected value; the items after these are unchanged.
 #[unsafe(no_mangle)]
 pub extern "C" fn vb_filter_values_u16(
     out: &mut [u16],
@@ -76,9 +76,9 @@ pub extern "C" fn vb_try_filter_values_u16(
     try_filter_values(out, values, mask, m, written)
 }
 
-/// Writes the values, of four bytes each, whose bit of `mask`, from bit `m` on, is true, in order,
-/// to the front of `out`, which must have an item for each. Returns their number. The items of
-/// `out` after them are unchanged.
+/// Writes the values that the mask selects to the front of `out`, in order, and returns their
+/// number. A value of four bytes is selected if its bit of `mask`, from bit `m` on, is true. `out`
+/// must have an item for each selected value; the items after these are unchanged.
 #[unsafe(no_mangle)]
 pub extern "C" fn vb_filter_values_u32(
     out: &mut [u32],
@@ -110,9 +110,9 @@ pub extern "C" fn vb_try_filter_values_u32(
     try_filter_values(out, values, mask, m, written)
 }
 
-/// Writes the values, of eight bytes each, whose bit of `mask`, from bit `m` on, is true, in order,
-/// to the front of `out`, which must have an item for each. Returns their number. The items of
-/// `out` after them are unchanged.
+/// Writes the values that the mask selects to the front of `out`, in order, and returns their
+/// number. A value of eight bytes is selected if its bit of `mask`, from bit `m` on, is true. `out`
+/// must have an item for each selected value; the items after these are unchanged.
 #[unsafe(no_mangle)]
 pub extern "C" fn vb_filter_values_u64(
     out: &mut [u64],
@@ -144,9 +144,9 @@ pub extern "C" fn vb_try_filter_values_u64(
     try_filter_values(out, values, mask, m, written)
 }
 
-/// Writes the values, of 16 bytes each, whose bit of `mask`, from bit `m` on, is true, in order, to
-/// the front of `out`, which must have an item for each. Returns their number. The items of `out`
-/// after them are unchanged.
+/// Writes the values that the mask selects to the front of `out`, in order, and returns their
+/// number. A value of 16 bytes is selected if its bit of `mask`, from bit `m` on, is true. `out`
+/// must have an item for each selected value; the items after these are unchanged.
 #[unsafe(no_mangle)]
 pub extern "C" fn vb_filter_values_u128(
     out: &mut [Wide],

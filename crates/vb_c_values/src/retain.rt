@@ -10,8 +10,9 @@ use crate::wide::Wide;
 use vb_bits::window_fits;
 use vb_view::BitBufferView;
 
-/// Moves the values whose bit of `mask`, from bit `m` on, is true, in order, to the front of
-/// `values`. Returns their number. The values from that index on are unchanged.
+/// Moves the values that the mask selects to the front of `values`, in order, and returns their
+/// number. A value is selected if its bit of `mask`, from bit `m` on, is true. The values after
+/// these are unchanged.
 #[unsafe(no_mangle)]
 pub extern "C" fn vb_retain_values_u8(values: &mut [u8], mask: &[u8], m: usize) -> usize
     requires { InBytes mask.now m (length values.old) }
@@ -39,8 +40,9 @@ pub extern "C" fn vb_try_retain_values_u8(
     try_retain_values(values, mask, m, written)
 }
 
-/// Moves the values, of two bytes each, whose bit of `mask`, from bit `m` on, is true, in order, to
-/// the front of `values`. Returns their number. The values from that index on are unchanged.
+/// Moves the values that the mask selects to the front of `values`, in order, and returns their
+/// number. A value of two bytes is selected if its bit of `mask`, from bit `m` on, is true. The
+/// values after these are unchanged.
 #[unsafe(no_mangle)]
 pub extern "C" fn vb_retain_values_u16(values: &mut [u16], mask: &[u8], m: usize) -> usize
     requires { InBytes mask.now m (length values.old) }
@@ -68,8 +70,9 @@ pub extern "C" fn vb_try_retain_values_u16(
     try_retain_values(values, mask, m, written)
 }
 
-/// Moves the values, of four bytes each, whose bit of `mask`, from bit `m` on, is true, in order,
-/// to the front of `values`. Returns their number. The values from that index on are unchanged.
+/// Moves the values that the mask selects to the front of `values`, in order, and returns their
+/// number. A value of four bytes is selected if its bit of `mask`, from bit `m` on, is true. The
+/// values after these are unchanged.
 #[unsafe(no_mangle)]
 pub extern "C" fn vb_retain_values_u32(values: &mut [u32], mask: &[u8], m: usize) -> usize
     requires { InBytes mask.now m (length values.old) }
@@ -97,8 +100,9 @@ pub extern "C" fn vb_try_retain_values_u32(
     try_retain_values(values, mask, m, written)
 }
 
-/// Moves the values, of eight bytes each, whose bit of `mask`, from bit `m` on, is true, in order,
-/// to the front of `values`. Returns their number. The values from that index on are unchanged.
+/// Moves the values that the mask selects to the front of `values`, in order, and returns their
+/// number. A value of eight bytes is selected if its bit of `mask`, from bit `m` on, is true. The
+/// values after these are unchanged.
 #[unsafe(no_mangle)]
 pub extern "C" fn vb_retain_values_u64(values: &mut [u64], mask: &[u8], m: usize) -> usize
     requires { InBytes mask.now m (length values.old) }
@@ -126,8 +130,9 @@ pub extern "C" fn vb_try_retain_values_u64(
     try_retain_values(values, mask, m, written)
 }
 
-/// Moves the values, of 16 bytes each, whose bit of `mask`, from bit `m` on, is true, in order, to
-/// the front of `values`. Returns their number. The values from that index on are unchanged.
+/// Moves the values that the mask selects to the front of `values`, in order, and returns their
+/// number. A value of 16 bytes is selected if its bit of `mask`, from bit `m` on, is true. The
+/// values after these are unchanged.
 #[unsafe(no_mangle)]
 pub extern "C" fn vb_retain_values_u128(values: &mut [Wide], mask: &[u8], m: usize) -> usize
     requires { InBytes mask.now m (length values.old) }

@@ -11,8 +11,9 @@ use vb_count::count_ones_wide;
 use vb_expand::scatter_values_into;
 use vb_view::BitBufferView;
 
-/// Writes the values in order over the items of `out` whose bit of `mask`, from bit `m` on, is
-/// true, which must not be more. Returns their number. The other items of `out` are unchanged.
+/// Scatters the values in order over the items of `out` whose bit of `mask`, from bit `m` on, is
+/// true, and returns the number of these items. There must be a value for each of them. The other
+/// items of `out` are unchanged.
 #[unsafe(no_mangle)]
 pub extern "C" fn vb_scatter_values_u8(
     out: &mut [u8],
@@ -44,9 +45,9 @@ pub extern "C" fn vb_try_scatter_values_u8(
     try_scatter_values(out, values, mask, m, written)
 }
 
-/// Writes the values, of two bytes each, in order over the items of `out` whose bit of `mask`, from
-/// bit `m` on, is true, which must not be more. Returns their number. The other items of `out` are
-/// unchanged.
+/// Scatters the values, of two bytes each, in order over the items of `out` whose bit of `mask`,
+/// from bit `m` on, is true, and returns the number of these items. There must be a value for each
+/// of them. The other items of `out` are unchanged.
 #[unsafe(no_mangle)]
 pub extern "C" fn vb_scatter_values_u16(
     out: &mut [u16],
@@ -78,9 +79,9 @@ pub extern "C" fn vb_try_scatter_values_u16(
     try_scatter_values(out, values, mask, m, written)
 }
 
-/// Writes the values, of four bytes each, in order over the items of `out` whose bit of `mask`,
-/// from bit `m` on, is true, which must not be more. Returns their number. The other items of `out`
-/// are unchanged.
+/// Scatters the values, of four bytes each, in order over the items of `out` whose bit of `mask`,
+/// from bit `m` on, is true, and returns the number of these items. There must be a value for each
+/// of them. The other items of `out` are unchanged.
 #[unsafe(no_mangle)]
 pub extern "C" fn vb_scatter_values_u32(
     out: &mut [u32],
@@ -112,9 +113,9 @@ pub extern "C" fn vb_try_scatter_values_u32(
     try_scatter_values(out, values, mask, m, written)
 }
 
-/// Writes the values, of eight bytes each, in order over the items of `out` whose bit of `mask`,
-/// from bit `m` on, is true, which must not be more. Returns their number. The other items of `out`
-/// are unchanged.
+/// Scatters the values, of eight bytes each, in order over the items of `out` whose bit of `mask`,
+/// from bit `m` on, is true, and returns the number of these items. There must be a value for each
+/// of them. The other items of `out` are unchanged.
 #[unsafe(no_mangle)]
 pub extern "C" fn vb_scatter_values_u64(
     out: &mut [u64],
@@ -146,9 +147,9 @@ pub extern "C" fn vb_try_scatter_values_u64(
     try_scatter_values(out, values, mask, m, written)
 }
 
-/// Writes the values, of 16 bytes each, in order over the items of `out` whose bit of `mask`, from
-/// bit `m` on, is true, which must not be more. Returns their number. The other items of `out` are
-/// unchanged.
+/// Scatters the values, of 16 bytes each, in order over the items of `out` whose bit of `mask`,
+/// from bit `m` on, is true, and returns the number of these items. There must be a value for each
+/// of them. The other items of `out` are unchanged.
 #[unsafe(no_mangle)]
 pub extern "C" fn vb_scatter_values_u128(
     out: &mut [Wide],

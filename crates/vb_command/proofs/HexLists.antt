@@ -12,7 +12,7 @@ use Rattle.vb_command.specs.Optional.{◌>>=◌}
 use Rattle.vb_command.specs.Hex.{hex_value, hex_pairs, is_digit}
 use Rattle.vb_command.proofs.Behind.{behind, behind-next}
 
--- a pair and the rest write bytes exactly if both digits and the rest do
+-- a pair and the rest write bytes exactly if both digits have a value and the rest write bytes
 pair_there : (high low : Option ℕ) (rest : Option (List ℕ)) (even all : Bool)
     → is_some rest ≡ (even && all)
     → is_some ((high >>= (λ x. low >>= (λ y. Some (16 * x + y))))

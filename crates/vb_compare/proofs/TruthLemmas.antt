@@ -35,7 +35,7 @@ take-zip2 f (suc n) [] ys = refl
 take-zip2 f (suc n) (x ∷ xs) [] = refl
 take-zip2 f (suc n) (x ∷ xs) (y ∷ ys) = ap (λ l. f x y ∷ l) (take-zip2 f n xs ys)
 
--- as many results as values
+-- one result for each value
 pub length_paired : {X Y Z : Type 0} (f : X → Y → Z) (xs : List X) (ys : List Y)
     → length ys ≡ length xs → length (zip2 f xs ys) ≡ length xs
 length_paired f xs ys same = length-zip2 f xs ys (omega arith)
@@ -60,12 +60,12 @@ take-digits w k m h =
     ∙ ap (λ n. take n (digits w 0 k ++ digits w (0 + k) (m - k))) (sym (length-digits w 0 k))
     ∙ take-append_seam (digits w 0 k) (digits w (0 + k) (m - k)))
 
--- the first bits of those of a list
+-- the first k of the m bits of a list that a word has
 pub front_digits : (w a k m : ℕ) (l : List Bool) → digits w 0 m ≡ take m (drop a l) → k ≤ m
     → digits w 0 k ≡ take k (drop a l)
 front_digits w a k m l e h = take-digits w k m h ∙ ap (take k) e ∙ take-take k m (drop a l) h
 
--- the last bits of the word of the last 64
+-- the last r bits of a list, from the word of its last 64
 pub last_digits : (w r : ℕ) (l : List Bool) → 64 ≤ length l
     → digits w 0 64 ≡ take 64 (drop (length l - 64) l) → r ≤ 64
     → digits (w / 2 ^ (64 - r)) 0 r ≡ drop (length l - r) l

@@ -72,7 +72,7 @@ fn eights<S: Truths>(source: &S, from: usize, n: usize) -> u64
 
 /// Returns the eight truth values from index `from` on, as a number below 256.
 ///
-/// Takes them as bytes, for which the compiler builds vectors of the values.
+/// Stores them as bytes first, so that the compiler compares the values by vectors.
 #[inline(always)]
 pub(crate) fn eight<S: Truths>(source: &S, from: usize) -> u64
     requires fits { length (S.truths source.now) < 2 ^ 64 }

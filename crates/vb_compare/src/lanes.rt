@@ -23,7 +23,7 @@ pub trait CompareLanes: BitIndex + Element {
     // The property of blocks that `load` and `splat` return.
     ghost is_block: { Self.Block → Type 0 };
 
-    /// Returns the first 64 values, of which there must be so many.
+    /// Returns the first 64 values. There must be at least 64.
     fn load(values: &[Self]) -> Self::Block
         requires { 64 ≤ length values.now }
         ensures numbers { numbers result ≡ map Self.number (take 64 values.now) }
@@ -56,7 +56,7 @@ pub trait CompareLanes: BitIndex + Element {
         ensures { result ≡ int_lt (Self.number self) (Self.number other) };
 }
 
-/// Returns the first 64 values, of which there must be so many.
+/// Returns the first 64 values. There must be at least 64.
 pub(crate) fn first_values<T: Element>(values: &[T]) -> [T; 64]
     requires { 64 ≤ length values.now }
     ensures values { result ≡ take 64 values.now }

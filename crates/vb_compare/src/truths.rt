@@ -11,9 +11,9 @@ use std::marker::PhantomData;
 /// A sequence of truth values, such as the results of a comparison. It returns one of them, or 64
 /// in a row at once.
 pub trait Truths {
-    /// Whether [`one`](Truths::one), called for eight times eight values, is faster than
-    /// [`word`](Truths::word). It is for whole numbers of eight bytes and more, since a vector has
-    /// few.
+    /// Whether 64 calls of [`one`](Truths::one), eight at a time, are faster than a call of
+    /// [`word`](Truths::word). They are for whole numbers of eight bytes and more, since a vector
+    /// holds few of these.
     const IS_WIDE: bool;
 
     // The truth values.

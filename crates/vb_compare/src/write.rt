@@ -42,8 +42,8 @@ fn write_many<S: Truths>(out: &mut [u8], offset: usize, source: &S)
     write_rest(out, offset, source, (len - head) % 64);
 }
 
-/// Does [`write_truths`] for the first `n`, fewer than eight of at least 64, whose bits must be in
-/// one byte.
+/// Does [`write_truths`] for the first `n` truth values. `n` must be below 8, and there must be at
+/// least 64 truth values. The bits must be in one byte.
 #[inline(always)]
 fn write_head<S: Truths>(out: &mut [u8], offset: usize, source: &S, n: usize)
     requires few { n < 8 }
@@ -71,8 +71,8 @@ fn first_digits<S: Truths>(source: &S) -> u64
     }
 }
 
-/// Does [`write_truths`] for `64 * words` from index `from` on, whose first bit must be the first
-/// of a byte.
+/// Does [`write_truths`] for the `64 * words` truth values from index `from` on. The first of their
+/// bits must be the first bit of a byte.
 #[inline(always)]
 fn write_words<S: Truths>(out: &mut [u8], offset: usize, source: &S, from: usize, words: usize)
     requires whole { (offset + from) % 8 ≡ 0 }
@@ -87,11 +87,11 @@ fn write_words<S: Truths>(out: &mut [u8], offset: usize, source: &S, from: usize
     }
 }
 
-/// Does [`write_truths`] for the last `n`, fewer than 64 of at least 64, whose first bit must be
-/// the first of a byte.
+/// Does [`write_truths`] for the last `n` truth values. `n` must be below 64, and there must be at
+/// least 64 truth values. The first of their bits must be the first bit of a byte.
 ///
-/// It passes on only the bytes from that one on, so that none is read that was just written: a load
-/// of such bytes waits for their store.
+/// It passes on only the bytes from that one on, so that it reads none that it has just written: a
+/// load of such bytes waits for their store.
 #[inline(always)]
 fn write_rest<S: Truths>(out: &mut [u8], offset: usize, source: &S, n: usize)
     requires few { n < 64 }
@@ -107,9 +107,10 @@ fn write_rest<S: Truths>(out: &mut [u8], offset: usize, source: &S, n: usize)
     }
 }
 
-/// Returns a word whose lowest bits are the last `n` truth values, fewer than 64 of at least 64.
+/// Returns a word whose lowest bits are the last `n` truth values. `n` must be below 64, and there
+/// must be at least 64 truth values.
 ///
-/// Up to two eights are faster than a word of 64, and wide values always go by eights.
+/// Up to two eights are faster than a word of 64; wide values are always computed by eights.
 #[inline(always)]
 fn rest_digits<S: Truths>(source: &S, n: usize) -> u64
     requires few { n < 64 }

@@ -14,7 +14,7 @@ use Rattle.vb_rank.proofs.EditsLemmas.{bump, count-take_range, count-take-set_be
 use Rattle.vb_rank.proofs.EditsLemmas.{count-take-set_after}
 
 -- ---- a longer front
--- it has at most as many more true values as it has values
+-- it has at most one more true value for each further value
 pub count-take_near : (l : List Bool) (a b : ℕ)
     → a ≤ b → count (take b l) ≤ count (take a l) + (b - a)
 count-take_near l a b h = omega (

@@ -10,9 +10,9 @@ use vb_rank::BLOCK_BITS;
 use vb_view::BitBufferView;
 
 impl<A: Allocator> Counts<A> {
-    /// Appends the counts of the blocks that the bits from index `old` on begin. These counts must
-    /// be those of the first `old` bits, and there must be capacity for the counts of all bits.
-    /// Then they are the counts of all bits. Counts the appended bits before the last block once.
+    /// Appends the counts of the blocks that begin at or after index `old`. Before the call these
+    /// must be the counts of the first `old` bits, with capacity for the counts of all bits; after
+    /// it they are the counts of all bits. Counts the appended bits before the last block once.
     /// Does not allocate, and the capacity stays the same.
     pub fn count_added(&mut self, bits: BitBufferView<'_>, old: usize)
         requires within { old ≤ length (bits_of bits) }

@@ -1,5 +1,5 @@
-//! The counts of a directory, in one list of numbers. This file builds and edits them; a source of
-//! counts alone reads them.
+//! The counts of a directory, in one list of numbers. This file builds and edits them; ranks and
+//! selects read them only through a source of counts.
 mod plain;
 #[cfg(test)]
 mod tally;
@@ -24,8 +24,8 @@ use vb_count::count_ones;
 use vb_rank::BLOCK_BITS;
 use vb_view::BitBufferView;
 
-/// The least number of numbers for which a set that grows allocates at first: 24 bytes, which an
-/// allocator uses up for fewer numbers too.
+/// The least number of numbers that [`Counts::reserve`] allocates: 24 bytes. An allocator uses up
+/// that much for fewer numbers too.
 const FIRST_NUMBERS: usize = 12;
 
 /// The number of set bits before each block of 512 bits, by groups of 128 blocks.
@@ -103,10 +103,10 @@ impl<A: Allocator> Counts<A> {
         Ok(())
     }
 
-    /// Appends `ones`, the number of set bits before block `block`. These counts must be those of
-    /// `block` whole blocks, and there must be capacity for those of one more. Then they are the
-    /// counts of these blocks and of 1 to 512 bits after them. Does not allocate, and the capacity
-    /// stays the same.
+    /// Appends `ones`, the number of set bits before block `block`. Before the call these must be
+    /// the counts of `block` whole blocks, with capacity for those of one more block; after it they
+    /// are the counts of these blocks and of 1 to 512 bits after them. Does not allocate, and the
+    /// capacity stays the same.
     pub fn push(&mut self, block: usize, ones: usize)
         requires size { length self.old.numbers ≡ numbers_for (BLOCK_BITS * block) }
         requires room { numbers_for (BLOCK_BITS * block + 1) ≤ self.old.room }

@@ -5,8 +5,8 @@
 //! bits can keep their counts next to them. An edit of the bits changes few counts, and ranks and
 //! selects read few bits, as those of `vb_rank` over a table do.
 //!
-//! A rank or select is generic over a source of counts, which has no way to a count but a probe;
-//! and other crates have no way to a count but these calls. Lengths, offsets and indices are in
+//! A rank or select is generic over a source of counts, and can read a count only by a probe of the
+//! source. Other crates can read counts only by these calls. Lengths, offsets and indices are in
 //! bits. A "must" in a docstring is a condition that the caller has to prove.
 #![tactic(auto)]
 

@@ -51,8 +51,9 @@ impl<A: Allocator> Counts<A> {
     }
 
     /// Writes the result of [`select`](Self::select) for `ranks[k]` to `places[k]`, for each `k`.
-    /// `places` and `ranks` must have the same length, and these counts must be those of `bits`.
-    /// Searches for eight at once if there are as many, and more than one group. Does not allocate.
+    /// `places` and `ranks` must have the same length, and these counts must be those of `bits`. If
+    /// there is more than one group, searches for eight ranks at once, and for the last ones, fewer
+    /// than eight, one by one. Does not allocate.
     #[inline(always)]
     pub fn select_many(
         &self,
@@ -72,8 +73,8 @@ impl<A: Allocator> Counts<A> {
     }
 }
 
-/// Writes the results of [`Counts::select_many`] that come in eights, from the first one on, and
-/// returns their number.
+/// Writes the first results of [`Counts::select_many`], eight at a time, and returns their number:
+/// 0 if there is only one group, else all but the last ones, fewer than eight.
 #[inline(always)]
 fn select_eights<A: Allocator>(
     bits: BitBufferView<'_>,

@@ -116,8 +116,8 @@ fn inside_groups(
     (levels, sizes, rest)
 }
 
-/// Returns the number of each block among the blocks of all groups, and the number of bits before
-/// it.
+/// Returns the number of each block among the blocks of all groups, and the number of bits of the
+/// searched value before it.
 #[inline(always)]
 fn among_all(
     group: &[usize; LANES],

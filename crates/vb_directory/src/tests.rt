@@ -21,7 +21,7 @@ fn holds(rt: &impl Abort, condition: bool)
     assert!(rt; condition);
 }
 
-/// Five bytes of bits: each bit is set whose index is a multiple of 5.
+/// Five bytes of bits: a bit is set if its index is a multiple of 5.
 const BY_FIVES: [u8; 5] = [0x21, 0x84, 0x10, 0x42, 0x08];
 
 /// Returns the bytes of `len` such bits.
@@ -58,8 +58,8 @@ fn ranks(rt: &impl Abort, alloc: Global, bits: BitBufferView<'_>, i: usize) {
     drop(counts);
 }
 
-/// Tests that selects are right, and make at most as many probes as the number of blocks plus one
-/// has binary digits.
+/// Tests that selects are right, and that they make at most one probe for each binary digit of the
+/// number of blocks plus one.
 fn selects(rt: &impl Abort, alloc: Global, bits: BitBufferView<'_>, n: usize) {
     holds(rt, 0 < bits.len());
     let counts = Counts::of(alloc, bits, bits.len()).expect(rt, "counts");

@@ -1,4 +1,4 @@
--- Values over the items that a mask keeps.
+-- Values written over the items that a mask selects.
 use Rattle.std.proofs.Common.{◌≡◌, ℕ, suc, ◌+◌, ◌-◌, ◌*◌, ◌^◌, ◌<◌, ◌≤◌, Bool, true, false, List}
 use Rattle.std.proofs.Common.{[], ◌∷◌, ◌++◌, length, map, take, drop, set, refl, sym, ap, subst}
 use Rattle.std.proofs.Common.{◌∙◌, arith}
@@ -16,7 +16,7 @@ use Rattle.vb_bits.proofs.DigitsLemmas.{count-digits_below}
 use Rattle.vb_bits.proofs.PlacesLemmas.{places_none, places_cons}
 use Rattle.vb_expand.specs.Scatter.{scattered_by}
 
--- how many are true, by the first value
+-- the count of a list, by its first value
 one_more : (l : List Bool) → count (true ∷ l) ≡ suc (count l)
 one_more l = omega (arith, count-cons true l)
 
@@ -31,13 +31,13 @@ front-add xs a n =
     take-add a n xs ∙ ap (λ k. take a xs ++ take k (drop a xs)) (sym len)
 
 -- ---- item by item
--- the items, with a value put to each of these places
+-- the items, with a value written to each of these indices
 abbrev pub put_at : {T : Type 0} → List ℕ → List T → List T → List T
 put_at [] values items = items
 put_at (p ∷ ps) [] items = items
 put_at (p ∷ ps) (v ∷ values) items = put_at ps values (set items p v)
 
--- places that are one further on
+-- indices that are greater by one
 put_at-later : {T : Type 0} (ps : List ℕ) (values items : List T) (x : T)
     → put_at (map (λ i. 1 + i) ps) values (x ∷ items) ≡ x ∷ put_at ps values items
 put_at-later [] values items x = refl
@@ -47,7 +47,7 @@ put_at-later (p ∷ ps) (v ∷ values) items x =
     ap (λ k. put_at (map (λ i. 1 + i) ps) values (set (x ∷ items) k v)) later
     ∙ put_at-later ps values (set items p v) x
 
--- all places of a mask
+-- the indices of all set bits of a mask
 pub put_at-places : {T : Type 0} (mask : List Bool) (values items : List T)
     → length items ≡ length mask
     → put_at (places mask) values items ≡ scattered_by mask values items
@@ -65,7 +65,7 @@ put_at-places (true ∷ mask) (v ∷ values) (x ∷ items) same =
     ∙ ap (λ l. v ∷ l) (put_at-places mask values items (omega arith))
 
 -- ---- lists
--- as many items as there were
+-- the number of items is unchanged
 pub length-scattered_by : {T : Type 0} (mask : List Bool) (values items : List T)
     → length (scattered_by mask values items) ≡ length items
 length-scattered_by [] values items = refl
@@ -107,7 +107,7 @@ scattered_all (true ∷ mask) (v ∷ values) (x ∷ items) same full enough =
     ap (λ l. v ∷ l) (scattered_all mask values items (omega arith) (omega (arith, one_more mask))
     (omega (arith, one_more mask)))
 
--- the mask keeps the values
+-- the mask selects the values
 pub kept_by-scattered_by : {T : Type 0} (mask : List Bool) (values items : List T)
     → length items ≡ length mask → count mask ≤ length values
     → kept_by mask (scattered_by mask values items) ≡ take (count mask) values
@@ -135,7 +135,7 @@ others-scattered_by (true ∷ mask) (v ∷ values) (x ∷ items) =
     others-scattered_by mask values items
 
 -- ---- a word after the other
--- the values of the first a bits are over the items, and are so many
+-- the values for the first a bits are written over the items, and `taken` is their number
 pub record FrontScattered {T : Type 0} (mask : List Bool) (values old new : List T) (a taken : ℕ)
     : Type 0 where
   pub number : taken ≡ count (take a mask)
@@ -153,7 +153,7 @@ module _ {T : Type 0} {mask : List Bool} {values old mid : List T} {a taken : �
       length-scattered_by (take a mask) values (take a old)
       ∙ length-take-le a old (omega (arith, same, room))
 
-  -- how many values they are
+  -- their number
   counted : count (take (a + n) mask)
       ≡ count (take a mask) + count (slice_range mask a (a + n))
   counted = ap count (front-add mask a n) ∙ count-append (take a mask) (slice_range mask a (a + n))
@@ -204,7 +204,7 @@ module _ {T : Type 0} {mask : List Bool} {values old mid : List T} {a taken : �
             (last ∙ sym (drop-drop n a mid) ∙ ap (drop n) behind ∙ drop-drop n a old);
       }
 
-  -- where they are the digits of a word
+  -- the next n bits as the digits of a word
   module _ (word : ℕ) (clear : word < 2 ^ n)
       (of_mask : digits word 0 n ≡ slice_range mask a (a + n)) where
     ones : count (slice_range mask a (a + n)) ≡ count_ones word

@@ -19,7 +19,7 @@ use Rattle.vb_bits.proofs.BitsLemmas.{bits-add, length-bits}
 use Rattle.vb_bits.proofs.DigitsLemmas.{digits-add, digits_part, length-digits}
 use Rattle.vb_bits.proofs.ShiftLemmas.{digits_shr}
 
--- the lane for one digit of a byte: the smaller one of what the digit stands for and 1
+-- the lane for one digit of a byte: the smaller one of 1 and the digit's value in the byte
 abbrev pub lane : ℕ → ℕ → ℕ
 lane y p = cond (top 7 (cond (nat_lt (bit_and y p) 1) 255 0)) (bit_and y p) 1
 
@@ -91,7 +91,7 @@ sixteen_more out lanes w k few whole front made =
     ∙ sym (map-append from_bool (digits w 0 a) (digits w (0 + a) 16))
     ∙ ap (map from_bool) (sym (digits-add w 0 a 16) ∙ ap (digits w 0) (sym next))
 
--- a word more of a window
+-- one more word of a window
 module _ (out ys b : List ℕ) (o t w : ℕ) (room : 64 * t + 64 ≤ length out)
     (made : ys ≡ map from_bool (digits w 0 64)) where
   abbrev from : ℕ

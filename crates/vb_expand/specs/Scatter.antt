@@ -1,7 +1,8 @@
 -- Values scattered by a mask.
 use Rattle.std.specs.Prelude.{Bool, true, false, List, [], ◌∷◌}
 
--- the items, where the values replace those whose bit is true, in order, while there are any
+-- the items, with the values in place of those whose bit is true, in order, as long as there are
+-- values
 abbrev pub scattered_by : {T : Type 0} → List Bool → List T → List T → List T
 scattered_by [] values items = items
 scattered_by (bit ∷ bits) values [] = []

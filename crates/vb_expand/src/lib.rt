@@ -1,4 +1,4 @@
-//! Bits unpacked to bytes, and values scattered by a mask, in place.
+//! Bits unpacked to bytes, and values scattered by a mask, over slices.
 //!
 //! Lengths and indices are in bits, or in values. No call allocates.
 #![tactic(auto)]

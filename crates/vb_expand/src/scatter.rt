@@ -9,8 +9,8 @@ ghost use Rattle.vb_view.specs.View.{bits_of};
 use vb_view::{BitBufferView, view_word};
 
 /// Writes the values, in order, over the items of `out` whose bit in the mask is true. Returns
-/// their number. The other items of `out` are unchanged. Undoes a filter by the mask: the items
-/// that it then selects are the values.
+/// their number. The other items of `out` are unchanged. Undoes a filter by the mask: the mask
+/// selects the written values from the new items.
 ///
 /// The mask must be as long as `out`, and must not have more true bits than there are values;
 /// values after those are ignored. Processes 64 bits at a time: copies a block of values if all are
@@ -55,7 +55,7 @@ fn scatter_word<T: Copy>(out: &mut [T], values: &[T], taken: usize, places: u64)
     count
 }
 
-/// [`scatter_word`], one by one.
+/// Does [`scatter_word`] one by one.
 #[inline(always)]
 fn scatter_ones<T: Copy>(out: &mut [T], values: &[T], taken: usize, places: u64)
     requires few { length out.old ≤ 64 }

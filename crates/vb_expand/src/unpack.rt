@@ -8,7 +8,7 @@ ghost use Rattle.vb_bits.specs.InBytes.{InBytes};
 use std::simd::prelude::*;
 use vb_bits::{full_word, read_bits};
 
-/// The byte of a word that has each of its 16 lowest bits.
+/// For each of the 16 lowest bits of a word, the index of the byte that has it.
 const BYTES: [u8; 16] = [0, 0, 0, 0, 0, 0, 0, 0, 1, 1, 1, 1, 1, 1, 1, 1];
 
 /// The value of each of these bits in its byte.

@@ -39,8 +39,8 @@ puts_front xs old new n same put =
     ∙ ap (λ l. xs ++ l) (ap (λ k. drop k new) (sym end) ∙ put.behind
     ∙ ap (λ k. drop k old) end)
 
--- the values at the ones of a word, written after others; where a list ends before an index, any
--- item of the lists is its default
+-- the values at the ones of a word, written after others; any item of the lists is a default for an
+-- index that is past their end
 pub puts_ones : {T : Type 0} (xs old new : List T) (w s end : ℕ) → length new ≡ length old
     → w < 2 ^ length xs → s + count_ones w ≤ length old → end ≡ s + count_ones w
     → ((d : T) → take end new ≡ take s old ++ map (λ i. get_or xs i d) (ones (length xs) w))

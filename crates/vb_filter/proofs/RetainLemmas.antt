@@ -105,7 +105,7 @@ module _ {T : Type 0} {mask : List Bool} {old mid : List T} {t len : ℕ}
   abbrev front : List T
   front = kept_by (take (64 * t) mask) (take (64 * t) old)
 
-  -- these are at most as many as the bits of those words
+  -- their number is at most that of the bits of those words
   few : length front ≤ 64 * t
   few = omega (
     arith,

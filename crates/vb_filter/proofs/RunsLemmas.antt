@@ -69,7 +69,7 @@ module _ (w a b rest n : ℕ) (some : a < b) (below : (i : ℕ) → i < a → ha
       ∙ ap (λ l. replicate b false ++ l) (ap (λ k. digits rest k (n - b)) place
       ∙ same_digits rest w b b (n - b) (λ i h. cut.kept (b + i) (omega arith) (omega arith)))
 
-  -- the word selects what the run selects, and then what it selects without the run
+  -- the word selects the values of the run, and then those at its other ones
   pub kept_run : {T : Type 0} (xs : List T) → length xs ≡ n
       → kept_by (digits w 0 n) xs
       ≡ take (b - a) (drop a xs) ++ kept_by (digits rest 0 n) xs
@@ -104,7 +104,7 @@ module _ (w a b rest n : ℕ) (some : a < b) (below : (i : ℕ) → i < a → ha
       ∙ ap (λ l. l ++ kept_by ends end) (kept_none b (take b xs)) in
       of_word ∙ ap (λ l. run ++ l) (sym of_rest)
 
-  -- its values number as many as the run is long, and those that it selects without the run
+  -- their number is the length of the run plus the number of the values at the other ones
   pub length-kept_run : {T : Type 0} (xs : List T) → length xs ≡ n
       → length (kept_by (digits w 0 n) xs) ≡ b - a + length (kept_by (digits rest 0 n) xs)
   length-kept_run xs same =

@@ -43,7 +43,7 @@ spread_by-append (true ∷ k) l [] =
 spread_by-append (true ∷ k) l (b ∷ bits) =
     rw (one_more k) (ap (λ m. b ∷ m) (spread_by-append k l bits))
 
--- a deposit uses as many bits as the mask has ones
+-- a deposit uses one bit for each one of the mask
 pub spread_by-take : (mask bits : List Bool) (n : ℕ) → count mask ≤ n
     → spread_by mask (take n bits) ≡ spread_by mask bits
 spread_by-take [] bits n few = refl

@@ -22,8 +22,8 @@ use vb_view::{BitBufferView, view_word};
 /// `values` must have one bit for each set bit of the mask. `out` must have `offset` bits and one
 /// more for each bit of the mask, and `offset` plus the length of the mask must fit in a `usize`.
 ///
-/// Processes 64 bits of the mask at a time, and writes a word at a time; at most 64 in all are one
-/// word. If none of 64 is true, it reads no values. Does not allocate.
+/// Processes 64 bits of the mask at a time, and writes a word at a time. If the mask has at most 64
+/// bits, it builds one word. If none of 64 is true, it reads no values. Does not allocate.
 pub fn deposit_into(
     out: &mut [u8],
     offset: usize,
@@ -47,7 +47,7 @@ pub fn deposit_into(
     }
 }
 
-/// [`deposit_into`] of a mask of at most 64 bits, by one word.
+/// Does [`deposit_into`] for a mask of at most 64 bits, by one word.
 fn deposit_few(out: &mut [u8], offset: usize, values: BitBufferView<'_>, mask: BitBufferView<'_>)
     requires few { length (bits_of mask) ≤ 64 }
     requires same_count { length (bits_of values) ≡ count (bits_of mask) }
@@ -60,7 +60,7 @@ fn deposit_few(out: &mut [u8], offset: usize, values: BitBufferView<'_>, mask: B
     write_digits(out, offset, total, word);
 }
 
-/// [`deposit_into`] of any number of bits, a word at a time.
+/// Does [`deposit_into`] for a mask of any length, a word at a time.
 fn deposit_many(out: &mut [u8], offset: usize, values: BitBufferView<'_>, mask: BitBufferView<'_>)
     requires same_count { length (bits_of values) ≡ count (bits_of mask) }
     requires room { InBytes out.old offset (length (bits_of mask)) }
@@ -81,8 +81,8 @@ fn deposit_many(out: &mut [u8], offset: usize, values: BitBufferView<'_>, mask: 
     write_pending(out, pending, offset + total);
 }
 
-/// Returns a word with the values from index `taken` on at the set bits among the `n` bits of the
-/// mask from index `start` on, and the number of these values.
+/// Returns a word with the values from index `taken` on, deposited at the set bits of a part of the
+/// mask: its `n` bits from index `start` on. Returns the number of these values too.
 #[inline(always)]
 fn spread_digits_of(
     values: BitBufferView<'_>,

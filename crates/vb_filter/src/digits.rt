@@ -14,8 +14,8 @@ use vb_walk::lowest_run;
 /// 0.
 ///
 /// Visits the ones of the mask if they are few, its runs of ones if these are long, else fields of
-/// four bits. From x86-64-v3 on the processor has an instruction for it (`pext`), which Rattle
-/// doesn't name.
+/// four bits. From x86-64-v3 on the processor has an instruction for it (`pext`), but Rattle
+/// doesn't offer it.
 #[inline(always)]
 pub(crate) fn pack_digits(word: u64, mask: u64) -> u64
     ensures kept { digits result 0 (count (digits mask 0 64))

@@ -25,8 +25,9 @@ const POWERS: [u8; 16] = [1, 2, 2, 4, 2, 4, 4, 8, 2, 4, 4, 8, 4, 8, 8, 16];
 /// 0.
 ///
 /// Within a field bits move down by one and then by two, as in the compress of Hacker's Delight. To
-/// join a field to the one below it, it multiplies it by 2 to the number of bits that the mask
-/// selects there. It has no branch on the mask, and each table is a vector of 16 entries.
+/// join a field to the one below it, multiplies the upper field by 2 to the number of bits that the
+/// mask selects in the lower one. It has no branch on the mask, and each table is a vector of 16
+/// entries.
 #[inline(always)]
 pub(crate) fn pack_fields(word: u64, mask: u64) -> u64
     ensures kept { digits result 0 (count (digits mask 0 64))
@@ -141,7 +142,7 @@ fn join_sixteens(kept: u32x4, powers: u32x4) -> u64x2
     kept + above * pair_sixteens(powers).0
 }
 
-/// Returns the lanes of even numbers, and those of odd ones, as lanes twice as wide.
+/// Returns the even-numbered lanes, and the odd-numbered ones, as lanes twice as wide.
 #[inline(always)]
 fn pair_fours(lanes: u8x16) -> (u16x8, u16x8)
     ensures { ArePairs lanes 8 result.0 result.1 }
@@ -150,7 +151,7 @@ fn pair_fours(lanes: u8x16) -> (u16x8, u16x8)
     (pairs & u16x8::splat(0xff), pairs >> u16x8::splat(8))
 }
 
-/// Returns the lanes of even numbers, and those of odd ones, as lanes twice as wide.
+/// Returns the even-numbered lanes, and the odd-numbered ones, as lanes twice as wide.
 #[inline(always)]
 fn pair_eights(lanes: u16x8) -> (u32x4, u32x4)
     ensures { ArePairs lanes 4 result.0 result.1 }
@@ -159,7 +160,7 @@ fn pair_eights(lanes: u16x8) -> (u32x4, u32x4)
     (pairs & u32x4::splat(0xffff), pairs >> u32x4::splat(16))
 }
 
-/// Returns the lanes of even numbers, and those of odd ones, as lanes twice as wide.
+/// Returns the even-numbered lanes, and the odd-numbered ones, as lanes twice as wide.
 #[inline(always)]
 fn pair_sixteens(lanes: u32x4) -> (u64x2, u64x2)
     ensures { ArePairs lanes 2 result.0 result.1 }

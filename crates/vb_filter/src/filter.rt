@@ -32,9 +32,9 @@ pub fn filter_into(out: &mut [u8], values: BitBufferView<'_>, mask: BitBufferVie
 /// Writes the bits whose bit in the mask is true, in order, to `out` from bit `offset` on, and
 /// returns their number. All other bits of `out` keep their values.
 ///
-/// The mask must be as long as the bits. The selected bits must fit in `out` after bit `offset`,
-/// and `offset` plus their number in a `usize`. Stores no byte after that of the last selected bit,
-/// and before bit `offset` at most the eight bytes of its word. Does not allocate. Works as
+/// The mask must be as long as the bits. The selected bits must fit in `out` from bit `offset` on,
+/// and `offset` plus their number must fit in a `usize`. Stores no byte after that of the last
+/// selected bit, and at most eight before that of bit `offset`. Does not allocate. Works as
 /// [`filter_into`] does, 64 bits at a time.
 pub fn filter_into_at(
     out: &mut [u8],
@@ -52,9 +52,8 @@ pub fn filter_into_at(
     filter_behind(out, pending, offset, values, mask)
 }
 
-/// Returns the bits whose bit in the mask is true, in order, as the lowest digits of a word, whose
-/// other digits are 0, and their number. The mask must be as long as the bits, at most 64. Reads
-/// both windows once.
+/// Returns the selected bits, in order, as the lowest digits of a word, and their number. The other
+/// digits are 0. The mask must be as long as the bits, at most 64. Reads each window at most once.
 pub fn filter_word(values: BitBufferView<'_>, mask: BitBufferView<'_>) -> (u64, usize)
     requires few { length (bits_of mask) ≤ 64 }
     requires same_len { length (bits_of values) ≡ length (bits_of mask) }
@@ -99,8 +98,8 @@ fn filter_behind(
     end - offset
 }
 
-/// Appends the selected ones of the `n` bits from index `start` on to the `len` bits written so
-/// far. Returns the word that is pending then, and the number of bits written then.
+/// Appends bits to the `len` bits written so far: those that the mask selects of the `n` bits from
+/// index `start` on. Returns the word that is pending then, and the number of bits written then.
 ///
 /// If the mask selects none, one test is enough: a mask that selects few bits selects none in most
 /// words.

@@ -13,8 +13,8 @@ use std::simd::prelude::*;
 use vb_core::Element;
 use vb_view::BitBufferView;
 
-/// For each mask of four elements, the numbers of the bytes that it selects from their 16, and then
-/// 0.
+/// For each mask of four elements of four bytes, the indices of the selected bytes among the 16,
+/// and then zeros.
 static KEPT_BYTES: [[u8; 16]; 16] = [
     [0, 0, 0, 0, 0, 0, 0, 0, 0, 0, 0, 0, 0, 0, 0, 0],
     [0, 1, 2, 3, 0, 0, 0, 0, 0, 0, 0, 0, 0, 0, 0, 0],
@@ -34,7 +34,7 @@ static KEPT_BYTES: [[u8; 16]; 16] = [
     [0, 1, 2, 3, 4, 5, 6, 7, 8, 9, 10, 11, 12, 13, 14, 15],
 ];
 
-/// The most elements of a word that are faster one by one.
+/// The most selected elements of 64 for which one by one is faster than four at once.
 const SINGLE_ELEMENTS: usize = 16;
 
 /// Writes the elements whose bit of the mask is true, in order, to the front of `out`, and returns
@@ -42,9 +42,9 @@ const SINGLE_ELEMENTS: usize = 16;
 ///
 /// The mask must have one bit for each value, and `out` one item for each set bit of the mask.
 /// Processes 64 bits at a time, as [`filter_values_into`](crate::filter_values_into) does. Moves
-/// elements of four bytes four at once, by a shuffle of their bytes, if more than a few of 64 are
-/// selected, but not all, and `out` has four items more: it overwrites these four and restores
-/// them. Does not allocate.
+/// four elements of four bytes at once, by a shuffle of their bytes, if more than 16 of 64 are
+/// selected, but not all, and at least four items of `out` follow the written ones: it overwrites
+/// the four and restores them. Does not allocate.
 pub fn filter_elements_into<T: Element>(
     out: &mut [T],
     values: &[T],
@@ -195,7 +195,7 @@ fn put_four<T: Element>(out: &mut [T], len: usize, values: &[T], keep: u64)
     write_four(out, len, kept);
 }
 
-/// Returns those of four elements whose bit of `keep` is 1, and then any elements.
+/// Returns the elements whose bit of `keep` is 1, filled up to four with any elements.
 #[inline(always)]
 fn keep_four<T: Element>(four: (T, T, T, T), keep: u64) -> (T, T, T, T)
     requires size { T.SIZE ≡ 4 }
@@ -215,8 +215,8 @@ fn keep_four<T: Element>(four: (T, T, T, T), keep: u64) -> (T, T, T, T)
 
 /// Returns the bytes of four elements, and shows that each of these is in its type.
 ///
-/// It takes them as words, which the compiler loads as one vector; bytes written next to each other
-/// it doesn't.
+/// It takes them as words: the compiler loads four words as one vector, but not 16 bytes that are
+/// written next to each other.
 #[inline(always)]
 fn bytes_of_four<T: Element>(four: (T, T, T, T)) -> u8x16
     requires size { T.SIZE ≡ 4 }

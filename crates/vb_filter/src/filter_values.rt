@@ -37,7 +37,7 @@ pub(crate) trait PutWord<T> {
             out.old out.new };
 }
 
-/// [`put_word`].
+/// Writes the values by [`put_word`].
 struct OneByOne;
 
 impl<T: Copy> PutWord<T> for OneByOne {
@@ -47,7 +47,7 @@ impl<T: Copy> PutWord<T> for OneByOne {
     }
 }
 
-/// Does [`filter_values_into`], by the way `W`.
+/// Does [`filter_values_into`], and writes the values of each word by `W`.
 #[inline(always)]
 pub(crate) fn filter_words<T: Copy, W: PutWord<T>>(
     out: &mut [T],

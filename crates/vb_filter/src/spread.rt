@@ -7,12 +7,12 @@ use crate::spread_table::SPREAD;
 use vb_bits::low_digits;
 use vb_walk::lowest_run;
 
-/// Returns the lowest bits of `word`, in order, where `mask` has a 1, and 0 elsewhere. It uses as
-/// many bits as the mask has ones.
+/// Returns a word with the lowest bits of `word`, in order, at the ones of `mask`, and 0 elsewhere.
+/// It uses one bit of `word` for each one of the mask.
 ///
 /// Visits the ones of the mask if they are few, its runs of ones if these are long, else six bits
-/// at a time. From x86-64-v3 on the processor has an instruction for it (`pdep`), which Rattle
-/// doesn't name.
+/// at a time. From x86-64-v3 on the processor has an instruction for it (`pdep`), but Rattle
+/// doesn't offer it.
 #[inline(always)]
 pub(crate) fn spread_digits(word: u64, mask: u64) -> u64
     ensures { digits result 0 64 ≡ spread_by (digits mask 0 64) (digits word 0 64) }

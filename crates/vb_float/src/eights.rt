@@ -1,7 +1,7 @@
 //! 64 values of `f64`, compared eight at a time.
 //!
-//! From one comparison of 64 the compiler builds code that tests each result again before it makes
-//! a bit of it; from a comparison of eight it doesn't.
+//! For a comparison of 64 values at once the compiler builds code that tests each result again
+//! before it becomes a bit; for eight values it doesn't.
 ghost use Rattle.std.specs.Prelude.{◌≡◌, ◌^◌, ◌<◌, Bool, length};
 ghost use Rattle.std.specs.Simd.Lanes.{zip2};
 ghost use Rattle.vb_bits.specs.Digits.{digits};

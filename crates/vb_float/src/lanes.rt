@@ -19,7 +19,7 @@ pub trait FloatLanes: Copy {
     // The values of a block, in order.
     ghost floats: { Self.Block → List Float };
 
-    /// Returns the first 64 values, of which there must be so many.
+    /// Returns the first 64 values. There must be at least 64.
     fn load(values: &[Self]) -> Self::Block
         requires { 64 ≤ length values.now }
         ensures { floats result ≡ map float (take 64 values.now) };

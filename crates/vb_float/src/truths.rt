@@ -1,7 +1,7 @@
 //! The results of a comparison of floats, one or 64 at a time.
 //!
-//! [`FloatLanes`] computes a word for `f64` too: the compiler builds no vectors from comparisons of
-//! single floats, as it does from those of single whole numbers.
+//! [`FloatLanes`] computes words for `f64` too, unlike `vb_compare` for whole numbers of 64 bits:
+//! the compiler builds vectors from comparisons of single whole numbers, but not of single floats.
 ghost use Rattle.std.specs.Prelude.{◌≡◌, length, map};
 ghost use Rattle.std.specs.Simd.Lanes.{zip2};
 

@@ -22,8 +22,8 @@ use vb_view::BitBufferView;
 /// Compares each value with `number`, and returns a set with one bit for each value: true if `value
 /// op number` holds. The set has offset 0 and as few bytes as hold the bits.
 ///
-/// A `validity`, if there is one, must have the length of `values`. Where it is false, the value is
-/// null and the bit is false.
+/// A `validity`, if there is one, must have the length of `values`. If its bit for a value is
+/// false, the value is null, and the bit of the set is false.
 ///
 /// Returns `OutOfMemory` if memory runs out. Allocates with `alloc`: the bytes before the first
 /// comparison, and the count of owners after the last one.
@@ -167,7 +167,8 @@ fn write_compared_with<T: CompareLanes>(
     clear_nulls(out, values.len(), validity);
 }
 
-/// Sets those of the first `len` bits to false that are false in a validity of the same length.
+/// Sets each of the first `len` bits to false if its bit of the validity is false. A validity must
+/// have `len` bits.
 fn clear_nulls(out: &mut [u8], len: usize, validity: Option<BitBufferView<'_>>)
     requires room { len ≤ 8 * length out.old }
     requires validity { ForSome validity (λ v. length (bits_of v) ≡ len) }

@@ -38,7 +38,7 @@ pub trait Deposit: Sized {
         ensures { GivesFiltered (length (bits self.now)) (count (bits_of mask.entry))
             (deposits (bits_of mask.entry) (bits self.now)) result };
 
-    /// Returns this set with some of its true bits cleared: bit `k` of `kept` tells whether the
+    /// Returns this set with some of its true bits cleared: bit `k` of `kept` indicates whether the
     /// true bit of rank `k` stays. So a filter of the rows that an earlier filter selected becomes
     /// a filter of all rows.
     ///

@@ -19,18 +19,18 @@ pub trait Filter: Sized {
     ghost keeps: { Self → List Bool → Self → Type 0 };
 
     /// Returns a copy of the values whose bit in the mask is true, in order. A buffer has the
-    /// alignment that this one reports; its items, if any, are at the start of a storage that is
-    /// declared with 256 bytes, or with that alignment if it is greater. A set has offset 0 and as
-    /// few bytes as hold its bits.
+    /// alignment that this one reports; its items, if any, are at the start of a storage whose
+    /// declared alignment is 256 bytes, or the reported one if that is greater. A set has offset 0
+    /// and as few bytes as hold its bits.
     ///
     /// Returns `LengthMismatch`, with the number of values as `left` and the length of the mask as
     /// `right`, exactly if they differ, before it allocates. Otherwise it returns `OutOfMemory` if
     /// memory runs out. Allocates with this buffer's or set's allocator: once for the selected
     /// values, if any, and once for the count of owners.
     ///
-    /// The time is linear in the length of the mask and the number of selected values. Where 64
-    /// bits of the mask from a multiple of 64 on are all true, the items of a buffer are copied as
-    /// one block.
+    /// The time is linear in the length of the mask and the number of selected values. If 64 bits
+    /// of the mask from a multiple of 64 on are all true, the call copies these 64 items of a
+    /// buffer as one block.
     ///
     /// ```rust
     /// let values = Buffer::copy_from(alloc, &[7u32, 0, 9, 4])?;

@@ -17,8 +17,8 @@ use vb_view::BitBufferView;
 /// Returns the bits of `bits` at the indices, one for each index, as a set of offset 0 in as few
 /// bytes as hold them.
 ///
-/// A `validity`, if there is one, must have the length of `indices`. Where it is false, the new bit
-/// is false, and the call ignores the index.
+/// A `validity`, if there is one, must have the length of `indices`. If its bit for an index is
+/// false, the new bit is false, and the call ignores the index.
 ///
 /// Returns `TakeOutOfRange` with the first position whose index is not ignored and is negative or
 /// not below the length of `bits`, or `OutOfMemory` if memory runs out. Allocates with `alloc`: the
@@ -54,8 +54,8 @@ pub trait Take: Sized {
     /// Returns the values at the indices, one for each index, in new storage: a buffer with the
     /// alignment that this one reports, or a set of offset 0 in as few bytes as hold its bits.
     ///
-    /// A `validity`, if there is one, must have the length of `indices`. Where it is false, the new
-    /// value is 0 or a false bit, and the call ignores the index.
+    /// A `validity`, if there is one, must have the length of `indices`. If its bit for an index is
+    /// false, the new value is 0 or a false bit, and the call ignores the index.
     ///
     /// Returns `TakeOutOfRange` with the first position whose index is not ignored and out of
     /// range, or `OutOfMemory` if memory runs out. Allocates with this buffer's or set's allocator:

@@ -9,7 +9,7 @@ use Rattle.std.proofs.lemmas.List.Sums.{fold-append}
 use Rattle.vb_group.specs.Groups.{values_of, AddsRows}
 
 module _ {C V : Type 0} (number : C → ℤ) where
-  -- the values of a group, of two lists of rows
+  -- the values of a group in two lists of rows, one after the other
   pub values_of-append : (g : ℕ) (xs ys : List (C × V))
       → values_of number g (xs ++ ys) ≡ values_of number g xs ++ values_of number g ys
   values_of-append g xs ys =

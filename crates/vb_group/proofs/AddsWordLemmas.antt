@@ -19,7 +19,7 @@ module _ {C V T : Type 0} (number : C → ℤ) (plus : T → V → T) (is_total 
 
   module _ (state : List T) (mask : List Bool) (codes : List C) (values : List V)
       (same : length values ≡ length codes) (of_codes : length mask ≡ length codes) where
-    -- the rows of n more
+    -- the selected rows of n more bits of the mask
     pub rows_more : (a n keep : ℕ) (next : List T) (good : Bool) (some_codes : List C)
         (some_values : List V)
         → a + n ≤ length mask → digits keep 0 n ≡ slice_range mask a (a + n)
@@ -50,7 +50,7 @@ module _ {C V T : Type 0} (number : C → ℤ) (plus : T → V → T) (is_total 
         (kept_by (digits keep 0 (length (slice_range rows a (a + n)))) (slice_range rows a (a + n)))
         true good h word) so_far
 
-    -- what the first rows have added
+    -- the totals after the first rows
     pub rows_front : (a : ℕ) (good : Bool)
         → TakesFront ShowsRows (start, true) (state, good) mask (zip codes values) a
         → TriesRows number plus is_total skips start state

@@ -21,7 +21,7 @@ pub selected_twice : {C : Type 0} (mask : Option (List Bool)) (codes : List C)
 selected_twice None codes = refl
 selected_twice (Some mask) codes = kept_twice mask codes
 
--- a row more in both lists, or none
+-- one more row in both lists, or none
 split : {C : Type 0} (b : Bool) (c : C) (rows : List (C × C)) (codes : List C)
     → map (λ row. row.1) rows ≡ codes
     → map (λ row. row.1) (cond b ((c, c) ∷ rows) rows) ≡ cond b (c ∷ codes) codes
@@ -45,7 +45,7 @@ counted n (x ∷ xs) =
     let rest = counted ((n + 1) % 2 ^ 64) xs in
     rest ∙ omega arith
 
--- a fact of a result that is no error leads to another one
+-- a fact about an `Ok` result leads to another one
 pub if_ok : {A E : Type 0} (P Q : Type 0) (r : Result A E) → (P → Q) → IfOk r (λ _. P)
     → IfOk r (λ _. Q)
 if_ok P Q (Ok a) leads fact = leads fact

@@ -42,7 +42,7 @@ module _ {V T : Type 0} (plus minus : T → V → T) (is_total : T → Type 0)
       ∙ taken_back (values_of number g rows) (get_or start g d)
       (λ some. added.in_type g d (omega (arith, inside, long)) some))
 
--- an addition that skips rows leaves none out
+-- an addition that passes over rows without a total never stops early
 pub all_taken : {C V T : Type 0} (minus : T → V → T) (is_total : T → Type 0) (number : C → ℤ)
     (old new : List T) (rows : List (C × V)) (few : ℕ → List (C × V)) (rest : Option ℕ)
     → IfNone rest (TriesRows number minus is_total true old new rows true)
@@ -52,7 +52,7 @@ all_taken minus is_total number old new rows few None all front = all.adds
 all_taken minus is_total number old new rows few (Some n) all front =
     absurd (false≢true (front.passes refl))
 
--- at most n of anything that has a length of k
+-- if n is at most k, it is at most the length of a mask of length k
 pub no_more : {M : Type 0} (len : M → ℕ) (n k : ℕ) → n ≤ k → (mask : Option M)
     → ForSome mask (λ m. len m ≡ k) → ForSome mask (λ m. n ≤ len m)
 no_more len n k within mask same = λ m is. let long = same m is in omega (arith, within, long)

@@ -4,7 +4,7 @@ use Rattle.std.proofs.Common.{◌∷◌, length, get_or, take, drop, refl, ap, �
 use Rattle.std.specs.List.{zip}
 use Rattle.std.specs.Prelude.{slice_range}
 
--- as many rows as codes
+-- one row for each code
 pub length-zip : {C V : Type 0} (codes : List C) (values : List V)
     → length values ≡ length codes → length (zip codes values) ≡ length codes
 length-zip [] values same = refl

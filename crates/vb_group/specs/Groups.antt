@@ -24,7 +24,7 @@ IsGroup n code = (pos 0 ≤ℤ code) × (code <ℤ pos n)
 abbrev pub codes_of : {C : Type 0} → (C → ℤ) → ℕ → List C → List C
 codes_of number g codes = filter (λ code. int_eq (number code) (pos g)) codes
 
--- of rows, each a code and a value, the values of those whose code is g
+-- the values of the rows whose code is g; a row is a code and a value
 abbrev pub values_of : {C V : Type 0} → (C → ℤ) → ℕ → List (C × V) → List V
 values_of number g rows =
     map (λ row. row.1) (filter (λ row. int_eq (number row.0) (pos g)) rows)
@@ -36,8 +36,8 @@ pub record AddsRows {C V T : Type 0} (number : C → ℤ) (plus : T → V → T)
   pub each : (g : ℕ) (d : T) → g < length old → slice_index_or new g d
       ≡ fold plus (slice_index_or old g d) (values_of number g rows)
 
--- the rows with the code of a group are added to the totals; each total that one is added to was in
--- its type; `good` is whether all rows have one, but for additions that skip rows
+-- the rows with the code of a group are added to the totals, and each total that gets a value was
+-- in its type; `good` is whether each row has a group, and always true for additions that skip rows
 pub record TriesRows {C V T : Type 0} (number : C → ℤ) (plus : T → V → T) (is_total : T → Type 0)
     (skips : Bool) (old new : List T) (rows : List (C × V)) (good : Bool) : Type 0 where
   pub adds : AddsRows number plus old new rows

@@ -11,8 +11,8 @@ use crate::widen::Widen;
 use vb_aggregate::Summand;
 use vb_view::BitBufferView;
 
-/// Adds to each count the number of selected rows whose code is its index: to `counts[c]` those
-/// with the code `c`. A count wraps around at 2^64.
+/// Adds to each `counts[c]` the number of selected rows with the code `c`. A count wraps around at
+/// 2^64.
 ///
 /// Without a `mask` each row is selected; a `mask` must have one bit for each code. Returns
 /// `Err(row)` for the first selected row whose code is negative or not below the number of counts;
@@ -36,9 +36,9 @@ pub fn group_counts<C: Summand>(
     add_or_undo::<C, C, Count>(counts, codes, codes, mask)
 }
 
-/// Adds each selected value to the sum of its group: to `sums[c]` the values of the rows with the
-/// code `c`, in order. The sums of values of at most 64 bits are of 64 bits, and wrap around at the
-/// end of their type: `u64` for unsigned values, `i64` for signed ones.
+/// Adds each selected value, in order, to `sums[c]`, where `c` is the code of its row. The values
+/// have at most 64 bits. The sums have 64 bits, and wrap around at the end of their type: `u64` for
+/// unsigned values, `i64` for signed ones.
 ///
 /// There must be one value for each code. Without a `mask` each row is selected; a `mask` must have
 /// one bit for each code. Returns `Err(row)` for the first selected row whose code is negative or

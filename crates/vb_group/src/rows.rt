@@ -11,9 +11,9 @@ use crate::addition::{Addition, add_row};
 use vb_core::BitIndex;
 use vb_view::{BitBufferView, view_word};
 
-/// Adds the selected rows up to the first 64 of them with a code that has no total. Returns how
-/// many rows that are, these 64 included, of which those with a total are added; `None` if each
-/// selected row has a total.
+/// Adds the selected rows that have a total, in order. If a selected row has none, and the addition
+/// doesn't pass over such rows, it stops: without a mask after that row, with a mask after the word
+/// of the mask that has the row. Returns the number of rows up to there; `None` if it did not stop.
 pub(crate) fn add_selected<C: BitIndex, V: Copy, A: Addition<V>>(
     totals: &mut [A::Total],
     codes: &[C],
@@ -98,8 +98,8 @@ fn add_each<C: BitIndex, V: Copy, A: Addition<V>>(
     None
 }
 
-/// Adds those of at most 64 rows whose bit of `keep` is 1. Passes over rows without a total;
-/// returns whether there is none, as [`add_row`] does.
+/// Calls [`add_row`] for each row whose bit of `keep` is 1, and returns whether all calls return
+/// true. There must be at most 64 rows.
 #[inline(always)]
 fn add_word<C: BitIndex, V: Copy, A: Addition<V>>(
     totals: &mut [A::Total],
@@ -167,8 +167,8 @@ fn add_ones<C: BitIndex, V: Copy, A: Addition<V>>(
     good
 }
 
-/// Returns whether both are true. As a function with a branch it leaves the compiler no reason to
-/// compute the second one for each row.
+/// Returns whether both are true. The branch gives the compiler no reason to compute the second one
+/// for each row.
 #[inline(always)]
 fn both(first: bool, second: bool) -> bool
     ensures { result ≡ (first && second) }

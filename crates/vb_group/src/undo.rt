@@ -44,7 +44,7 @@ pub(crate) fn add_or_undo<C: BitIndex, V: Copy, A: Reversible<V>>(
     }
 }
 
-/// Takes back what [`add_selected`] has added, of the same rows.
+/// Undoes [`add_selected`] on the same rows.
 fn take_back<C: BitIndex, V: Copy, A: Reversible<V>>(
     totals: &mut [A::Total],
     codes: &[C],

@@ -24,7 +24,7 @@ pub trait WrappingMinus: Summand {
 
 /// A whole number of at most 64 bits. The ten whole-number types of at most 64 bits implement it.
 pub trait Widen: Summand {
-    /// The type of 64 bits with the same sign: `u64` or `i64`.
+    /// The 64-bit type of the same signedness: `u64` or `i64`.
     type Wide: WrappingMinus;
 
     /// Returns the same number in 64 bits.

@@ -58,8 +58,8 @@ length-truths f l v h =
     (sym (long_validity f v (length l) h))
 
 -- ---- `and` and `or`
--- f combines which of both sides are true to which results are true, and g which are false to which
--- are false; the result of two values that aren't null isn't null
+-- from the true values of both sides, f gives the true results; from the false values, g gives the
+-- false ones; the result of two values that aren't null isn't null
 pub record CombinedBy (op : Option Bool → Option Bool → Option Bool) (f g : Bool → Bool → Bool)
     : Type 0 where
   pub trues : (a b : Option Bool) → f (is_truth true a) (is_truth true b) ≡ is_truth true (op a b)

@@ -1,8 +1,8 @@
 //! Truth values that may be null, combined a word at a time.
 //!
-//! The results that are true are `T` of the sides' true ones, and those that are false are `F` of
-//! their false ones: `and` is `And` and `Or`, and `or` is `Or` and `And`. A result that is neither
-//! is null.
+//! `T` computes which results are true, from which values of both sides are true; `F` computes
+//! which are false, from which values are false. For `and`, `T` is `And` and `F` is `Or`; for `or`,
+//! `T` is `Or` and `F` is `And`. A result that is neither is null.
 ghost use Rattle.std.specs.Prelude.{◌≡◌, ◌+◌, ◌*◌, ◌≤◌, length, slice_range};
 ghost use Rattle.vb_kleene.specs.Combined.{column, trues_by, valid_by};
 ghost use Rattle.vb_kleene.specs.Digits.{digits, lane_bits};
@@ -35,7 +35,8 @@ pub(crate) fn block<T: Merge, F: Merge>(
     (trues, Or::words(trues, F::words(left_falses, right_falses)))
 }
 
-/// Returns the same for the `n` truth values from index `at` on, as the lowest bits of two words.
+/// Returns which results are true, and which aren't null, for the `n` truth values from index `at`
+/// on, as the lowest bits of two words.
 #[inline(always)]
 pub(crate) fn word<T: Merge, F: Merge>(
     left: &Column<'_>,

@@ -15,17 +15,17 @@ use vb_view::BitBufferView;
 
 /// Writes `left and right` of truth values that may be null, by three-valued logic (Kleene's, as in
 /// SQL): false if one of the two is false, even if the other one is null; else null if one is null;
-/// else true. Writes two bits for each pair: whether the result is true to the bits of `trues` from
-/// bit `trues_offset` on, with false at nulls, and whether it isn't null to the bits of `valid`
-/// from bit `valid_offset` on. No other bit changes.
+/// else true. Writes two bits for each pair: whether the result is true, with false at nulls, to
+/// `trues` from bit `trues_offset` on; and whether it isn't null, to `valid` from bit
+/// `valid_offset` on. No other bit changes.
 ///
 /// A value is null if its bit of the validity is false; without a validity no value is. `right` and
 /// both validities must be as long as `left`. Both windows that are written must be in their bytes,
 /// and their ends must fit in a `usize`. The bits of `left` and `right` at nulls are ignored.
 ///
-/// Reads the bits once, four words at a time, at any offsets. Copies the results in blocks to a
-/// window that doesn't begin with a byte. Without validities it combines only the values. Does not
-/// allocate.
+/// Reads the bits once, four words at a time, at any offsets. If a window that is written doesn't
+/// begin at a byte boundary, it copies the results in blocks. Without validities it combines only
+/// the values. Does not allocate.
 pub fn and_kleene_into(
     trues: &mut [u8],
     trues_offset: usize,

@@ -15,12 +15,12 @@ use vb_bits::{Merge, copy_bits, write_digits, write_word};
 use vb_view::BitBufferView;
 
 /// The number of blocks of 256 truth values that are computed before they are copied to a window
-/// that doesn't begin with a byte: enough that the call of the copy costs little, and few enough
-/// that clearing their bytes does too.
+/// that doesn't begin at a byte boundary. It is large enough that the call of the copy costs
+/// little, and small enough that clearing the bytes of the blocks costs little.
 const COPIED: usize = 16;
 
-/// Writes which results are true to the bits of `trues` from bit `t` on, and which aren't null to
-/// the bits of `valid` from bit `v` on. Every other bit is unchanged.
+/// Writes two bits for each result: whether it is true, to `trues` from bit `t` on; and whether it
+/// isn't null, to `valid` from bit `v` on. Every other bit is unchanged.
 pub(crate) fn write_combined<T: Merge, F: Merge>(
     trues: &mut [u8],
     t: usize,
@@ -85,7 +85,7 @@ pub(crate) fn write_few<T: Merge, F: Merge>(
 }
 
 /// Does [`write_combined`] for the first `256 * n` truth values. If one of the two windows doesn't
-/// begin with a byte, computes them in bytes of its own and copies these.
+/// begin at a byte boundary, computes them in bytes of its own and copies these.
 fn write_blocks<T: Merge, F: Merge>(
     trues: &mut [u8],
     t: usize,
@@ -123,9 +123,8 @@ fn write_blocks<T: Merge, F: Merge>(
     }
 }
 
-/// Writes which results are true to the bytes of `trues` from byte `t` on, and which aren't null to
-/// the bytes of `valid` from byte `v` on, for the `256 * n` truth values from index `256 * first`
-/// on.
+/// Writes two bits for each of the `256 * n` results from index `256 * first` on: whether it is
+/// true, to `trues` from byte `t` on; and whether it isn't null, to `valid` from byte `v` on.
 fn fill_blocks<T: Merge, F: Merge>(
     trues: &mut [u8],
     t: usize,
@@ -219,8 +218,8 @@ fn write_part<T: Merge, F: Merge>(
 
 /// Writes the `n` lowest bits of `word` to the bits from bit `at` on.
 ///
-/// 64 bits from the first bit of a byte on are stored without a load and a mask, which would take a
-/// tenth of the instructions for 64 truth values.
+/// Stores 64 bits that begin at a byte boundary without a load and a mask; these would take a tenth
+/// of the instructions for 64 truth values.
 #[inline(always)]
 fn write_results(out: &mut [u8], at: usize, n: usize, word: u64)
     requires in_word { n ≤ 64 }

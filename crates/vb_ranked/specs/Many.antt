@@ -6,8 +6,8 @@ use Rattle.vb_bits.specs.Bits.{Selects, InvertsCount}
 use Rattle.vb_core.specs.declared.error.BufferError.{BufferError}
 use Rattle.vb_core.specs.declared.error.BufferError.TheVariants.{LengthMismatch}
 
--- if there are as many indices as ranks, each is the index of the true bit of its rank. Otherwise
--- the call returns `LengthMismatch` with both lengths, and the indices do not change
+-- if the numbers of indices and ranks are equal, each is the index of the true bit of its rank.
+-- Otherwise the call returns `LengthMismatch` with both lengths, and the indices do not change
 pub record FindsMany (l : List Bool) (ranks : List ℕ) (old new : List (Option ℕ))
     (result : Result (Unit {0}) BufferError) : Type 0 where
   pub places : IfOk result (λ _. AllZip (Selects l) ranks new)

@@ -19,8 +19,8 @@ use vb_set::{BitBufferMut, Result};
 /// counts are unchanged then.
 ///
 /// This function is out of line, since few bits need it: so `append` saves no registers for the
-/// calls in here. It returns a `bool` and no error, for which a caller's loop would clear a stack
-/// slot at each bit.
+/// calls in here. It returns a `bool` instead of an error: for an error a caller's loop would clear
+/// a stack slot at each bit.
 #[cold]
 #[inline(never)]
 pub(crate) fn make_ready<A: Allocator + Clone>(

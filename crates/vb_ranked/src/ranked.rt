@@ -55,8 +55,8 @@ impl<A: Allocator + Clone> Ranked<A> {
     /// Builds the counts of a set and returns both. Allocates once for the counts; does not
     /// allocate for a set without bits. The counts get space for all bits of the set's
     /// [`capacity`](BitBufferMut::capacity): 8 bytes for up to 512 bits, 2 bytes for each further
-    /// 512 bits, and 6 bytes more at each multiple of 65,536 bits that more bits follow. Returns
-    /// `OutOfMemory` if memory runs out, and drops the set then.
+    /// 512 bits, and 6 bytes more for each further 65,536 bits. Returns `OutOfMemory` if memory
+    /// runs out, and drops the set then.
     ///
     /// ```rust
     /// let set = BitBufferMut::from_indices(alloc, 1000, [7, 700])?;

@@ -39,9 +39,8 @@ impl<A: Allocator + Clone> Model for RankedBuffer<A> {
 impl<A: Allocator + Clone> RankedBuffer<A> {
     /// Builds the counts of a set and returns both. Counts the bits once and does not copy them.
     /// Allocates once for the counts: 8 bytes for up to 512 bits, 2 bytes for each further 512
-    /// bits, and 6 bytes more at each multiple of 65,536 bits that more bits follow; does not
-    /// allocate for a set without bits. Returns `OutOfMemory` if memory runs out, and drops this
-    /// owner of the set then.
+    /// bits, and 6 bytes more for each further 65,536 bits; does not allocate for a set without
+    /// bits. Returns `OutOfMemory` if memory runs out, and drops this owner of the set then.
     pub fn new(alloc: A, set: BitBuffer<A>) -> Result<Self>
         ensures set { IfOk result (λ r. r ≡ set) }
         ensures refused { IsOkUnless result BufferError.OutOfMemory }

@@ -39,8 +39,8 @@ pub(crate) fn make_room<A: Allocator + Clone>(
     ask_for_room(set, counts, 1)
 }
 
-/// Does the work of [`make_room`] for a set without bits. Most of these have no capacity either,
-/// and get the least capacity of a set that grows, by numbers known at compile time.
+/// Does the work of [`make_room`] for a set without bits. Most of these have no capacity either:
+/// they get the least capacity of a set that grows, and both sizes are known at compile time.
 #[inline(always)]
 pub(crate) fn make_first_room<A: Allocator + Clone>(
     set: &mut BitBufferMut<A>,
@@ -100,7 +100,7 @@ pub(crate) fn make_room_for<A: Allocator + Clone>(
 }
 
 /// Does the work of [`make_room_for`] for at least one bit if the set is too full or has no bits.
-/// Does not allocate counts that have the space already, as they have after each growth.
+/// Does not allocate for the counts if they already have the space, as after each growth.
 ///
 /// A set that is too full gets at least twice the bytes, so that a bit takes amortized constant
 /// time. The call allocates the counts first, so that the capacity of the set does not change if

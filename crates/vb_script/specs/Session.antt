@@ -91,13 +91,14 @@ count_ended bytes = count_by (λ b. b == 10) bytes
 abbrev pub ended_lines : List ℕ → List (List ℕ)
 ended_lines bytes = take (count_ended bytes) (lines bytes)
 
--- the session read the input up to `rest`, and answered all lines that end in what it read
+-- the session read the input up to `rest`, and answered all lines that end in the bytes that it
+-- read
 abbrev pub AnswersEnded : List ℕ → List ℕ → Option (List ℕ) → Option (List ℕ) → Type 0
 AnswersEnded input rest old new =
     (bytes : List ℕ) × (input ≡ bytes ++ rest) × AnswersLines (ended_lines bytes) old new
 
 -- the session read the input up to `rest`, and answered the first `number` of the lines that end in
--- what it read. If the next line ends there too, its command needs memory to be read
+-- the bytes that it read. If the next line ends there too, parsing its command allocates
 pub record AnswersSome (input rest : List ℕ) (old new : Option (List ℕ)) : Type 0 where
   pub bytes : List ℕ
   pub front : input ≡ bytes ++ rest
@@ -117,7 +118,7 @@ SessionEnds (Err Read) input rest old new = AnswersEnded input rest old new
 SessionEnds (Err Write) input rest old new = Unit {0}
 SessionEnds (Err Memory) input rest old new = AnswersSome input rest old new
 
--- the same for an input that tells its bytes
+-- the same for an input that reports its bytes
 abbrev pub EndsIfKnown : {X : Type 0} → Result X DriveError → Option (List ℕ) → Option (List ℕ)
     → Option (List ℕ) → Option (List ℕ) → Type 0
 EndsIfKnown r remaining remaining' old new = IfSome remaining (λ input.

@@ -23,18 +23,18 @@ use std::alloc::{AllocError, Allocator};
 /// most twice the longest line, and once for 65536 bytes of answers. It does not allocate to print
 /// answers.
 ///
-/// A stream tells its bytes if `R.remaining` or `W.contents` is `Some`, as for a slice and a
-/// vector. Clause `ends` states how the session ended, for a source that tells its bytes. Clause
-/// `ran` states, for any source and a sink that tells its bytes, that the session wrote the answers
-/// of some commands, run from empty slots on. For a sink that does not tell its bytes, no clause
-/// states what was written.
+/// A stream reports its bytes if `R.remaining` or `W.contents` is `Some`, as for a slice and a
+/// vector. Clause `ends` states how the session ended, for a source that reports its bytes. Clause
+/// `ran` states, for any source and a sink that reports its bytes, that the session wrote the
+/// answers of some commands, run from empty slots on. For a sink that does not report its bytes, no
+/// clause states what was written.
 ///
 /// A line that is blank or a comment has no command and no answer. A line has ended once its line
 /// feed was read.
 ///
 /// - `Ok`: the input ended, and each line with a command was answered.
-/// - `Unreadable`: this line cannot be read, or its number is `usize::MAX`, and it had no effect;
-///   the lines before it were answered.
+/// - `Unreadable`: this line cannot be read, or its number is `u64::MAX`, and it had no effect; the
+///   lines before it were answered.
 /// - `Read`: a read failed, and the source's count of faults is one more; all lines that had ended
 ///   were answered.
 /// - `Write`: a write failed, and the sink's count of faults is one more; no clause states what was
@@ -55,7 +55,8 @@ pub fn drive<A: Allocator + Clone, R: Source, W: Sink>(
 {
     let (mut session, mut feed, mut out) = begin(alloc).map_err(|_| DriveError::Memory)?;
     let ended = answer_all(&mut session, &mut feed, &mut out, input, output);
-    // This is a call, since the end of a block takes ten times as long to prove.
+    // An explicit `drop`, since proving the implicit one at the end of the block takes ten times as
+    // long.
     drop((session, feed, out));
     ended
 }

@@ -13,7 +13,7 @@ use crate::source::Source;
 use std::alloc::Allocator;
 
 /// Reads until a whole line has come. Returns the index of its line feed, or `None` if the input
-/// ends first. Writes all answers before each read. Returns any error but `Unreadable`.
+/// ends first. Writes all answers before each read. Never returns `Unreadable`.
 pub(crate) fn line_ready<A: Allocator, R: Source, W: Sink>(
     feed: &mut Feed<A>,
     out: &mut Outbox<A>,

@@ -29,8 +29,8 @@ const PIECE: usize = 21;
 
 /// The text of the answers that wait to be written. Contracts see its bytes.
 ///
-/// It allocates all its memory at the start, so that no answer allocates: if there is more text, it
-/// writes the text that waits.
+/// It allocates all its memory at the start, and none for an answer: before a text that no longer
+/// fits, it writes the text that waits.
 #[derive(Drop)]
 pub(crate) struct Outbox<A: Allocator> {
     /// The buffer for answers. All of its bytes are initialized, so that a store needs no test of a
@@ -108,7 +108,8 @@ impl<A: Allocator> Outbox<A> {
     }
 
     /// Appends a byte and then a number in decimal, if the buffer may have no space for both. It is
-    /// a separate function, so that numbers that have the space save no registers for these calls.
+    /// a separate function, so that the common case, a buffer with space, saves no registers for
+    /// these calls.
     #[cold]
     #[inline(never)]
     fn put_behind_by_pieces<W: Sink>(

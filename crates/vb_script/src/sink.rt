@@ -10,7 +10,7 @@ use vb_count::GhostCount;
 
 /// A writer of bytes that counts its faults in contracts.
 pub trait Sink {
-    /// The bytes that were written, if the sink tells them.
+    /// The bytes that were written, if the sink reports them.
     ghost contents: { Self → Option (List ℕ) } = { λ _. None };
 
     /// The number of writes that have failed.

@@ -11,7 +11,7 @@ use vb_count::GhostCount;
 
 /// A reader of bytes that counts its faults in contracts.
 pub trait Source {
-    /// The bytes that remain, if the source tells them.
+    /// The bytes that remain, if the source reports them.
     ghost remaining: { Self → Option (List ℕ) } = { λ _. None };
 
     /// The number of reads that have failed.

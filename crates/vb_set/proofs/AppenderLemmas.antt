@@ -12,7 +12,7 @@ use Rattle.vb_set.specs.declared.bit_appender.BitAppender.{BitAppender}
 use Rattle.vb_set.proofs.AddsLemmas.{AddsBits-none, AddsBits-append}
 
 module _ {A : Type 0} {g : Ghosts A} where
-  -- as many bits may be pending over the same set
+  -- an appender with the same set and the same limit is ready too
   pub IsReady-same : (a b : BitAppender A g) → IsReady a → set_of b ≡ set_of a → b.limit ≡ a.limit
       → IsReady b
   IsReady-same a b ready same limit =
@@ -22,14 +22,15 @@ module _ {A : Type 0} {g : Ghosts A} where
         fits = omega (arith, bits, limit, ap (λ s. s.offset) same, ready.fits);
       }
 
-  -- the bits of the set and the pending ones are as many as those before and those since
+  -- the set's bits and the pending ones together have the length of the bits at the start and those
+  -- appended since
   pub HasAdded-len : (start : OpenSet) (xs : List Bool) (a : BitAppender A g)
       → HasAdded start xs a
       → length (set_of a).bits + length (pending_of a) ≡ length start.bits + length xs
   HasAdded-len start xs a h =
       omega (arith, h.adds.len, ap length h.all, length-append h.written (pending_of a))
 
-  -- where a bit may be pending, offset and length with it fit in 64 bits
+  -- if one more bit may be pending, offset and length with it fit in 64 bits
   pub HasAdded-fits : (start : OpenSet) (xs : List Bool) (a : BitAppender A g)
       → HasAdded start xs a → a.count < a.limit
       → start.offset + length start.bits + length xs + 1 < 2 ^ 64

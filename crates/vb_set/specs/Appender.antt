@@ -34,6 +34,6 @@ module _ {A : Type 0} {g : Ghosts A} where
     pub stays : length start.bits + length added ≤ start.room → (set_of a).room ≡ start.room
     pub ready : IsReady a
 
-  -- P holds of each set since which bits were appended, and of these bits
+  -- P holds of each set that the appender may have started from, and of the bits appended since
   abbrev pub SinceAdded : BitAppender A g → (OpenSet → List Bool → Type 0) → Type 0
   SinceAdded a P = (start : OpenSet) (added : List Bool) → HasAdded start added a → P start added

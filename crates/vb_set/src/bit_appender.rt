@@ -78,8 +78,7 @@ impl<'a, A: Allocator + Clone> BitAppender<'a, A> {
         Ok(())
     }
 
-    /// Writes the pending bits, which are as many as may be, and reserves capacity for at least one
-    /// more.
+    /// Writes the pending bits, and reserves capacity for at least one more bit.
     #[inline(always)]
     fn start_word(&mut self) -> Result<()>
         ensures same_reference { (target_of self.new).ghost_name

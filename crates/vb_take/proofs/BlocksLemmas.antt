@@ -29,7 +29,7 @@ only_first true true h = cc
 only_first true false h = (refl, refl)
 only_first false b h = cc
 
--- if not both hold, and the first does, the second doesn't
+-- if the first of two holds, and not the first alone, the second holds too
 second_too : (a b : Bool) → (a && not b) ≡ false → a ≡ true → b ≡ true
 second_too true true h e = refl
 second_too true false h e = cc

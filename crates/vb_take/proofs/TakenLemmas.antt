@@ -39,7 +39,7 @@ module _ (l : List Bool)
       read ∙ same_value _ _ (sym (h.each i (omega arith)) ∙ taken_at-places i here)
       ∙ sym (get_or-map (at l) ps i 0 d here))
 
-  -- no position takes no value
+  -- each position takes a value, so none is the first without one
   pub IsFirstPast-places : (p : ℕ) → IsFirstPast l (map pos ps) None p → ⊥
   IsFirstPast-places p h =
       let here : p < length ps = omega (arith, h.within, length-map ps pos) in

@@ -35,7 +35,7 @@ value_at-narrow_place : (l : List Bool) (index : ℤ)
     → length l < 2 ^ 32 → value_at l index ≡ slice_get l (narrow_place index)
 value_at-narrow_place l index few = at_narrowed l (place_of index) few
 
--- a position that takes a value takes one
+-- an option that is `Some b` has a value
 some_taken : (o : Option Bool) (b : Bool) → o ≡ Some b → IsSome o
 some_taken o b e = subst IsSome (sym e) refl
 

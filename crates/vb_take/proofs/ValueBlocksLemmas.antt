@@ -35,7 +35,7 @@ drop_later n a old new inside same =
 pub full_digits : (k : ℕ) → k < 64 → has_bit (2 ^ 64 - 1) k ≡ true
 full_digits k h = ap (λ x. eqb x 1) (bit_at_ones 64 k h)
 
--- the lowest bits of a word that has the other bits of another word
+-- the lowest bits of a word that are those of another word, negated
 pub low_not : (word left n k : ℕ) → word < 2 ^ 64 → n ≤ 64 → k < n
     → digits left 0 n ≡ digits (bit_not w64 word) 0 n → has_bit left k ≡ not (has_bit word k)
 low_not word left n k fits few h same =

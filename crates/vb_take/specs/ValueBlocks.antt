@@ -5,8 +5,8 @@ use Rattle.vb_bits.specs.Digits.{has_bit}
 use Rattle.vb_take.specs.ItemsTaken.{item_named}
 
 module _ {T : Type 0} (zero : T) (items : List T) (indices : List ℤ) (a word : ℕ) where
-  -- of the first n positions from a on, those whose bit of `word` is 1 have the item at their
-  -- index; all other items are those of the old list
+  -- each of the first n positions from a on whose bit of `word` is 1 has the item at its index; all
+  -- other items are those of the old list
   pub record PutsOnes (n : ℕ) (old new : List T) : Type 0 where
     pub put : (k : ℕ) → k < n → has_bit word k ≡ true
         → item_named items (slice_index_or indices (a + k) (negsuc 0))
@@ -24,7 +24,7 @@ module _ {T : Type 0} (zero : T) (items : List T) (indices : List ℤ) (a word :
     pub past : item_named items (slice_index_or indices p (negsuc 0)) ≡ None
     pub put : PutsOnes (p - a) old new
 
--- of the first n positions from a on, those whose bit of `word` is 0 have zero; all other items are
+-- each of the first n positions from a on whose bit of `word` is 0 has zero; all other items are
 -- those of the old list
 pub record PutsZeros {T : Type 0} (zero : T) (a word n : ℕ) (old new : List T) : Type 0 where
   pub put : (k : ℕ) → k < n → has_bit word k ≡ false → slice_index_or new (a + k) zero ≡ zero

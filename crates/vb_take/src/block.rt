@@ -10,7 +10,7 @@ use std::simd::prelude::*;
 use vb_core::BitIndex;
 use vb_view::BitBufferView;
 
-/// Returns the 64 indices from position `at` on, each as [`narrow`] does.
+/// Returns the 64 indices from position `at` on, each as [`narrow`] returns it.
 #[inline(always)]
 pub(crate) fn narrow_block<I: BitIndex>(indices: &[I], at: usize) -> [u32; 64]
     requires { at + 64 ≤ length indices.now }
@@ -39,9 +39,9 @@ fn narrow<I: BitIndex>(index: I) -> u32
 /// `valid` is 0. Returns `Err(k)` for the first `k` whose bit of `valid` is 1 and whose index isn't
 /// below the length.
 ///
-/// If no position counts, it reads nothing. If all indices are below the length, that takes one
-/// test, which also tests the positions that don't count. Else each index is lowered to the last
-/// bit first.
+/// If no position counts, it reads nothing. If all indices are below the length, one test shows it;
+/// it includes the positions that don't count. Each index is lowered to the last bit before the
+/// read, since one that doesn't count may be any number.
 #[inline(always)]
 pub(crate) fn take_block(
     bits: BitBufferView<'_>,
@@ -77,7 +77,7 @@ fn within_word(block: &[u32; 64], len: u32) -> u64
     }
 }
 
-/// Returns a number that no number of the block is above.
+/// Returns the greatest number of the block. The contract says only that no number is above it.
 #[inline(always)]
 fn greatest(block: &[u32; 64]) -> u32
     ensures { (k : ℕ) → k < 64 → slice_index block.now k ≤ result }

@@ -48,8 +48,8 @@ pub fn take_into<I: BitIndex>(
 }
 
 /// Does what [`take_into`] does, but writes to `out` from bit `o` on: bit `o + k` is the one at
-/// `indices[k]`. Every bit of `out` outside of these, one for each index, keeps its value. They
-/// must be in bounds, and `o + indices.len()` must fit in a `usize`.
+/// `indices[k]`. These bits, one for each index, must be in bounds, and `o + indices.len()` must
+/// fit in a `usize`. Every other bit of `out` keeps its value.
 pub fn take_into_at<I: BitIndex>(
     out: &mut [u8],
     o: usize,

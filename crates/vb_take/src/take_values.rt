@@ -24,7 +24,8 @@ use vb_view::BitBufferView;
 /// position counts if its bit is true. At the other positions 0 is written, and the index may be
 /// any number.
 ///
-/// With a `validity`, processes 64 positions at a time, by the set bits of a word of it.
+/// With a `validity`, processes 64 positions at a time: visits the set bits of a word of the
+/// validity.
 #[inline]
 pub fn take_values_into<T: Element, I: BitIndex>(
     out: &mut [T],
@@ -78,7 +79,7 @@ fn take_blocks<T: Element, I: BitIndex>(
 /// Visits the set bits of the validity, so that no branch depends on the bit of a position. If they
 /// are few, it tests all their indices first, and then writes 0 to all 64 items at once; else it
 /// writes 0 to the items that don't count, one by one. On `Err` it leaves the same items as a loop
-/// over all positions would: those before the refused position are done, those from it on are
+/// over all positions would: those before the failing position are done, those from it on are
 /// unchanged.
 #[inline(always)]
 fn take_block<T: Element, I: BitIndex>(
@@ -118,12 +119,11 @@ fn take_block<T: Element, I: BitIndex>(
     }
 }
 
-/// The most set bits that are few: testing their indices twice is not slower than writing 0 to the
+/// The most set bits for which testing their indices twice is not slower than writing 0 to the
 /// other items one by one.
 const MAX_ONES_READ_TWICE: u32 = 20;
 
-/// Returns whether the indices are in range at all those of the 64 positions from `at` on whose bit
-/// of `word` is 1.
+/// Returns whether the index at each set bit of `word` is in range: `indices[at + k]` for bit `k`.
 #[inline(always)]
 fn all_named<T: Element, I: BitIndex>(values: &[T], indices: &[I], at: usize, word: u64) -> bool
     requires { at + 64 ≤ length indices.now }
@@ -142,8 +142,8 @@ fn all_named<T: Element, I: BitIndex>(values: &[T], indices: &[I], at: usize, wo
     true
 }
 
-/// Writes the values at the indices to those of the 64 items from `at` on whose bit of `word` is 1,
-/// up to the first position whose index is out of range.
+/// Writes the value at index `indices[at + k]` to item `at + k`, for each set bit `k` of `word`.
+/// Stops at the first index that is out of range, and returns its position as the error.
 #[inline(always)]
 fn put_ones<T: Element, I: BitIndex>(
     out: &mut [T],
@@ -195,7 +195,7 @@ fn put_full<T: Element, I: BitIndex>(
     Ok(())
 }
 
-/// Writes 0 to those of the first `n` items from `at` on whose bit of `word` is 0.
+/// Writes 0 to item `at + k` for each `k` below `n` whose bit of `word` is 0.
 #[inline(always)]
 fn put_zeros<T: Element>(out: &mut [T], at: usize, word: u64, n: usize)
     requires few { n ≤ 64 }

@@ -1,4 +1,4 @@
-//! The positions that a validity makes count.
+//! The positions that count, by a validity.
 ghost use Rattle.std.specs.Prelude.{◌≡◌, ℕ, ◌+◌, ◌<◌, ◌≤◌, length};
 ghost use Rattle.std.specs.Option.{ForSome, option_map};
 ghost use Rattle.vb_bits.specs.Digits.{has_bit};

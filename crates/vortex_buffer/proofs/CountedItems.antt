@@ -56,7 +56,8 @@ module _ {S A : Type 0} (steps : S → Option A → S → Type 0) where
       let within = yields_within s t xs yields in
       (run_of_yields s.iter t.iter xs within, refl, refl, omega arith, tt)
 
--- a run that returns the first items of a list, and as many as the list has, returns the whole list
+-- a run that returns the first items of a list, and has the length of the list, returns the whole
+-- list
 pub run_gives_all : {S A B : Type 0} {steps : S → Option A → S → Type 0} (p : Run steps)
     (v : A → B) (xs : List B) → ItemsMapTo p v xs → p.len ≡ length xs → map v p.items ≡ xs
 unfolding YieldsRun

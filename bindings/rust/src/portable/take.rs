@@ -120,9 +120,9 @@ fn among<I: BitIndex>(bits: Bits<'_>, indices: &[I]) -> u64 {
     let eights = indices.chunks_exact(8);
     let starts = (0..u64::BITS as usize).step_by(8);
     let last = few_among(bits, eights.remainder()) << (indices.len() / 8 * 8 % 64);
-    eights
-        .zip(starts)
-        .fold(last, |word, (eight, at)| word | few_among(bits, eight) << at)
+    eights.zip(starts).fold(last, |word, (eight, at)| {
+        word | few_among(bits, eight) << at
+    })
 }
 
 /// The same for up to eight indices. An index that is out of bounds reads the last byte, and its

@@ -43,7 +43,7 @@ fn call(bits: BitBufferView<'_>, other: BitBufferView<'_>, row: &str) -> Result<
     })
 }
 
-/// 1 for `true`.
+/// Returns 1 for `true` and 0 for `false`.
 fn one(value: bool) -> usize {
     if value { 1 } else { 0 }
 }

@@ -1,4 +1,4 @@
-//! Searches whose answer is near, and others that have to read all bits.
+//! Searches that end near their start, and searches that have to read all bits.
 ghost use Rattle.std.specs.Prelude.{◌≡◌, length};
 ghost use Rattle.vb_view.specs.View.{bits_of};
 
@@ -7,7 +7,7 @@ use anyhow::{Result, bail};
 use std::alloc::Global;
 use vb_view::BitBufferView;
 
-/// Makes the calls of a row where some of the first and of the last bits are set, and some aren't.
+/// Makes the calls of a row on windows with set and unset bits at both ends.
 pub fn near(alloc: Global, row: &str, case: Case) -> Result<usize> {
     let bytes = mixed(alloc, case)?;
     let sum = repeated(bytes.as_slice(), bytes.as_slice(), row, case);
@@ -15,7 +15,7 @@ pub fn near(alloc: Global, row: &str, case: Case) -> Result<usize> {
     sum
 }
 
-/// Makes the calls of a row where no bit of one window is set, and each of another one.
+/// Makes the calls of a row on a window without set bits and on one without unset bits.
 pub fn far(alloc: Global, row: &str, case: Case) -> Result<usize> {
     let none = filled(alloc, case, 0)?;
     let sum = far_from(alloc, none.as_slice(), row, case);
@@ -45,7 +45,7 @@ fn repeated(bytes: &[u8], others: &[u8], row: &str, case: Case) -> Result<usize>
     Ok(sum)
 }
 
-/// The answer of a search for a set bit in `bits`, or for a false one in `other`.
+/// Returns the result of a search for a set bit in `bits`, or for an unset one in `other`.
 fn place(bits: BitBufferView<'_>, other: BitBufferView<'_>, row: &str) -> Result<Option<usize>> {
     Ok(match row {
         "next_set" => bits.next_set(0),
@@ -63,7 +63,7 @@ fn place(bits: BitBufferView<'_>, other: BitBufferView<'_>, row: &str) -> Result
     })
 }
 
-/// 1 where the answer is yes.
+/// Returns 1 if the test returns true, and 0 otherwise.
 fn test(bits: BitBufferView<'_>, other: BitBufferView<'_>, row: &str) -> Result<usize> {
     let answer = match row {
         "any_set" => bits.any_set(),

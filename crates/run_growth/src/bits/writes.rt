@@ -16,7 +16,7 @@ pub fn measure(alloc: Global, row: &str, case: Case) -> Result<usize> {
     sum
 }
 
-/// Makes the calls of a row to bytes of zeros. The sum is of the first and the last byte.
+/// Makes the calls of a row on bytes that are 0, and returns a sum of the first and the last byte.
 fn written(alloc: Global, source: &[u8], row: &str, case: Case) -> Result<usize> {
     let mut bytes = filled(alloc, case, 0)?;
     let written = repeated(bytes.as_mut_slice(), source, row, case);
@@ -35,7 +35,8 @@ fn repeated(bytes: &mut [u8], source: &[u8], row: &str, case: Case) -> Result<()
     Ok(())
 }
 
-/// Writes a window of the bytes from bit `offset` on, by these bits.
+/// Makes the call of a row that writes the window of the bytes from bit `offset` on; some calls
+/// read `bits`.
 fn write(bytes: &mut [u8], offset: usize, bits: BitBufferView<'_>, row: &str) -> Result<()> {
     let len = bits.len();
     if !window_fits(bytes, offset, len) {

@@ -1,4 +1,4 @@
-//! Questions of sets with counts.
+//! Queries of sets with counts.
 ghost use Rattle.std.specs.Prelude.{◌≡◌, ◌≤◌, length};
 
 use crate::input::{Case, mixed, window};
@@ -15,13 +15,13 @@ pub fn measure(alloc: Global, row: &str, case: Case) -> Result<usize> {
     sum
 }
 
-/// A set of the size with its counts.
+/// Returns a set of the size with its counts.
 pub fn ranked(alloc: Global, case: Case) -> Result<Ranked> {
     let set = filled_set(alloc, case)?;
     Ok(Ranked::new(alloc, set)?)
 }
 
-/// A set of the size.
+/// Returns a set of the size.
 pub fn filled_set(alloc: Global, case: Case) -> Result<BitBufferMut> {
     let bytes = mixed(alloc, case)?;
     let set = set_of_bytes(alloc, bytes.as_slice(), case);
@@ -40,10 +40,11 @@ fn set_of_bytes(alloc: Global, bytes: &[u8], case: Case) -> Result<BitBufferMut>
     Ok(set)
 }
 
-/// For how many bits a set has room behind the size.
+/// The capacity of a set in bits, beyond the size.
 pub const ROOM: usize = 65_536;
 
-/// Makes a call of both kinds of sets: a question of a place, or of half as many set bits.
+/// Makes the call of a row on either kind of set. Ranks count up to index `$place`, and selects
+/// look for bit number `$place / 2`.
 macro_rules! ask {
     ($ranked:ident, $place:ident, $row:ident) => {
         match $row {
@@ -72,7 +73,7 @@ macro_rules! ask {
     };
 }
 
-/// A place of the second half, another one at each turn.
+/// Returns an index in the second half, a different one at each turn.
 fn place(turn: usize, len: usize) -> usize
     ensures { result ≤ len }
 {

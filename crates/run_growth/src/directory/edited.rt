@@ -9,7 +9,7 @@ use vb_ranked::Ranked;
 use vb_set::BitBufferMut;
 use vb_view::BitBufferView;
 
-/// Makes the calls of a row on a set of the size, which has room.
+/// Makes the calls of a row on a set of the size with spare capacity.
 pub fn measure(alloc: Global, row: &str, case: Case) -> Result<usize> {
     let mut ranked = ranked(alloc, case)?;
     let edited = edit_all(&mut ranked, row, case);
@@ -42,7 +42,7 @@ fn toggle(ranked: &mut Ranked, place: usize) {
     }
 }
 
-/// Makes the calls of a row, each of which makes the counts of a set of the size.
+/// Makes the calls of a row: each grows a set with counts from nothing to the size.
 pub fn grown(alloc: Global, row: &str, case: Case) -> Result<usize> {
     let bytes = mixed(alloc, case)?;
     let sum = repeated(alloc, bytes.as_slice(), row, case);
@@ -81,7 +81,7 @@ fn by_bits(ranked: &mut Ranked, len: usize) -> Result<()> {
     Ok(())
 }
 
-/// By 64 bits at a time.
+/// Grows the set by 64 bits at a time.
 fn by_runs(ranked: &mut Ranked, len: usize) -> Result<()> {
     for i in 0..len / 64 {
         ranked.append_n(i % 2 == 0, 64)?;
@@ -89,7 +89,7 @@ fn by_runs(ranked: &mut Ranked, len: usize) -> Result<()> {
     Ok(())
 }
 
-/// By 64 bits at a time.
+/// Grows the set by 64 bits at a time, from the view.
 fn by_views(ranked: &mut Ranked, bits: BitBufferView<'_>) -> Result<()> {
     for word in 0..bits.len() / 64 {
         ranked.append_view(bits.slice(64 * word..64 * word + 64))?;

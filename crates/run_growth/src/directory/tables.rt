@@ -23,7 +23,7 @@ pub fn measure(alloc: Global, row: &str, case: Case) -> Result<usize> {
     sum
 }
 
-/// Makes the counts of a set, takes the set back, and makes them again.
+/// Counts a set, takes the set back without its counts, and counts it again at each call.
 fn counted(alloc: Global, case: Case) -> Result<usize> {
     let mut set = filled_set(alloc, case)?;
     for _ in 0..case.calls {
@@ -34,10 +34,10 @@ fn counted(alloc: Global, case: Case) -> Result<usize> {
     Ok(len)
 }
 
-/// How many sets are made, whatever the number of calls.
+/// The number of sets that are built, whatever the number of calls.
 const SETS: usize = 3;
 
-/// Freezes sets that were made before.
+/// Freezes sets that were built before.
 fn frozen(alloc: Global, case: Case) -> Result<usize> {
     let mut sets = Vec::new(alloc);
     for _ in 0..SETS {
@@ -93,7 +93,7 @@ fn repeated(bits: BitBufferView<'_>, table: &[usize], row: &str, case: Case) -> 
     Ok(sum)
 }
 
-/// Asks for the rank at the place, or for a place that has half as many bits before it.
+/// Returns the rank of `place`, or the index of the set or unset bit number `place / 2`.
 fn ask(bits: BitBufferView<'_>, table: &[usize], place: usize, row: &str) -> Result<usize> {
     let (offset, len) = (bits.offset(), bits.len());
     if table.len() != len.div_ceil(512) || place > len {

@@ -6,14 +6,14 @@ use crate::input::case::Case;
 use anyhow::Result;
 use std::alloc::Global;
 
-/// How many bytes an input has.
+/// Returns the number of bytes of an input.
 fn byte_len(case: Case) -> usize
     ensures { case.size + 8 ≤ 8 * result }
 {
     case.size / 8 + 9
 }
 
-/// Bytes of which about half of the bits are set, in no order.
+/// Returns bytes of which about half of the bits are set, in no order.
 pub fn mixed(alloc: Global, case: Case) -> Result<Vec<u8>> {
     let mut bytes = Vec::with_capacity(alloc, byte_len(case))?;
     let mut state = 0x9E37_79B9u32;
@@ -24,7 +24,7 @@ pub fn mixed(alloc: Global, case: Case) -> Result<Vec<u8>> {
     Ok(bytes)
 }
 
-/// Bytes that are all `byte`.
+/// Returns bytes that are all `byte`.
 pub fn filled(alloc: Global, case: Case, byte: u8) -> Result<Vec<u8>> {
     let mut bytes = Vec::with_capacity(alloc, byte_len(case))?;
     for _ in 0..byte_len(case) {
@@ -33,7 +33,7 @@ pub fn filled(alloc: Global, case: Case, byte: u8) -> Result<Vec<u8>> {
     Ok(bytes)
 }
 
-/// Bytes of which one bit in 1,024 is set.
+/// Returns bytes of which one bit in 1,024 is set.
 pub fn sparse(alloc: Global, case: Case) -> Result<Vec<u8>> {
     let mut bytes = Vec::with_capacity(alloc, byte_len(case))?;
     for at in 0..byte_len(case) {
@@ -42,7 +42,7 @@ pub fn sparse(alloc: Global, case: Case) -> Result<Vec<u8>> {
     Ok(bytes)
 }
 
-/// Truth values, as many as the size, of which about half are true, in no order.
+/// Returns `size` truth values, about half of which are true, in no order.
 pub fn bools(alloc: Global, case: Case) -> Result<Vec<bool>> {
     let mut values = Vec::with_capacity(alloc, case.size)?;
     let mut state = 0x9E37_79B9u32;

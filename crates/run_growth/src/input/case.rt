@@ -1,4 +1,4 @@
-//! What a program is given.
+//! The arguments of the program.
 ghost use Rattle.std.specs.Prelude.{◌≤◌};
 
 use anyhow::{Context, Result, bail};
@@ -6,9 +6,9 @@ use anyhow::{Context, Result, bail};
 /// A size of an input, and a number of calls.
 #[derive(Clone, Copy)]
 pub struct Case {
-    /// How many bits or items an input has.
+    /// The number of bits or items of an input.
     pub size: usize,
-    /// How often the call is made.
+    /// The number of calls.
     pub calls: usize,
     ghost bounded: { size ≤ 16777216 },
 }
@@ -28,7 +28,7 @@ impl Case {
         Ok(Case { size, calls })
     }
 
-    /// As many calls on an input of at most eight times the size.
+    /// Returns the same number of calls with eight times the size, at most [`MOST`](Self::MOST).
     pub fn eightfold(self) -> Case {
         Case {
             size: (8 * self.size).min(Case::MOST),

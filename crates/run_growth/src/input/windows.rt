@@ -1,5 +1,5 @@
-//! Windows of bytes. Each call has a window of its own, which begins at another bit, so that no
-//! compiler makes one call for all.
+//! Windows of bytes. Each call has its own window, which begins at another bit, so that the
+//! compiler can't merge the calls.
 ghost use Rattle.std.specs.Prelude.{◌≡◌, length, IfOk};
 ghost use Rattle.vb_view.specs.View.{bits_of};
 
@@ -7,7 +7,8 @@ use anyhow::{Result, bail};
 use vb_bits::window_fits;
 use vb_view::BitBufferView;
 
-/// The `len` bits of the bytes from bit `turn % 8` on. Returns an error if they are too few.
+/// Returns the `len` bits of the bytes from bit `turn % 8` on. Returns an error if they are too
+/// few.
 pub fn window(bytes: &[u8], len: usize, turn: usize) -> Result<BitBufferView<'_>>
     ensures { IfOk result (λ view. length (bits_of view) ≡ len) }
 {

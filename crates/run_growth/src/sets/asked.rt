@@ -1,4 +1,4 @@
-//! Questions of sets.
+//! Queries of sets.
 ghost use Rattle.std.specs.Prelude.{◌≡◌, length};
 
 use crate::input::{Case, filled, mixed};
@@ -16,7 +16,7 @@ pub fn mixed_ones(alloc: Global, row: &str, case: Case) -> Result<usize> {
     sum
 }
 
-/// Makes the calls of a row where no bit of one set is set, and each of another one.
+/// Makes the calls of a row on a set without set bits and on one without unset bits.
 pub fn far(alloc: Global, row: &str, case: Case) -> Result<usize> {
     let none = Buffer::from_vec(alloc, filled(alloc, case, 0)?)?;
     let sum = far_from(alloc, &none, row, case);
@@ -85,7 +85,7 @@ fn count(bits: &BitBuffer, other: &BitBuffer, row: &str) -> Result<usize>
     })
 }
 
-/// 1 where the answer is yes.
+/// Returns 1 if the test returns true, and 0 otherwise.
 fn test(bits: &BitBuffer, other: &BitBuffer, row: &str) -> Result<usize> {
     let answer = match row {
         "any_set" => bits.any_set(),
@@ -97,7 +97,7 @@ fn test(bits: &BitBuffer, other: &BitBuffer, row: &str) -> Result<usize> {
     Ok(if answer { 1 } else { 0 })
 }
 
-/// The answer of a search for a set bit in `bits`, or for a false one in `other`.
+/// Returns the result of a search for a set bit in `bits`, or for an unset one in `other`.
 fn place(bits: &BitBuffer, other: &BitBuffer, row: &str) -> Result<usize> {
     let found = match row {
         "next_set" => bits.next_set(0),

@@ -1,4 +1,4 @@
-//! Sets that are combined: into a new one, and in the place of one that has no other owner.
+//! Sets that are combined: into a new one, and in place if one has no other owner.
 ghost use Rattle.std.specs.Prelude.{◌≡◌, length};
 
 use crate::input::{Case, mixed};
@@ -26,7 +26,7 @@ fn of_page(alloc: Global, page: &ByteBuffer, row: &str, case: Case) -> Result<us
     sum
 }
 
-/// Makes the calls that leave both sets.
+/// Makes the calls that only read both sets.
 fn repeated(page: &ByteBuffer, right: &BitBuffer, row: &str, case: Case) -> Result<usize> {
     let mut sum = 0usize;
     for turn in 0..case.calls {
@@ -51,7 +51,7 @@ fn combined(left: &BitBuffer, right: &BitBuffer, row: &str) -> Result<BitBuffer>
     })
 }
 
-/// Makes the calls that take the left set, which has one owner, and answer it.
+/// Makes the calls that consume the left set, which has one owner, and return the result in it.
 fn replaced(alloc: Global, right: &BitBuffer, row: &str, case: Case) -> Result<usize> {
     let mut one = BitBufferMut::copy_from(alloc, right)?.freeze()?;
     for _ in 0..case.calls {

@@ -87,7 +87,7 @@ fn by_appender(set: &mut BitBufferMut, len: usize) -> Result<()> {
     Ok(())
 }
 
-/// By 16 bits at a time.
+/// Grows the set by 16 bits at a time.
 fn by_runs(set: &mut BitBufferMut, len: usize) -> Result<()> {
     for i in 0..len / 16 {
         set.append_n(i % 2 == 0, 16)?;
@@ -95,7 +95,7 @@ fn by_runs(set: &mut BitBufferMut, len: usize) -> Result<()> {
     Ok(())
 }
 
-/// By 64 bits at a time.
+/// Grows the set by 64 bits at a time, from the view.
 fn by_views(set: &mut BitBufferMut, bits: BitBufferView<'_>) -> Result<()> {
     for word in 0..bits.len() / 64 {
         set.append_view(bits.slice(64 * word..64 * word + 64))?;
@@ -103,7 +103,7 @@ fn by_views(set: &mut BitBufferMut, bits: BitBufferView<'_>) -> Result<()> {
     Ok(())
 }
 
-/// By 64 bits at a time, for which room is made first.
+/// Grows the set by 64 bits at a time, and reserves capacity for them first.
 fn by_room(set: &mut BitBufferMut, len: usize) -> Result<()> {
     for word in 0..len / 64 {
         set.reserve(64)?;

@@ -1,4 +1,4 @@
-//! Sets that are made of truth values, places and closures.
+//! Sets that are built from truth values, indices, other sets and closures.
 use crate::input::{Case, bools, mixed};
 use crate::sets::page::set_of;
 use anyhow::{Result, bail};
@@ -36,7 +36,7 @@ fn repeated_items(alloc: Global, items: &[bool], row: &str, case: Case) -> Resul
     Ok(sum)
 }
 
-/// 2 where the last bit is set, else 1; 0 of no bits.
+/// Returns 2 if the last bit is set, 1 if it isn't, and 0 if there are no bits.
 fn last(set: BitBuffer) -> usize {
     let found = match set.len() {
         0 => 0,

@@ -1,4 +1,4 @@
-//! Questions of sets that can be edited.
+//! Queries of sets that can be edited.
 ghost use Rattle.std.specs.Prelude.{◌≡◌, length};
 
 use crate::input::{Case, mixed, window};
@@ -17,7 +17,7 @@ pub fn measure(alloc: Global, row: &str, case: Case) -> Result<usize> {
     sum
 }
 
-/// A set of the bits of these bytes from bit `turn` on.
+/// Returns a set of the bits of these bytes from bit `turn % 8` on.
 fn set(alloc: Global, bytes: &[u8], turn: usize, case: Case) -> Result<BitBufferMut> {
     let bits = window(bytes, case.size, turn)?;
     let mut set = BitBufferMut::empty(alloc);
@@ -28,7 +28,7 @@ fn set(alloc: Global, bytes: &[u8], turn: usize, case: Case) -> Result<BitBuffer
     Ok(set)
 }
 
-/// Takes the bytes of a set, makes a set of them again, and writes a bit.
+/// Takes the bytes of a set, builds a set from them again, and writes a bit, at each call.
 fn reopened(alloc: Global, bytes: &[u8], case: Case) -> Result<usize> {
     let mut open = set(alloc, bytes, 3, case)?;
     for turn in 0..case.calls {
@@ -63,7 +63,7 @@ fn beside(
     sum
 }
 
-/// Before each call a bit is written, so that no compiler makes one call for all.
+/// Writes a bit before each call, so that the compiler can't merge the calls.
 fn repeated(left: &mut BitBufferMut, right: &BitBufferMut, row: &str, case: Case) -> Result<usize> {
     let mut sum = 0usize;
     for turn in 0..case.calls {

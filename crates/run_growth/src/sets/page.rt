@@ -1,5 +1,5 @@
-//! Sets over a page of bytes. Each call has a set of its own, which begins at another bit, so that
-//! no compiler makes one call for all.
+//! Sets over a page of bytes. Each call has its own set, which begins at another bit, so that the
+//! compiler can't merge the calls.
 ghost use Rattle.std.specs.Prelude.{◌≡◌, length, IfOk};
 
 use crate::input::Case;
@@ -8,8 +8,8 @@ use vb_bits::window_fits;
 use vb_mem::ByteBuffer;
 use vb_set::BitBuffer;
 
-/// The bits of the page from bit `turn % 8` on, which share its storage. Returns an error if they
-/// are too few.
+/// Returns the bits of the page from bit `turn % 8` on, which share its storage. Returns an error
+/// if they are too few.
 pub fn set_of(page: &ByteBuffer, case: Case, turn: usize) -> Result<BitBuffer>
     ensures { IfOk result (λ set. length set.bits ≡ case.size) }
 {

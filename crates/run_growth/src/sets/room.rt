@@ -1,4 +1,4 @@
-//! Edits of a set that has room: those of a few bits, whatever its length, and those of all bits.
+//! Edits of a set with spare capacity: of a few bits, whatever its length, and of all bits.
 ghost use Rattle.std.specs.Prelude.{◌≡◌, length};
 
 use crate::input::{Case, mixed, window};
@@ -7,7 +7,7 @@ use std::alloc::Global;
 use vb_set::BitBufferMut;
 use vb_view::BitBufferView;
 
-/// For how many bits there is room behind the size.
+/// The capacity in bits, beyond the size.
 const ROOM: usize = 65_536;
 
 /// Makes the calls of a row.
@@ -77,7 +77,7 @@ fn write(set: &mut BitBufferMut, turn: usize, row: &str) {
     }
 }
 
-/// Takes away a bit or a few.
+/// Removes one bit or a few.
 fn shorten(set: &mut BitBufferMut, row: &str) {
     let len = set.len();
     if row == "truncate" {
@@ -89,7 +89,7 @@ fn shorten(set: &mut BitBufferMut, row: &str) {
     }
 }
 
-/// Adds a few bits, for which there is room.
+/// Adds a few bits within the capacity, or reserves capacity.
 fn add(set: &mut BitBufferMut, few: BitBufferView<'_>, row: &str) -> Result<()> {
     match row {
         "append" => set.append(few.len() % 2 == 0)?,
@@ -107,7 +107,7 @@ fn add(set: &mut BitBufferMut, few: BitBufferView<'_>, row: &str) -> Result<()> 
     Ok(())
 }
 
-/// Adds a bit by an appender of its own.
+/// Adds a bit with a new appender.
 fn append_one(set: &mut BitBufferMut, v: bool) -> Result<()> {
     let mut appender = set.appender();
     appender.append(v)?;

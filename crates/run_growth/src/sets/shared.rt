@@ -114,7 +114,7 @@ fn each_bit(set: &BitBuffer) -> usize {
     sum
 }
 
-/// The first place, at which the walk is stopped.
+/// Returns the index of the first set bit, at which the walk stops.
 #[tactic(auto, using(vb_pack::proofs::AnswersLemmas::CanAsk_always))]
 fn first_place(set: &BitBuffer) -> usize {
     match set.try_for_each_set_index(&mut |i: usize| Err::<(), usize>(i)) {

@@ -1,4 +1,4 @@
-//! Sums, the least and the greatest of values that a mask keeps.
+//! Sums, minima and maxima of the values that a mask selects.
 ghost use Rattle.std.specs.Prelude.{◌≡◌, length};
 ghost use Rattle.vb_view.specs.View.{bits_of};
 
@@ -11,7 +11,7 @@ use vb_aggregate::{
 use vb_mem::Buffer;
 use vb_view::BitBufferView;
 
-/// Makes the calls of a row by a mask that keeps about half.
+/// Makes the calls of a row with a mask that selects about half.
 pub fn by_half(alloc: Global, row: &str, case: Case) -> Result<usize> {
     let bytes = mixed(alloc, case)?;
     let sum = by(alloc, bytes.as_slice(), row, case);
@@ -19,7 +19,7 @@ pub fn by_half(alloc: Global, row: &str, case: Case) -> Result<usize> {
     sum
 }
 
-/// Makes the calls of a row by a mask that keeps one of 1,024.
+/// Makes the calls of a row with a mask that selects one in 1,024.
 pub fn by_few(alloc: Global, row: &str, case: Case) -> Result<usize> {
     let bytes = sparse(alloc, case)?;
     let sum = by(alloc, bytes.as_slice(), row, case);
@@ -27,7 +27,7 @@ pub fn by_few(alloc: Global, row: &str, case: Case) -> Result<usize> {
     sum
 }
 
-/// Makes the calls of a row by a mask that keeps all.
+/// Makes the calls of a row with a mask that selects all.
 pub fn by_all(alloc: Global, row: &str, case: Case) -> Result<usize> {
     let bytes = filled(alloc, case, 255)?;
     let sum = by(alloc, bytes.as_slice(), row, case);
@@ -35,7 +35,7 @@ pub fn by_all(alloc: Global, row: &str, case: Case) -> Result<usize> {
     sum
 }
 
-/// The call that a row names, and the type of its values.
+/// Makes the calls of a row, whose name is a call and the type of its values.
 fn by(alloc: Global, bytes: &[u8], row: &str, case: Case) -> Result<usize> {
     let Some((call, of)) = row.split_once('_') else {
         bail!("no row of this name");
@@ -84,7 +84,7 @@ where
     Ok(sum)
 }
 
-/// Whether a call answers 0.
+/// Returns whether the result of a call is 0.
 fn is_zero<T: WideSummand + PartialEq>(values: &[T], mask: BitBufferView<'_>, call: &str) -> bool
 where
     T::Total: PartialEq,

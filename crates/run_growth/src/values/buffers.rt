@@ -4,7 +4,7 @@ use anyhow::{Result, bail};
 use std::alloc::Global;
 use vb_mem::{Buffer, BufferMut};
 
-/// For how many items a buffer has room behind the size.
+/// The capacity of a buffer in items, beyond the size.
 const ROOM: usize = 1_024;
 
 /// Makes the calls of a row.
@@ -73,7 +73,7 @@ fn rewritten(alloc: Global, case: Case) -> Result<usize> {
     Ok(len)
 }
 
-/// Makes a vector of a buffer, and a buffer of the vector.
+/// Converts a buffer to a vector and back to a buffer.
 fn remade(alloc: Global, case: Case) -> Result<usize> {
     let mut buffer = BufferMut::full(alloc, 7u64, case.size)?.freeze()?;
     for _ in 0..case.calls {

@@ -101,7 +101,7 @@ fn logic(alloc: Global, bytes: &[u8], row: &str, case: Case) -> Result<usize> {
     Ok(sum)
 }
 
-/// Each of the two is its own validity too.
+/// Combines two windows by three-valued logic, each with itself as its validity.
 fn combined(
     alloc: Global,
     left: BitBufferView<'_>,

@@ -1,4 +1,4 @@
-//! Values and bits that a mask keeps, and bits that are put back.
+//! Values and bits that a mask selects, and bits that are deposited.
 use crate::input::{Case, filled, mixed, sparse, window};
 use anyhow::{Result, bail};
 use std::alloc::Global;
@@ -8,7 +8,7 @@ use vb_gather::{Deposit, Filter};
 use vb_mem::Buffer;
 use vb_view::BitBufferView;
 
-/// Makes the calls of a row by a mask that keeps about half.
+/// Makes the calls of a row with a mask that selects about half.
 pub fn by_half(alloc: Global, row: &str, case: Case) -> Result<usize> {
     let bytes = mixed(alloc, case)?;
     let sum = by(alloc, bytes.as_slice(), row, case);
@@ -16,7 +16,7 @@ pub fn by_half(alloc: Global, row: &str, case: Case) -> Result<usize> {
     sum
 }
 
-/// Makes the calls of a row by a mask that keeps one of 1,024.
+/// Makes the calls of a row with a mask that selects one in 1,024.
 pub fn by_few(alloc: Global, row: &str, case: Case) -> Result<usize> {
     let bytes = sparse(alloc, case)?;
     let sum = by(alloc, bytes.as_slice(), row, case);
@@ -24,7 +24,7 @@ pub fn by_few(alloc: Global, row: &str, case: Case) -> Result<usize> {
     sum
 }
 
-/// Makes the calls of a row by a mask that keeps all.
+/// Makes the calls of a row with a mask that selects all.
 pub fn by_all(alloc: Global, row: &str, case: Case) -> Result<usize> {
     let bytes = filled(alloc, case, 255)?;
     let sum = by(alloc, bytes.as_slice(), row, case);
@@ -80,7 +80,8 @@ fn filter_bits(set: &BitBuffer, bytes: &[u8], case: Case) -> Result<usize> {
     Ok(sum)
 }
 
-/// Filters the set by the mask once, and puts the bits back to the mask by each call.
+/// Makes the calls of a row that deposit the bits that the mask selects, or that intersect the set
+/// by rank.
 fn put_back(set: &BitBuffer, bytes: &[u8], row: &str, case: Case) -> Result<usize> {
     let mask = window(bytes, case.size, 3)?;
     let kept = set.filtered(mask)?;
@@ -102,7 +103,7 @@ fn deposit(kept: &BitBuffer, mask: BitBufferView<'_>, case: Case) -> Result<usiz
     Ok(sum)
 }
 
-/// Takes a set, all of whose bits are set, with one of its length.
+/// Intersects a set, all of whose bits are set, with itself by rank.
 fn intersect(set: &BitBuffer, case: Case) -> Result<usize> {
     let mut sum = 0usize;
     for _ in 0..case.calls {

@@ -37,7 +37,7 @@ fn by_items(buffer: &mut BufferMut<u64>, size: usize) -> Result<()> {
     Ok(())
 }
 
-/// By four items at a time.
+/// Grows the buffer by four items at a time.
 fn by_runs(buffer: &mut BufferMut<u64>, size: usize) -> Result<()> {
     for item in 0..size / 4 {
         buffer.push_n(item as u64, 4)?;
@@ -45,7 +45,7 @@ fn by_runs(buffer: &mut BufferMut<u64>, size: usize) -> Result<()> {
     Ok(())
 }
 
-/// By four items at a time.
+/// Grows the buffer by four items at a time, from a slice.
 fn by_slices(buffer: &mut BufferMut<u64>, size: usize) -> Result<()> {
     for item in 0..size / 4 {
         buffer.extend_from_slice(&[item as u64, 1, 2, 3])?;
@@ -53,7 +53,7 @@ fn by_slices(buffer: &mut BufferMut<u64>, size: usize) -> Result<()> {
     Ok(())
 }
 
-/// By four items at a time, for which room is made first.
+/// Grows the buffer by four items at a time, and reserves capacity for them first.
 fn by_room(buffer: &mut BufferMut<u64>, size: usize) -> Result<()> {
     for item in 0..size / 4 {
         buffer.reserve(4)?;

@@ -1,4 +1,4 @@
-//! Truth values that are packed into bytes and words, and values that a mask keeps of a slice.
+//! Truth values that are packed into bytes and words, and values of a slice that a mask selects.
 use crate::input::{Case, bools, mixed, window};
 use anyhow::{Result, bail};
 use std::alloc::Global;
@@ -16,7 +16,7 @@ pub fn measure(alloc: Global, row: &str, case: Case) -> Result<usize> {
     }
 }
 
-/// Zeros, a byte for each eight of the size.
+/// Returns zeros: a byte for each eight items of the size, and one more.
 fn zeros(alloc: Global, case: Case) -> Result<Vec<u8>> {
     Ok(Vec::from_elem(alloc, 0u8, case.size / 8 + 1)?)
 }

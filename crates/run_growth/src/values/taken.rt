@@ -10,7 +10,7 @@ use vb_gather::{Take, take_bits};
 use vb_mem::Buffer;
 use vb_view::BitBufferView;
 
-/// Makes the calls of a row at as many indices as the size.
+/// Makes the calls of a row at `size` indices.
 pub fn measure(alloc: Global, row: &str, case: Case) -> Result<usize> {
     let indices = indices(alloc, case)?;
     let sum = at(alloc, indices.as_slice(), row, case);
@@ -18,7 +18,7 @@ pub fn measure(alloc: Global, row: &str, case: Case) -> Result<usize> {
     sum
 }
 
-/// Indices below the size, in no order.
+/// Returns indices below the size, in no order.
 fn indices(alloc: Global, case: Case) -> Result<Vec<u32>> {
     let mut indices = Vec::with_capacity(alloc, case.size)?;
     let mut state = 1usize;

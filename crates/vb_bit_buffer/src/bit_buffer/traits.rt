@@ -10,7 +10,7 @@ use std::fmt;
 use vb_bit_bytes::write_bits;
 use vb_walk::BitIterator;
 
-/// The number of bits that `Display` prints.
+/// The most bits that `Display` prints.
 const DEBUG_BITS: usize = 16;
 
 /// Makes another owner, as [`BitBuffer::clone`] does, for code that uses std's trait.
@@ -42,7 +42,8 @@ impl<A: Allocator + Clone> Eq for BitBuffer<A> {
     ghost laws = { on_equiv (λ s. s.bits) (lists_equiv bool_eq_equiv) };
 }
 
-/// Prints the first 64 bits, for example `BitBuffer(01101..)`.
+/// Prints at most the first 64 bits, for example `BitBuffer(01101)`, and `..` after them if there
+/// are more.
 impl<A: Allocator + Clone> fmt::Debug for BitBuffer<A> {
     fn fmt<W: fmt::Write>(&self, f: &mut fmt::Formatter<W>) -> fmt::Result {
         let bytes = self.buffer.as_slice();

@@ -129,7 +129,7 @@ fn of_number<A: Allocator>(name: &str, k: usize) -> Result<Command<A>, Unread>
     }
 }
 
-/// Returns the query of this name of the set in one slot.
+/// Returns the query with this name for the set in one slot.
 #[tactic(auto, unfolding(crate::specs::Arguments::question_of_number))]
 fn question_of_number<A: Allocator>(name: &str, k: usize) -> Result<Command<A>, Unread>
     ensures { Tells order_of result (question_of_number name.now k) }
@@ -142,7 +142,7 @@ fn question_of_number<A: Allocator>(name: &str, k: usize) -> Result<Command<A>, 
     }
 }
 
-/// Returns the query of this name of the set in one slot, if its answer is a list or a text.
+/// Returns the query with this name for the set in one slot, if its answer is a list or a text.
 #[tactic(auto, unfolding(crate::specs::Arguments::listing_of_number))]
 fn listing_of_number<A: Allocator>(name: &str, k: usize) -> Result<Command<A>, Unread>
     ensures { Tells order_of result (listing_of_number name.now k) }
@@ -170,7 +170,7 @@ fn of_numbers<A: Allocator>(name: &str, k: usize, n: usize) -> Result<Command<A>
     }
 }
 
-/// Returns the query of this name of the set in one slot, with a number.
+/// Returns the query with this name for the set in one slot, with a number.
 #[tactic(auto, unfolding(crate::specs::Arguments::question_of_numbers))]
 fn question_of_numbers<A: Allocator>(name: &str, k: usize, n: usize) -> Result<Command<A>, Unread>
     ensures { Tells order_of result (question_of_numbers name.now k n) }

@@ -26,9 +26,9 @@ fn are_digits(bytes: &[u8]) -> bool
     all
 }
 
-/// Returns the value of a digit, without a branch. The codes of `0` to `9` end in the value and are
-/// below 64; the codes of `A` to `F` and of `a` to `f` end in 1 to 6, and are above 64 and below
-/// 128.
+/// Returns the value of a digit, without a branch. The codes of `0` to `9` are below 64, and their
+/// low four bits are the value. The codes of `A` to `F` and of `a` to `f` are above 64 and below
+/// 128, and their low four bits are 1 to 6.
 fn value_of(digit: u8) -> u8
     requires { IsTrue (is_digit digit) }
     ensures value { hex_value digit ≡ Some result }

@@ -13,8 +13,8 @@ use crate::read::words::Words;
 use crate::unread::Unread;
 use std::alloc::Allocator;
 
-/// Returns the words of the first `len` bytes, if these are ASCII. For at most 32 bytes it finds
-/// all spaces at once, if 32 bytes are there.
+/// Returns the words of the first `len` bytes, if these are ASCII. Finds all spaces at once if
+/// `len` is at most 32 and there are at least 32 bytes.
 #[inline(always)]
 #[tactic(auto, using(crate::proofs::Lines::ascii))]
 fn words_within(bytes: &[u8], len: usize) -> Option<Words<'_>>
@@ -76,13 +76,13 @@ fn request<A: Allocator + Clone>(
 /// -9223372036854775808 to 9223372036854775807, with a `-` before those below 0. A `-` alone means
 /// no bytes, no numbers, no indices and, in a `take`, no validity.
 ///
-/// Returns `Unread::Unreadable` exactly if the line has a byte that is not ASCII, also in a
-/// comment, or if it has words, is not a comment, and its first word is not the name of a command,
-/// words are missing or left over, or a word is malformed.
+/// Returns `Unread::Unreadable` exactly in two cases. A byte of the line is not ASCII, even in a
+/// comment. Or the line has words, is not a comment, and is not a command: its first word is not
+/// the name of one, words are missing or left over, or a word is malformed.
 ///
-/// Allocates only for an `import`, `indices` or `take` that can be read: a clone of `alloc`, and
-/// once for the bytes or numbers, as much as they need. Returns `Unread::Memory` if that runs out
-/// of memory, and for no other line.
+/// Allocates only for an `import`, `indices` or `take` that can be parsed: clones `alloc`, and
+/// allocates the bytes or numbers once, with the capacity that they need. Returns `Unread::Memory`
+/// only if one of these runs out of memory.
 ///
 /// The time is proportional to the line's length.
 pub fn command_of<A: Allocator + Clone>(
@@ -97,8 +97,8 @@ pub fn command_of<A: Allocator + Clone>(
 
 /// Parses a line as [`command_of`] does: the first `len` bytes of `bytes`. The caller must prove
 /// that `len` is at most their number. The bytes after the line do not affect the result. But a
-/// line of at most 32 bytes is parsed faster if `bytes` has 32 bytes, since one comparison of 32
-/// bytes then finds its words.
+/// line of at most 32 bytes is parsed faster if `bytes` has at least 32 bytes, since one comparison
+/// of 32 bytes then finds its words.
 pub fn command_within<A: Allocator + Clone>(
     alloc: &A,
     bytes: &[u8],

@@ -73,7 +73,7 @@ impl Field for Option<usize> {
     }
 }
 
-/// A number, or a `-` and a number. Without a `-` it is read as a `usize` is. Unlike `parse`, it
+/// A number, or a `-` and a number. Without a `-` it is parsed like a `usize`. Unlike `parse`, it
 /// does not accept a `+`.
 #[tactic(auto, using(crate::proofs::NumberWords::numbers))]
 impl Field for i64 {

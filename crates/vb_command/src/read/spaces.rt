@@ -28,8 +28,8 @@ pub(crate) fn spaces_of_ascii(bytes: &[u8], len: usize) -> Option<u64>
     Some(spaces % (1 << len))
 }
 
-/// Returns the text before the first space of a text whose spaces are known, the text after it, and
-/// the spaces of that.
+/// Returns the text before the first space, the text after it, and the spaces of the text after it.
+/// `spaces` has the spaces of the whole text, and is not 0.
 #[inline(always)]
 pub(crate) fn cut_at_space(text: &str, spaces: u64) -> (&str, &str, u64)
     requires spaces { AreSpaces text.now spaces }

@@ -43,8 +43,8 @@ fn split_far(text: &str, separator: char) -> Option<(&str, &str)>
     text.split_once(separator)
 }
 
-/// Returns the index of the first separator, or the number of bytes if there is none, if that is
-/// below `HEAD`; otherwise `HEAD`.
+/// Returns the smaller of `HEAD` and the index of the first separator. If there is no separator,
+/// its index counts as the number of bytes.
 fn near(bytes: &[u8], separator: u8) -> usize
     ensures place { result < HEAD → result ≡ position_or_len (λ b. b == separator) bytes.now }
     ensures within { result ≤ length bytes.now }

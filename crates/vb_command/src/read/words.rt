@@ -69,8 +69,8 @@ impl<'a> Words<'a> {
     }
 }
 
-/// Returns the first word of a text whose spaces are known, the text after it, and the spaces of
-/// that.
+/// Returns the first word of a text, the text after it, and the spaces of the text after it.
+/// `spaces` has the spaces of the whole text.
 #[inline(always)]
 #[tactic(auto, using(crate::proofs::WordLists::parts))]
 fn next_between(text: &str, spaces: u64) -> Option<(&str, &str, u64)>

@@ -8,8 +8,8 @@ use crate::size::{BEFORE_DIGITS, GROUP_NUMBERS};
 use std::marker::Model;
 use vb_count::GhostCount;
 
-/// The counts of a slice. Contracts alone count their probes: in a program the value is the slice,
-/// and no instruction counts.
+/// The counts of a slice. Only contracts count their probes: in a program the value is the slice,
+/// and nothing is counted at run time.
 #[derive(Drop)]
 pub(crate) struct PlainGroups<'a> {
     data: &'a [u16],

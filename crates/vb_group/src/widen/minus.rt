@@ -1,4 +1,4 @@
-//! The whole numbers of 64 bits as sums that values are taken back from.
+//! Wrapping subtraction for the whole numbers of 64 bits.
 ghost use Rattle.std.proofs.lemmas.Int.{int_wrap-add_left, int_wrap_fits};
 ghost use Rattle.std.specs.Int.{w64};
 ghost use Rattle.vb_aggregate.specs.Wraps.{unsigned_wraps_on};

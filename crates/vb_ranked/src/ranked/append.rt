@@ -22,8 +22,8 @@ impl<A: Allocator + Clone> Ranked<A> {
     /// If the set has bits, and the length plus `n` is at most [`capacity`](Self::capacity), the
     /// call does not allocate, succeeds, and the capacity does not change. If a set without bits
     /// has this capacity, the call may allocate the counts alone. Otherwise it allocates the counts
-    /// for the new capacity, and twice the bytes, or more if `n` bits need them. No clause says how
-    /// many bits there are counts for.
+    /// for the new capacity, and twice the bytes, or more if `n` bits need them. No clause states
+    /// the capacity of the counts.
     pub fn reserve(&mut self, n: usize) -> Result<()>
         ensures keeps { self.new ≡ record self.old { room = self.new.room } }
         ensures room { OnOk result (length self.old.bits + n ≤ self.new.room) }

@@ -136,7 +136,7 @@ impl<A: Allocator + Clone> BitBufferMut<A> {
 
     /// Returns an appender, which borrows the set, appends single bits, and writes them by words.
     /// Takes constant time and does not allocate. When the appender is dropped, the set has all
-    /// bits that were appended, also where a later one failed.
+    /// bits that were appended, even if a later append failed.
     ///
     /// ```rust
     /// let mut rows = BitBufferMut::new_set(alloc, 2)?;
@@ -177,10 +177,10 @@ impl<A: Allocator + Clone> BitBufferMut<A> {
         self.append(false)
     }
 
-    /// Appends `n` bits, all `v`, whole bytes at a time. If the bytes are too few, they grow to as
-    /// few as hold all bits, and no other bit of the old bytes changes; clause `ok` proves this.
-    /// Offset and alignment do not change, and the capacity never shrinks, on success or on error;
-    /// clause `grows` proves this.
+    /// Appends `n` bits, all `v`, whole bytes at a time. If the bytes are too few, the set gets the
+    /// fewest bytes that hold all bits, and no other bit of the old bytes changes; clause `ok`
+    /// proves this. Offset and alignment do not change, and the capacity never shrinks, on success
+    /// or on error; clause `grows` proves this.
     ///
     /// Returns `TooManyBits` if offset, length and `n` together exceed `usize::MAX`. Otherwise it
     /// returns `OutOfMemory` if memory runs out. The set and its capacity are unchanged on error.

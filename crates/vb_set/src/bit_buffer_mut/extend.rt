@@ -180,8 +180,8 @@ impl<A: Allocator + Clone> BitBufferMut<A> {
         self.len += 64;
     }
 
-    /// Returns how many bits can be appended without an allocation, and up to a multiple of 64 bits
-    /// from the start of the bytes.
+    /// Returns the number of bits that can be appended without an allocation, at most up to the
+    /// next multiple of 64 bits from the start of the bytes.
     pub(crate) fn room_in_word(&self) -> usize
         ensures room { result ≡ min (64 - (self.now.offset + length self.now.bits) % 64)
             (self.now.room - length self.now.bits) }

@@ -17,7 +17,8 @@ impl<A: Allocator + Clone> Clone for BitBufferMut<A> {
     }
 }
 
-/// Prints the first 64 bits, for example `BitBufferMut(01101..)`.
+/// Prints at most the first 64 bits, for example `BitBufferMut(01101)`, and `..` after them if
+/// there are more.
 impl<A: Allocator + Clone> fmt::Debug for BitBufferMut<A> {
     fn fmt<W: fmt::Write>(&self, f: &mut fmt::Formatter<W>) -> fmt::Result {
         write_bits(f, "BitBufferMut", self.as_slice(), self.offset, self.len)

@@ -3,7 +3,7 @@ use Rattle.vb_walk.proofs.WordOnes.{ones}
 use Rattle.vb_expand.proofs.ScatterLemmas.{put_at}
 use Rattle.vb_expand.proofs.scatter.scatter_ones.Given as goal
 
--- the values so far, and those to the places that are left
+-- the values so far, and those for the indices that are left
 abbrev pub invariant-loop-left : goal.invariant-loop-left
 invariant-loop-left g l = record {
   items : put_at (ones (length l.fn.out) l.left) (drop l.next l.values) l.out

@@ -6,7 +6,7 @@ use Rattle.vb_view.specs.View.{bits_of}
 use Rattle.vb_filter.specs.Pending.{first_bits}
 use Rattle.vb_filter.proofs.filter.filter_behind.Given as goal
 
--- behind the bits before the window the bits of the words so far are filtered
+-- the filtered bits of the words so far follow the bits before the window
 abbrev pub invariant-loop-t : goal.invariant-loop-t
 invariant-loop-t l = record {
   written : first_bits l.out l.word l.len ≡ bits l.fn.out 0 l.offset

@@ -4,7 +4,7 @@ use Rattle.vb_aggregate.proofs.OnesLemmas.{TakesOnes}
 use Rattle.vb_group.proofs.AddsWordLemmas.{ShowsRows}
 use Rattle.vb_group.proofs.rows.add_ones.Given as goal
 
--- the totals have the rows at the ones that aren't left
+-- the totals have the rows at the ones of `keep` that are no longer in `left`
 abbrev pub invariant-loop-left : goal.invariant-loop-left
 invariant-loop-left g l =
     TakesOnes (ShowsRows g.C.BitIndex.number g.A.Addition.plus g.A.Addition.is_total

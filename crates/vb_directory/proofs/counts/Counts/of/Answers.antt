@@ -8,7 +8,7 @@ use Rattle.vb_directory.specs.Counts.{AreCounts}
 use Rattle.vb_directory.proofs.CountEditsLemmas.{AreCounts-push_group}
 use Rattle.vb_directory.proofs.counts.Counts.of.Goals as goal
 
--- no bits have no counts
+-- an empty list has an empty list of counts
 no_counts : AreCounts [] []
 no_counts = record { long = refl; each = λ k i small inside. absurd (omega (arith, inside)) }
 

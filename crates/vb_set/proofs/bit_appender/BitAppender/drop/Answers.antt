@@ -2,7 +2,7 @@ use Rattle.std.proofs.Common.{rules, Result, Ok, Err, IsOk, OnOk, arith}
 use Rattle.vb_set.proofs.AppenderLemmas.{HasAdded-written}
 use Rattle.vb_set.proofs.bit_appender.BitAppender.drop.Goals as goal
 
--- what holds if there is a value, and there is one
+-- a property of an `Ok` result, for a result that is `Ok`
 held : {B E : Type 0} (r : Result B E) (P : Type 0) → IsOk r → OnOk r P → P
 held (Ok _) P ok said = said
 held (Err _) P ok said = absurd (search (rules, ok))
