@@ -16,8 +16,8 @@ module _ {U S A : Type 0} (becomes : U → S → Type 0) (steps : S → Option A
       (s : S) × (items : List A) × (t : S) × becomes source s × Yields steps s items t
       × (2 ^ 64 ≤ n + length items)
 
--- calls from s returned fewer than n items and came to an end; or they returned n items and ended
--- in t, in which `next` may be called, and t comes to an end
+-- calls from s returned fewer than n items and then `None`; or they returned n items and led to
+-- state t, in which `next` may be called and from which the iterator ends
 module _ {S A : Type 0} (can : S → Type 0) (left : S → Count)
     (steps : S → Option A → S → Type 0) where
   abbrev pub GivesUpTo : ℕ → S → List A → S → Type 0

@@ -13,12 +13,12 @@ use vb_core::{BufferError, Result};
 use vb_mem::ByteBufferMut;
 
 /// Combines `len` bits of `left` from bit `l` on with `len` bits of `right` from bit `r` on, by
-/// `op`. Returns bytes that hold the result from bit `l` on, as few as hold it. Writes them to
-/// `room`, which the caller must prove to be an empty buffer with capacity for them.
+/// `op`. Returns the fewest bytes that hold the result from bit `l` on. Writes them to `room`,
+/// which the caller must prove to be an empty buffer with capacity for them.
 ///
 /// If `l` equals `r`, one pass combines the bytes one by one. Otherwise the function copies the
-/// bytes of `left` and combines them in place. The contract permits only the error `OutOfMemory`,
-/// which drops `room`.
+/// bytes of `left` and combines them in place. The contract permits one error, `OutOfMemory`, and
+/// `room` is dropped then.
 pub fn combine_into<A: Allocator + Clone>(
     room: ByteBufferMut<A>,
     left: &[u8],

@@ -13,8 +13,8 @@ use vb_core::{BufferError, Result};
 use vb_mem::{ByteBuffer, ByteBufferMut};
 use vb_pack::{collect_bool_bytes, map_bool_bytes, pack_bools, pack_truthy};
 
-/// Calls `f` with each index in `0..len`, in order, and returns bytes whose first `len` bits are
-/// the results, as few as hold them. The caller must prove that `f` may be called with each index,
+/// Calls `f` with each index in `0..len`, in order, and returns the fewest bytes that hold the
+/// results as their first `len` bits. The caller must prove that `f` may be called with each index,
 /// whatever it returned before.
 ///
 /// Allocates these bytes. Returns `OutOfMemory`, before it calls `f`, if memory runs out.
@@ -87,7 +87,7 @@ pub fn map_bool_shared<A: Allocator + Clone, F: FnMut(usize, bool) -> bool>(
     Ok(answers)
 }
 
-/// Returns bytes whose first bits are `bools`, as few as hold them. Allocates these bytes. Returns
+/// Returns the fewest bytes that hold `bools` as their first bits. Allocates these bytes. Returns
 /// `OutOfMemory` if memory runs out.
 pub fn from_bools<A: Allocator + Clone>(alloc: A, bools: &[bool]) -> Result<ByteBufferMut<A>>
     ensures bits { IfOk result (λ b. bits b.list 0 (length bools.now) ≡ bools.now) }
@@ -100,8 +100,8 @@ pub fn from_bools<A: Allocator + Clone>(alloc: A, bools: &[bool]) -> Result<Byte
     Ok(bytes)
 }
 
-/// Returns bytes with one bit for each byte of `truthy`, true if the byte is not 0, as few as hold
-/// the bits. Allocates these bytes. Returns `OutOfMemory` if memory runs out.
+/// Returns the fewest bytes that hold one bit for each byte of `truthy`: true if the byte is not 0.
+/// Allocates these bytes. Returns `OutOfMemory` if memory runs out.
 pub fn from_truthy<A: Allocator + Clone>(alloc: A, truthy: &[u8]) -> Result<ByteBufferMut<A>>
     ensures bits { IfOk result (λ b. bits b.list 0 (length truthy.now)
         ≡ map (λ x. not (x == 0)) truthy.now) }

@@ -10,8 +10,8 @@ use std::alloc::Allocator;
 use vb_core::{BufferError, Result};
 use vb_mem::ByteBufferMut;
 
-/// Writes bit `end`, `v`, after the bits below `end`, which must be in the bytes. The bit is in one
-/// of these bytes or in a new byte. No clause states the other bits of a new byte.
+/// Writes `v` to bit `end`, after the bits below `end`, which must be in the bytes. The bit is in
+/// one of these bytes or in a new byte. No clause states the other bits of a new byte.
 ///
 /// Returns `OutOfMemory` if memory runs out; the bytes and the capacity are unchanged then. If
 /// there is capacity, the call does not allocate, succeeds, and the capacity does not change.
@@ -42,7 +42,7 @@ pub fn push_bit<A: Allocator + Clone>(
     Ok(())
 }
 
-/// Does the same as [`push_bit`] for a bit for which the caller must prove that there is capacity.
+/// Does the same as [`push_bit`], but the caller must prove that there is capacity for the bit.
 /// There always is if the bit's byte already exists. Does not allocate, and the capacity does not
 /// change.
 #[tactic(auto, using(crate::proofs::BytesLemmas::edits))]

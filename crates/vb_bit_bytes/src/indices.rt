@@ -13,9 +13,9 @@ use vb_bits::set_bits_at;
 use vb_core::{BufferError, Result};
 use vb_mem::{ByteBuffer, ByteBufferMut};
 
-/// Returns bytes whose first `len` bits are true exactly at the indices that an iterator returns,
-/// as few bytes as hold the bits. An index may occur more than once. The caller must prove that the
-/// iterator ends.
+/// Returns the fewest bytes that hold `len` bits, which are true exactly at the indices that an
+/// iterator returns. An index may occur more than once. The caller must prove that the iterator
+/// ends.
 ///
 /// Allocates these bytes, and no list of the indices. Returns `OutOfMemory`, before it polls the
 /// iterator, if memory runs out. Returns `IndexOutOfRange` with the first index that is not below

@@ -14,7 +14,7 @@ use vb_core::{BufferError, Result};
 use vb_mem::{BufferMut, ByteBufferMut};
 use vb_pack::pack_bool_word_lanes;
 
-/// Returns bytes whose first bits are the items of an iterator, as few as hold them, and the number
+/// Returns the fewest bytes that hold the items of an iterator as their first bits, and the number
 /// of items. The caller must prove that the iterator ends. Packs the items 64 at a time, and
 /// extends the bytes once for each 64 of them.
 ///

@@ -8,8 +8,8 @@ use std::alloc::Allocator;
 use vb_core::{Alignment, BufferError, Result};
 use vb_mem::{BufferMut, ByteBuffer, ByteBufferMut};
 
-/// Returns bytes whose first `n` bits are all `v`, as few as hold them. Allocates these bytes.
-/// Returns `OutOfMemory` if memory runs out.
+/// Returns the fewest bytes that hold `n` bits, all `v`. Allocates these bytes. Returns
+/// `OutOfMemory` if memory runs out.
 #[tactic(auto, using(vb_bits::proofs::WindowLemmas::windows))]
 pub fn full<A: Allocator + Clone>(alloc: A, v: bool, n: usize) -> Result<ByteBufferMut<A>>
     ensures bits { IfOk result (λ b. bits b.list 0 n ≡ replicate n v) }

@@ -94,7 +94,7 @@ at-complement l i h = get_or-map not l i false false h
 pub take-complement : (l : List Bool) (i : ℕ) → take i (complement l) ≡ complement (take i l)
 take-complement l i = take-map not i l
 
--- the true values and the false ones are all values
+-- the counts of the false and of the true values add up to the length
 pub count-complement : (l : List Bool) → count (complement l) + count l ≡ length l
 count-complement [] = refl
 count-complement (true ∷ l) =

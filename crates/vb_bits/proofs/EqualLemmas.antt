@@ -1,4 +1,4 @@
--- Windows that are equal, and numbers whose digits are.
+-- Equal windows, and numbers with equal digits.
 use Rattle.std.proofs.Common.{◌≡◌, ℕ, ◌-◌, zero, suc, ◌+◌, ◌%◌, ◌^◌, ◌<◌, ◌≤◌, ◌↔◌, false, eqb, max}
 use Rattle.std.proofs.Common.{List, ◌++◌, get_or, take, drop, refl, sym, ap, ◌∙◌, arith, zero-add}
 use Rattle.std.specs.Int.{bit_at}

@@ -170,7 +170,7 @@ digits_of_lane v b a j e h = digits-bits b (get_or v j 0) (8 * (a + 8 * j)) 64 (
     ap (λ k. has_bit (get_or v k 0) i) word ∙ ap (has_bit (get_or v ((64 * j + i) / 64) 0)) digit
     ∙ lane_bit-bits v b (8 * a) (64 * j + i) e (omega arith) ∙ ap (bit_of b) place)
 
--- words that start within a byte, from those that start at it and those that start at the next byte
+-- words that start within a byte, built from the words at that byte and the words at the next one
 pub lane_bits-overlapped : (xs ys b : List ℕ) (a s : ℕ) → length xs ≡ 4 → length ys ≡ 4
     → Each1 (λ x. x < 2 ^ 64) xs
     → lane_bits xs ≡ bits b (8 * a) 256 → lane_bits ys ≡ bits b (8 * (a + 1)) 256 → s < 8

@@ -13,7 +13,7 @@ use Rattle.vb_bits.proofs.BitsLemmas.{length-bits, at-bits}
 use Rattle.vb_bits.proofs.WritesLemmas.{Writes-at}
 use Rattle.vb_bits.specs.Marks.{with_true}
 
--- of the first n bits those at these indices are true, and the others are unchanged
+-- in the first n bits, the bits at these indices are set and the others are unchanged
 abbrev pub MarkedAt : ℕ → List ℕ → List ℕ → List ℕ → Type 0
 MarkedAt n places old new = (i : ℕ) → i < n
     → bit_of new i ≡ (bit_of old i || list_any (λ p. eqb p i) places)

@@ -169,8 +169,8 @@ bit_past b i past = ap (λ x. has_bit x (i % 8)) (get_or_past b (i / 8) 0 (omega
 digit_past : (w k i : ℕ) → w < 2 ^ k → k ≤ i → has_bit w i ≡ false
 digit_past w k i small past = ap (λ y. eqb y 1) (bit_at_above w k i small past)
 
--- two numbers of k bytes each, of the first bytes and of the last ones; where they overlap both
--- have the digit
+-- two numbers of k bytes each, read from the first bytes and from the last bytes; both have the
+-- digits where they overlap
 pub digits_of_ends : (b : List ℕ) (k n v w : ℕ) → n ≡ length b → k ≤ n → n ≤ 2 * k → n ≤ 8
     → digits v 0 (8 * k) ≡ bits b 0 (8 * k) → digits w 0 (8 * k) ≡ bits b (8 * (n - k)) (8 * k)
     → v < 2 ^ (8 * k) → w < 2 ^ (8 * k)

@@ -9,8 +9,8 @@ use Rattle.std.proofs.lemmas.List.Elements.{All-cons, All-nil}
 use Rattle.vb_bits.specs.Bits.{at}
 use Rattle.vb_bits.specs.Runs.{value_before, runs, shift_run}
 
--- P is the runs of t among the indices from a below e: no value before the first run is true, all
--- values in it are, and the index after it is e or its value is false
+-- P lists the runs of t among the indices `a..e`: no value before the first run is true, all values
+-- in it are, and the index after it is e or its value is false
 abbrev pub AreRuns : (ℕ → Bool) → ℕ → ℕ → List (ℕ × ℕ) → Type 0
 AreRuns t a e [] = (i : ℕ) → a ≤ i → i < e → t i ≡ false
 AreRuns t a e (p ∷ ps) =

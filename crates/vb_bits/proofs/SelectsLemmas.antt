@@ -78,8 +78,8 @@ Selects-places (false ∷ l) n h =
     subst (λ p. Selects (false ∷ l) n (Some p)) (sym next) (Selects-append_right
     (false ∷ []) l n n (get_or (places l) n 0) (omega arith) (Selects-places l n low))
 
--- entry n of row x, of eight each, is the index of the n-th set digit of x, and 0 after the last
--- one
+-- row x has eight entries: entry n is the index of the n-th set digit of x, or 0 if x has no such
+-- digit
 places_table : map (λ i. get_or (places (digits (i / 8) 0 8)) (i % 8) 0) (range_with_len 0 2048)
     ≡ PLACES
 unfolding places digits

@@ -86,8 +86,8 @@ mixed_outside x s n w r within l h =
     ≡ bit_at x r = omega (arith, low x r) in
     ap (λ z. eqb z 1) (mixed_digit x s n w r l ∙ here)
 
--- some digits of a number that is written are the lowest ones of another, and the others are
--- unchanged
+-- a write of z digits, of which n are the lowest digits of w and the others are the old ones, is a
+-- write of these n digits
 pub Writes_digits : (b c : List ℕ) (o s n z x v w : ℕ) → s + n ≤ z → digits x 0 z ≡ bits b o z
     → digits v s n ≡ digits w 0 n
     → ((r : ℕ) → r < z → (r < s) ⊎ (s + n ≤ r) → has_bit v r ≡ has_bit x r)

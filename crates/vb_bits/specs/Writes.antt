@@ -14,6 +14,6 @@ pub record KeepsBehind (n : ℕ) (old new : List ℕ) : Type 0 where
   pub same_len : length new ≡ length old
   pub others : (i : ℕ) → n ≤ i → bit_of new i ≡ bit_of old i
 
--- the old bytes, followed by the bytes that the new list has more
+-- the old bytes, followed by the bytes of the new list past the length of the old one
 abbrev pub extension : List ℕ → List ℕ → List ℕ
 extension old new = old ++ drop (length old) new

@@ -47,8 +47,8 @@ pub(crate) fn two_at(bytes: &[u8], at: usize) -> u16
 /// Writes `word` into the eight bytes from index `at` on, least significant byte first. The caller
 /// must prove that they are in bounds.
 ///
-/// It stores a vector: from an array the toolchain's own compiler makes a copy that first tests
-/// whether the two overlap.
+/// It stores a vector: for an array, the toolchain's own compiler would emit a copy that first
+/// tests whether source and target overlap.
 pub fn write_word(bytes: &mut [u8], at: usize, word: u64)
     requires { at + 8 ≤ length bytes.old }
     ensures { Writes bytes.old bytes.new (8 * at) (digits word 0 64) }

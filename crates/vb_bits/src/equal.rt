@@ -15,10 +15,10 @@ const BLOCK_WORDS: usize = 64;
 /// The caller must prove that both windows are in bounds, and that `l + len` and `r + len` fit in a
 /// `usize`.
 ///
-/// It compares at most 64 bits as one number. Of more it compares the bits up to a word boundary of
-/// `left` as one number, and the last 64 bits as another, and the words between in blocks of 512
-/// bytes, which start at a cache line of `left` if `left` starts at one. It reads no block after
-/// the first one that differs.
+/// It compares up to 64 bits as one number. In a longer window it compares the bits up to a word
+/// boundary of `left` as one number, the last 64 bits as another, and the words between in blocks
+/// of 512 bytes. If `left` starts at a cache line, so do these blocks. It reads no block after the
+/// first one that differs.
 pub fn equal_bits(left: &[u8], l: usize, right: &[u8], r: usize, len: usize) -> bool
     requires left { InBytes left.now l len }
     requires right { InBytes right.now r len }

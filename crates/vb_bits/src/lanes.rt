@@ -1,4 +1,4 @@
-//! Four words at once, as a vector, also for the compiler that makes no vectors of loops.
+//! Four words at once, as an explicit vector, since not every compiler vectorizes loops.
 ghost use Rattle.std.specs.Prelude.{◌≡◌, ◌+◌, ◌*◌, ◌^◌, ◌<◌, ◌≤◌, length};
 ghost use Rattle.std.specs.Simd.Lanes.{Each1};
 ghost use Rattle.vb_bits.specs.Bits.{bits};
@@ -19,8 +19,8 @@ pub fn words_at(bytes: &[u8], at: usize) -> u64x4
     words_of(&bytes[at..at + 32])
 }
 
-/// Returns 32 bytes as four words. They are a slice, since a proof knows of a slice's bytes, but
-/// not of an array's, that they are below 256.
+/// Returns 32 bytes as four words. They are a slice, since a proof knows that a slice's bytes are
+/// below 256, but not that an array's are.
 #[inline(always)]
 fn words_of(bytes: &[u8]) -> u64x4
     requires { length bytes.now ≡ 32 }

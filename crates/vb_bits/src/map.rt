@@ -11,8 +11,8 @@ use std::simd::prelude::*;
 /// Negates each of the `len` bits from bit `offset` on, and leaves every other bit unchanged. The
 /// caller must prove that the window is in bounds and that `offset + len` fits in a `usize`.
 ///
-/// It negates the bits of a partial first and last byte by a mask, and the whole bytes between word
-/// by word, four at a time while there are four, and then byte by byte.
+/// It negates the bits of a partial first and last byte by a mask. It negates the whole bytes
+/// between them four words at a time, then word by word, and then byte by byte.
 pub fn map_words(bytes: &mut [u8], offset: usize, len: usize)
     requires window { InBytes bytes.old offset len }
     ensures { Writes bytes.old bytes.new offset (complement (bits bytes.old offset len)) }
@@ -70,8 +70,8 @@ fn negate_blocks(bytes: &mut [u8], at: usize, n: usize)
     }
 }
 
-/// Negates `n` words from byte `at` on, fewer than four, without a loop. From a loop over so few
-/// words the compiler would make masked vectors, which wait for the stores just before.
+/// Negates `n` words from byte `at` on, fewer than four, without a loop. The compiler would turn a
+/// loop over so few words into masked vectors, which wait for the stores just before.
 fn negate_few_words(bytes: &mut [u8], at: usize, n: usize)
     requires few { n < 4 }
     requires inside { at + 8 * n ≤ length bytes.old }

@@ -148,8 +148,8 @@ fn merge_shifted_blocks<M: Merge>(dst: &mut [u8], d: usize, src: &[u8], s: usize
     }
 }
 
-/// [`merge_words`] of fewer than four words, without a loop. From a loop over so few words the
-/// compiler would make masked vectors, which wait for the stores just before.
+/// [`merge_words`] of fewer than four words, without a loop. The compiler would turn a loop over so
+/// few words into masked vectors, which wait for the stores just before.
 fn merge_few_words<M: Merge>(dst: &mut [u8], d: usize, src: &[u8], s: usize, n: usize)
     requires few { n < 4 }
     requires whole { 0 < n → d % 8 ≡ 0 }

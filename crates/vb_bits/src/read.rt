@@ -9,7 +9,7 @@ use crate::word::low_digits;
 /// Returns the bytes as one number: its lowest digits are those of the first byte, and its digits
 /// past the last byte are 0. The caller must prove that there are at most eight bytes.
 ///
-/// It reads two bytes or more by two loads that overlap, of four bytes each or of two.
+/// It reads two or more bytes by two loads of four or of two bytes each, which may overlap.
 pub fn read_u64_le(bytes: &[u8]) -> u64
     requires { length bytes.now ≤ 8 }
     ensures { digits result 0 64 ≡ bits bytes.now 0 64 }
@@ -38,7 +38,7 @@ pub fn read_bits(bytes: &[u8], at: usize, count: usize) -> u64
     low_digits(read_shifted(bytes, at, count), count)
 }
 
-/// [`read_bits`], except that the digits from `count` on may be any.
+/// [`read_bits`], except that the digits from `count` on are unspecified.
 #[inline(always)]
 pub(crate) fn read_shifted(bytes: &[u8], at: usize, count: usize) -> u64
     requires in_word { count ≤ 64 }
@@ -52,8 +52,8 @@ pub(crate) fn read_shifted(bytes: &[u8], at: usize, count: usize) -> u64
     }
 }
 
-/// [`read_shifted`] for at least eight bytes: by the word that starts at the first byte and by the
-/// ninth byte, or, if fewer bytes are left, by the last word.
+/// [`read_shifted`] for at least eight bytes. It reads the word that starts at the first byte, and
+/// the ninth byte if the bits reach it. If fewer than eight bytes are left, it reads the last word.
 #[inline(always)]
 pub(crate) fn read_in_eight(bytes: &[u8], at: usize, count: usize) -> u64
     requires in_word { count ≤ 64 }

@@ -40,7 +40,7 @@ pub(crate) fn write_in_word(bytes: &mut [u8], first: usize, from: usize, count: 
 
 /// Writes the lowest digits of `word` to all bits of `bytes`, which has at most eight bytes.
 ///
-/// It writes two bytes or more by two stores that overlap, of four bytes each or of two.
+/// It writes two or more bytes by two stores of four or of two bytes each, which may overlap.
 pub(crate) fn write_u64_le(bytes: &mut [u8], word: u64)
     requires { length bytes.old ≤ 8 }
     ensures { Writes bytes.old bytes.new 0 (digits word 0 (8 * length bytes.old)) }

@@ -24,7 +24,7 @@ module _ {S A : Type 0} (steps : S → Option A → S → Type 0) where
     gave = ((t, yields, λ _. (u, none)), λ k. refl);
   }
 
-  -- if the length is known to be n, the items that come are n
+  -- if the length is known to be n, exactly n items come before `None`
   IsLength-Drains : (s : S) (n : ℕ)
       → IsLength steps s n → (xs : List A) → Drains steps s xs → length xs ≡ n
   unfolding Trigger run_of

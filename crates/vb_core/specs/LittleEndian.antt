@@ -112,7 +112,7 @@ from_le_bytes-bytes_number w32 bs len = sum_through-bytes_number bs 3 len
 from_le_bytes-bytes_number w64 bs len = sum_through-bytes_number bs 7 len
 from_le_bytes-bytes_number w128 bs len = sum_through-bytes_number bs 15 len
 
--- the numbers of a width are those of its bytes
+-- the bits of a width and its bytes give the same number of values
 pow-bits : (w : Width) → 2 ^ bits w ≡ 256 ^ byte_len w
 pow-bits w8 = refl
 pow-bits w16 = refl

@@ -8,8 +8,8 @@ use thiserror::Error;
 /// exactly when.
 #[derive(Clone, Copy, Debug, PartialEq, Eq, Hash, Error)]
 pub enum BufferError {
-    /// An allocation failed, the requested capacity is more than `isize::MAX` bytes, or a length
-    /// exceeds `usize::MAX`.
+    /// An allocation failed, the requested capacity is more than `isize::MAX` bytes, a length
+    /// exceeds `usize::MAX`, or a storage already has the maximum number of owners.
     #[error("out of memory")]
     OutOfMemory,
     /// The number of bytes passed as an alignment is 0.
@@ -58,8 +58,8 @@ pub enum BufferError {
         /// The length.
         len: usize,
     },
-    /// An index into a set of bits is out of range. If several are, the error reports the first
-    /// one.
+    /// An index at which to take bits or values is out of range. If several are, the error reports
+    /// the first one.
     #[error("index at position {position} is out of range")]
     TakeOutOfRange {
         /// The position of the index among the indices.
@@ -108,7 +108,7 @@ impl<T: Drop> From<AllocFailed<T>> for BufferError {
     }
 }
 
-/// The reason why a call stopped that takes items from an iterator of `Result`s.
+/// The reason why a call that takes items from an iterator of `Result`s stopped.
 #[derive(Debug, PartialEq, Eq, Drop)]
 pub enum ExtendError<E> {
     /// The allocation for the items failed.

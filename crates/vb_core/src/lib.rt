@@ -1,5 +1,5 @@
-//! What every crate of the memory layer speaks of: alignments, the elements of buffers, indices of
-//! bits, iterators of known length, and the reasons for which a call is refused.
+//! The vocabulary of the memory layer: alignments, the elements of buffers, indices of bits,
+//! iterators of known length, and the errors that calls return.
 #![tactic(auto)]
 
 mod alignment;
@@ -14,5 +14,5 @@ pub use error::{BufferError, ExtendError};
 pub use index::BitIndex;
 pub use trusted::{TrustedLen, TrustedLenAdapter, trusted_len};
 
-/// What a call answers that can be refused.
+/// The result of a call that can fail.
 pub type Result<T, E = BufferError> = std::result::Result<T, E>;

@@ -48,20 +48,21 @@ pub record IsLook (a n : ℕ) : Type 0 where
   pub whole : 8 < n → a % 8 ≡ 0
   pub in_byte : n ≤ 8 → a % 8 + n ≤ 8
 
--- n of m bits at a whole byte that one look reads: those of a chunk, a word or a byte, or all
+-- one look at a whole byte reads n of the m bits there: a chunk, a word or a byte, or all of them
+-- if they are fewer
 pub record IsWholeLook (m n : ℕ) : Type 0 where
   pub chunk : chunk_bits ≤ m → n ≡ chunk_bits
   pub word : m < chunk_bits → word_bits ≤ m → n ≡ word_bits
   pub byte : m < word_bits → n ≡ min m 8
 
--- a search of the values l, which start at bit o, from index a to the back: if it finds a true
--- value, its looks are at most those of a count of the bits from index a up to that value, included
+-- a search of the values l from index a on; l starts at bit o. If it finds a true value, it makes
+-- at most the looks of a count of the bits from index a up to that value, included
 abbrev pub StopsAtNext : List Bool → ℕ → ℕ → CountedBytes → CountedBytes → Type 0
 StopsAtNext l o a before after =
     (p : ℕ) → a ≤ p → IsTrue (at l p) → LooksAtMost (looks (o + a) (p + 1 - a)) before after
 
--- a search of them to the front, from before index e: if it finds a true value, its looks are at
--- most those of a count of the bits from that value, included, up to index e
+-- a search of these values from index e, excluded, to the front. If it finds a true value, it makes
+-- at most the looks of a count of the bits from that value, included, up to index e
 abbrev pub StopsAtPrevious : List Bool → ℕ → ℕ → CountedBytes → CountedBytes → Type 0
 StopsAtPrevious l o e before after =
     (p : ℕ) → p < e → IsTrue (at l p) → LooksAtMost (looks (o + p) (e - p)) before after

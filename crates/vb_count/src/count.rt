@@ -1,9 +1,9 @@
 //! Counts the set bits of a window.
 //!
 //! The window is split as in Mula, Kurz and Lemire's "Faster Population Counts Using AVX2
-//! Instructions": the first and last bits by words and bytes, which come first here, and whole
-//! vectors, which come last, many of them by carry-save adders. The compiler chooses how to count a
-//! word or a vector.
+//! Instructions". The first and last bits are counted by words and bytes, here before the whole
+//! vectors. Carry-save adders count the vectors if there are many. The compiler chooses how to
+//! count a word or a vector.
 ghost use Rattle.std.specs.Prelude.{◌≡◌, ◌+◌, ◌-◌, ◌*◌, ◌/◌, ◌%◌, ◌^◌, ◌<◌, ◌≤◌, length, min};
 ghost use Rattle.vb_bits.specs.Bits.{bits, count};
 ghost use Rattle.vb_bits.specs.InBytes.{InBytes};
@@ -18,8 +18,8 @@ use crate::word::byte_part;
 use vb_bits::read_bits;
 
 /// From this number of chunks of a wide source on, adders count. With vectors of 32 bytes they are
-/// faster than counts of words, and already from 32 chunks on; with vectors of 16 bytes they are
-/// slower in the caches.
+/// faster than counts of words even from 32 chunks on; with vectors of 16 bytes they are slower in
+/// the caches.
 const MIN_ADDER_CHUNKS: usize = 64;
 
 /// This number of chunks, 8 MiB, exceeds the caches of most machines. Adders then win at each
@@ -83,7 +83,7 @@ fn count_of_many(bytes: &[u8], offset: usize, len: usize) -> usize
 /// in bounds and that `offset + len` fits in a `usize`.
 ///
 /// It looks once at a partial first byte, once at each 64 whole bytes, once at each eight of the
-/// remaining bytes, once at each byte then left, and once at a partial last byte. It looks only
+/// remaining bytes, once at each byte after these, and once at a partial last byte. It looks only
 /// once if the window is within one byte, and not at all if it is empty. `G.seen` of a source is
 /// its bytes, which no look changes, and the number of looks so far.
 pub fn count_ones_by<G: Glance>(src: &mut G, offset: usize, len: usize) -> usize
@@ -176,9 +176,9 @@ fn count_part<G: Glance>(src: &mut G, at: usize, len: usize) -> usize
 /// prove that the chunks are in bounds, and that their end in bits and `ones + 512 * n` fit in a
 /// `usize`.
 ///
-/// Words count fewer than [`min_adder_chunks`]. From that number on, adders count sixteen chunks at
-/// a time, and words count the rest. It isn't inlined: callers with few chunks then keep no value
-/// across it.
+/// It counts fewer than [`min_adder_chunks`] chunks word by word. From that number on, adders count
+/// sixteen chunks at a time, and the rest is counted word by word. It isn't inlined: callers with
+/// few chunks then keep no value across it.
 #[tactic(auto, using(vb_bits::proofs::BitsLemmas::windows))]
 #[inline(never)]
 pub fn add_chunks<G: Glance>(src: &mut G, at: usize, n: usize, ones: usize) -> usize
@@ -197,7 +197,7 @@ pub fn add_chunks<G: Glance>(src: &mut G, at: usize, n: usize, ones: usize) -> u
     rest + count_quarters(src, at, turns)
 }
 
-/// Returns the number of chunks of a source from which on adders count.
+/// Returns the least number of chunks of a source that adders count.
 fn min_adder_chunks<G: Glance>() -> usize
     ensures { MIN_ADDER_CHUNKS ≤ result }
 {

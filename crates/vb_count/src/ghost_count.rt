@@ -1,9 +1,10 @@
 //! A count that contracts can name and that doesn't exist at run time.
 //!
-//! A type that must account for how often it did something, as a source of bytes for its reads,
-//! keeps a [`GhostCount`] and calls [`GhostCount::add_one`] each time. Its contracts then state the
-//! exact number, at no cost at run time. Nothing ties the number to real events: it restricts only
-//! code that is generic over a trait whose contracts state how each call changes the count.
+//! A type that must account for how often it did something, such as a source of bytes that counts
+//! its reads, keeps a [`GhostCount`] and calls [`GhostCount::add_one`] each time. Its contracts
+//! then state the exact number, at no cost at run time. Nothing ties the number to real events: it
+//! restricts only code that is generic over a trait whose contracts state how each call changes the
+//! count.
 ghost use Rattle.std.specs.Prelude.{◌≡◌, ℕ, ◌+◌};
 ghost use Rattle.std.specs.Borrow.{ftrue};
 

@@ -1,4 +1,4 @@
-//! Counts the set bits of a window, by looks that contracts count.
+//! Counts the set bits of a window. Contracts also count the looks, which are reads of the bytes.
 //!
 //! A window is the `len` bits from bit `offset` on, least significant first. The caller must prove
 //! that it is in bounds and that `offset + len` fits in a `usize`; `vb_bits::window_fits` tests

@@ -22,7 +22,7 @@ pub fn most_looks(len: usize) -> usize
 /// reads the largest of a chunk, a word or a byte that the bits fill, or all of them if they fill
 /// none. The caller must prove that `len` isn't 0.
 ///
-/// A count by such looks, one part after another, makes the looks of
+/// A count by such looks, one part after another, makes the same number of looks as
 /// [`count_ones_by`](crate::count_ones_by).
 pub fn first_look(at: usize, len: usize) -> usize
     requires some { 0 < len }

@@ -33,8 +33,8 @@ impl Ones {
 
     /// Returns the bits of a chunk.
     ///
-    /// The chunk is a slice, since a proof knows of a slice's bytes, but not of an array's, that
-    /// they are below 256.
+    /// The chunk is a slice, since a proof knows that a slice's bytes are below 256, but not that
+    /// an array's are.
     pub(crate) fn of(chunk: &[u8]) -> Ones
         requires { length chunk.now ≡ 64 }
         ensures { result ≡ count (bits chunk.now 0 512) }

@@ -49,8 +49,8 @@ fn add_words<G: Glance>(src: &mut G, at: usize, n: usize, ones: usize) -> usize
 /// Returns `ones` plus the number of set bits in pair `k` of the `pairs` pairs of words from byte
 /// `at` on, or `ones` if there is no such pair.
 ///
-/// It counts two words at once and no more: four adjacent ones would be counted as a vector, which
-/// takes longer.
+/// It counts two words at once and no more: the compiler would count four adjacent words as a
+/// vector, which takes longer.
 fn add_pair<G: Glance>(src: &mut G, at: usize, pairs: usize, k: usize, ones: usize) -> usize
     requires inside { at + 16 * pairs ≤ length (G.seen src.old).bytes }
     requires fits { at + 16 * pairs < 2 ^ 64 }

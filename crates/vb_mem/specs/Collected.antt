@@ -29,8 +29,8 @@ module _ {U S A : Type 0} (becomes : U → S → Type 0) (steps : S → Option A
 
 module _ {S A : Type 0} (can : S → Type 0) (left : S → Count)
     (steps : S → Option A → S → Type 0) where
-  -- calls from s returned the items and then r, and ended in t. If r is an item, `next` may be
-  -- called in t, and t comes to an end
+  -- calls from s returned the items and then r, and led to state t. If r is an item, `next` may be
+  -- called in t, and the iterator ends from there
   abbrev pub GivesThen : S → List A → Option A → S → Type 0
   GivesThen s items r t = YieldsThen steps s items r t
       × MatchOption r (Unit {0}) (λ _. IsNearerEnd can left s t)

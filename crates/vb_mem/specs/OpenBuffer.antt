@@ -28,8 +28,8 @@ pub record Lengthens {T : Type 0} (added : List T) (old new : OpenBuffer T) : Ty
 abbrev pub HasRoom : {T : Type 0} → OpenBuffer T → ℕ → Type 0
 HasRoom b n = length b.list + n ≤ b.room
 
--- the exponent of the alignment that storage is declared with if a call asks for one: that
--- alignment, or 256 bytes if that is more
+-- the exponent of the declared alignment of storage for which a call requests an alignment: the
+-- greater of the requested one and 256 bytes
 abbrev pub over_aligned : ℕ → ℕ
 over_aligned asked = max asked 8
 

@@ -92,8 +92,8 @@ impl<T: Element, A: Allocator> Buffer<T, A> {
         }
     }
 
-    /// Returns the declared alignment of the storage. For an empty buffer it is at least the
-    /// reported alignment.
+    /// Returns the declared alignment of the storage. It is at least the reported alignment, also
+    /// if the buffer is empty.
     pub fn declared(&self) -> Alignment
         ensures value { result ≡ self.now.declared }
         ensures at_least { self.now.alignment ≤ result }
@@ -194,8 +194,8 @@ impl<T: Element, A: Allocator + Clone> Buffer<T, A> {
     ///
     /// The slice keeps a clone of this buffer's allocator, to allocate memory when its items are
     /// copied. Returns `OutOfMemory` if that clone runs out of memory, or if the storage already
-    /// has the maximum number of owners, for every range. This buffer does not change, on success
-    /// or on error.
+    /// has the maximum number of owners; an empty range is no exception. This buffer does not
+    /// change, on success or on error.
     pub fn slice_with_alignment(&self, range: Range<usize>, alignment: Alignment) -> Result<Self>
         requires { CanSlice T.SIZE T.align_exponent self.now range alignment }
         ensures { Makes (ShowsPart T.SIZE self.now range alignment) result }
@@ -212,7 +212,7 @@ impl<T: Element, A: Allocator + Clone> Buffer<T, A> {
         requires within { range.end ≤ length self.now.list }
         ensures { Makes (ShowsPart T.SIZE self.now range T.align_exponent) result }
     {
-        // The contract of `alignment` tells the prover that the byte offset is a multiple of an
+        // The contract of `alignment` shows the prover that the byte offset is a multiple of an
         // item's alignment.
         let _ = self.alignment();
         self.slice_with_alignment(range, Alignment::of::<T>())

@@ -37,7 +37,7 @@ module _ {F A : Type 0} (step : F → A → Unit {0} → F → Type 0) (pre : F 
   CanAsk-past p (x ∷ xs) ys q may called =
       CanAsk-past called.0 xs ys q (may.1 tt called.0 called.1) called.2
 
--- calls at a list, and then at another one
+-- calls with the items of a list, and then with those of another one
 pub FoldsTo-append : {F A : Type 0} (step : F → A → F → Type 0) (p : F) (xs ys : List A) (q r : F)
     → FoldsTo step p xs q → FoldsTo step q ys r → FoldsTo step p (xs ++ ys) r
 FoldsTo-append step p [] ys q r first second = subst (λ s. FoldsTo step s ys r) (sym first) second

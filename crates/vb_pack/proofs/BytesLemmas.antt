@@ -19,7 +19,7 @@ Writes-more b c d o p m n k l from long whole first second =
     (Written_of second) in
     (more.0, Writes_of (second.same_len ∙ first.same_len) more.1)
 
--- a window, and the digits of a number written after it, of which those from r on are 0
+-- a window, and after it k digits of a number, which are 0 from digit r on
 pub Writes-ended : (b c d : List ℕ) (o p m r n k w : ℕ) → p ≡ o + m → n ≡ m + r → r ≤ k
     → w < 2 ^ r → Writes b c o (bits c o m) → Writes c d p (digits w 0 k)
     → (bits d o n ≡ bits c o m ++ digits w 0 r)

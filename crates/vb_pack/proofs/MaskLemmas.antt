@@ -27,7 +27,7 @@ digits-mask_l l n e =
     told true = refl
     told false = refl
 
--- of two lists, one after the other
+-- the number of two lists, one after the other
 pub mask_l-append : (k l : List Bool) → mask_l (k ++ l) ≡ mask_l k + 2 ^ length k * mask_l l
 mask_l-append [] l = omega arith
 mask_l-append (b ∷ k) l =

@@ -127,7 +127,7 @@ WritesWords-less b c o k l written clear =
       ]
     ])
 
--- a window, and the digits of a number written after it, of which those from r on are 0
+-- a window, and after it k digits of a number, which are 0 from digit r on
 pub WritesWords-ended : (b c d : List ℕ) (o p m r n k w : ℕ) → p ≡ o + m → n ≡ m + r → r ≤ k
     → w < 2 ^ r → WritesWords b c o (word_bits c o m) → WritesWords c d p (digits w 0 k)
     → (word_bits d o n ≡ word_bits c o m ++ digits w 0 r)

@@ -44,8 +44,8 @@ pub fn pack_bool_word_swar(bools: &[bool; 64]) -> u64
     packed
 }
 
-/// Returns the word whose digit `i` is truth value `i`. It compares vectors of bytes with 1; the
-/// results of the lanes are the word.
+/// Returns the word whose digit `i` is truth value `i`. It compares a vector of 64 bytes with 1;
+/// the word is the bit mask of the result.
 #[inline]
 pub fn pack_bool_word_lanes(bools: &[bool; 64]) -> u64
     ensures { digits result 0 64 ≡ bools.now }

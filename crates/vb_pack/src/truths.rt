@@ -88,8 +88,8 @@ fn pack_words<T: Truth>(bytes: &mut [u8], values: &[T])
     }
 }
 
-/// Returns the word whose lowest digits are the truth of the last `rest` values, 1 to 64, of at
-/// least 64 values.
+/// Returns the word whose `rest` lowest digits are the truth of the last `rest` values. `rest` is 1
+/// to 64, and there are at least 64 values.
 #[inline(always)]
 fn last_word<T: Truth>(values: &[T], rest: usize) -> u64
     requires enough { 64 ≤ length values.now }

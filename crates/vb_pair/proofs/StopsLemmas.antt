@@ -49,7 +49,7 @@ merged_behind f a b o p n m i within none on = elim (cases_lt i m) [
       ))
 ]
 
--- if no value is true in all, none is true at any index
+-- if the number of true values is 0, no value is true at any index
 pub merged_nowhere : (f : Bool → Bool → Bool) (a b c : List ℕ) (o p n m i : ℕ)
     → c ≡ b → m ≡ n → merged_ones f a o c p m ≡ 0
     → at (merged_by f (bits a o n) (bits b p n)) i ≢ true

@@ -16,10 +16,10 @@ pub record IsHeld (bytes : List ℕ) (p y : ℕ) : Type 0 where
 abbrev pub part_looks : ℕ → ℕ → ℕ
 part_looks p n = min (n - bits_held p) 1
 
--- the looks at n bits from bit p on, read alongside n bits from bit o on: one at the byte of bit p
--- if bit p isn't its first bit, and then those of the parts of the n bits from bit o on: h bits up
--- to the next whole byte, m whole bytes by chunks, words and bytes with one look each, and t bits
--- after them
+-- the looks at n bits from bit p on, read alongside n bits from bit o on. There is one look at the
+-- byte of bit p if bit p isn't its first bit. Then each part of the n bits from bit o on has its
+-- looks: h bits up to the next whole byte, m whole bytes by chunks, words and bytes with one look
+-- each, and t bits after them
 abbrev pub looks_beside : ℕ → ℕ → ℕ → ℕ
 looks_beside o p n =
     let h = min n ((8 - o % 8) % 8) in

@@ -1,4 +1,4 @@
-//! Counts the set bits of two combined windows, by looks that contracts count.
+//! Counts the set bits of two combined windows of sources whose reads contracts count.
 //!
 //! The left window is read as `vb_count::count_ones_by` reads one, and the right one unit by unit
 //! alongside. If a unit of the right window starts within a byte, that byte was read before and is
@@ -52,8 +52,8 @@ pub(crate) fn count_beside<M: Merge, L: Glance, R: Glance>(
     first + by_chunks + by_words + by_bytes + last
 }
 
-/// Counts `n` units from byte `l` and bit `r` on. Before, the byte of bit `r` is held if that isn't
-/// its first bit; afterwards the byte of the first bit after the units is held likewise.
+/// Counts `n` units from byte `l` and bit `r` on. Before, the byte of bit `r` is held unless bit
+/// `r` is its first bit. Afterwards the same holds for the first bit after the units.
 fn count_units<U: Unit, M: Merge, L: Glance, R: Glance>(
     left: &mut L,
     l: usize,

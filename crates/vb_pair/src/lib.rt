@@ -1,5 +1,5 @@
-//! Combines two windows: counts of the set bits, and whether the windows have a common bit or one
-//! has all of the other's.
+//! Counts the set bits of two combined windows, and tests whether the windows have a common set bit
+//! or the right one has all set bits of the left one.
 //!
 //! The left window is the `len` bits from bit `l` of the left bytes on, the right one those from
 //! bit `r` of the right bytes on. The caller must prove that both are in bounds and that `l + len`

@@ -75,10 +75,10 @@ pub fn andnot_count(left: &[u8], l: usize, right: &[u8], r: usize, len: usize) -
 /// are true.
 ///
 /// It looks at `left` as `vb_count::count_ones_by` does over the same bits: once at a partial first
-/// byte, at each 64 whole bytes, at each eight of the remaining bytes, at each byte then left, and
-/// at a partial last byte. It looks at `right` at most once more than at `left`; clause `beside`
-/// has the exact number. It looks at each source at most `len / 512 + 16` times, and at most 16
-/// times if `len` is at most 512.
+/// byte, at each 64 whole bytes, at each eight of the remaining bytes, at each byte after these,
+/// and at a partial last byte. It looks at `right` at most once more than at `left`; clause
+/// `beside` has the exact number. It looks at each source at most `len / 512 + 16` times, and at
+/// most 16 times if `len` is at most 512.
 ///
 /// Does not allocate. The caller must prove that both windows are in bounds of their sources and
 /// that their ends fit in a `usize`.
@@ -108,10 +108,10 @@ pub fn and_count_by<L: Glance, R: Glance>(
 /// is true.
 ///
 /// It looks at `left` as `vb_count::count_ones_by` does over the same bits: once at a partial first
-/// byte, at each 64 whole bytes, at each eight of the remaining bytes, at each byte then left, and
-/// at a partial last byte. It looks at `right` at most once more than at `left`; clause `beside`
-/// has the exact number. It looks at each source at most `len / 512 + 16` times, and at most 16
-/// times if `len` is at most 512.
+/// byte, at each 64 whole bytes, at each eight of the remaining bytes, at each byte after these,
+/// and at a partial last byte. It looks at `right` at most once more than at `left`; clause
+/// `beside` has the exact number. It looks at each source at most `len / 512 + 16` times, and at
+/// most 16 times if `len` is at most 512.
 ///
 /// Does not allocate. The caller must prove that both windows are in bounds of their sources and
 /// that their ends fit in a `usize`.
@@ -141,10 +141,10 @@ pub fn or_count_by<L: Glance, R: Glance>(
 /// of `right`.
 ///
 /// It looks at `left` as `vb_count::count_ones_by` does over the same bits: once at a partial first
-/// byte, at each 64 whole bytes, at each eight of the remaining bytes, at each byte then left, and
-/// at a partial last byte. It looks at `right` at most once more than at `left`; clause `beside`
-/// has the exact number. It looks at each source at most `len / 512 + 16` times, and at most 16
-/// times if `len` is at most 512.
+/// byte, at each 64 whole bytes, at each eight of the remaining bytes, at each byte after these,
+/// and at a partial last byte. It looks at `right` at most once more than at `left`; clause
+/// `beside` has the exact number. It looks at each source at most `len / 512 + 16` times, and at
+/// most 16 times if `len` is at most 512.
 ///
 /// Does not allocate. The caller must prove that both windows are in bounds of their sources and
 /// that their ends fit in a `usize`.
@@ -174,10 +174,10 @@ pub fn xor_count_by<L: Glance, R: Glance>(
 /// `right` isn't.
 ///
 /// It looks at `left` as `vb_count::count_ones_by` does over the same bits: once at a partial first
-/// byte, at each 64 whole bytes, at each eight of the remaining bytes, at each byte then left, and
-/// at a partial last byte. It looks at `right` at most once more than at `left`; clause `beside`
-/// has the exact number. It looks at each source at most `len / 512 + 16` times, and at most 16
-/// times if `len` is at most 512.
+/// byte, at each 64 whole bytes, at each eight of the remaining bytes, at each byte after these,
+/// and at a partial last byte. It looks at `right` at most once more than at `left`; clause
+/// `beside` has the exact number. It looks at each source at most `len / 512 + 16` times, and at
+/// most 16 times if `len` is at most 512.
 ///
 /// Does not allocate. The caller must prove that both windows are in bounds of their sources and
 /// that their ends fit in a `usize`.

@@ -1,4 +1,4 @@
-//! Whether two windows have a common bit, or one has all of the other's.
+//! Tests whether two windows have a common set bit, or the right one has all set bits of the left.
 ghost use Rattle.std.specs.Prelude.{◌≡◌, ◌↔◌, ◌+◌, ◌*◌, ◌/◌, ◌^◌, ◌<◌, ◌≤◌, length, IsTrue};
 ghost use Rattle.vb_bits.specs.Bits.{bits, count};
 ghost use Rattle.vb_bits.specs.InBytes.{InBytes};

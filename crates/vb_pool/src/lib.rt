@@ -1,8 +1,8 @@
 //! A pool of sixteen slots for sets of bits, and the commands on it.
 //!
 //! [`run`] runs a list of [`Command`]s, and [`Pool::serve`] runs one. The answers are the same as
-//! with a plain list of truth values in each slot: contracts see a [`Pool`] as the list of the
-//! contents of its slots, and no storage.
+//! with a plain list of truth values in each slot: contracts see a [`Pool`] only as the list of the
+//! contents of its slots.
 #![tactic(auto)]
 
 mod edit;

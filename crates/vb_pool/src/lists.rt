@@ -11,8 +11,8 @@ use std::alloc::Allocator;
 use vb_bits::digit;
 use vb_set::{BitBuffer, BitBufferView, Result};
 
-/// Returns the bits from index 0 on, a word at a time. Allocates once. Returns `OutOfMemory` if
-/// memory runs out.
+/// Returns the list of all bits. Reads them a word at a time. Allocates once. Returns `OutOfMemory`
+/// if memory runs out.
 pub(crate) fn list_bits<A: Allocator + Clone>(
     alloc: &A,
     view: BitBufferView<'_>,

@@ -15,7 +15,7 @@ use vb_set::{BitBuffer, BitBufferMut, BufferError, ByteBuffer, ByteBufferMut, Re
 
 /// A set that commands edit. Contracts see the list of its bits.
 ///
-/// Its first bit is in the first byte. So a length fails because of its bit indices only if it
+/// Its first bit is in the first byte. So a call returns `TooManyBits` only if the new length
 /// exceeds `usize::MAX - 7`.
 #[derive(Drop)]
 pub struct OpenBits<A: Allocator + Clone> {

@@ -1,4 +1,4 @@
-//! Queries of a set. No slot changes, and only the lists allocate.
+//! Queries of a set. No slot changes, and only the queries for a list or a text allocate.
 ghost use Rattle.vb_command.specs.Machine.{Step, Outcome, order_of};
 ghost use Rattle.vb_command.specs.Machine as machine;
 ghost use Rattle.vb_pool.specs.Answered.{AsksWhole, IsQuestion, reply_of};
@@ -11,8 +11,9 @@ use std::alloc::Allocator;
 use vb_command::{Answer, Command, Refusal};
 
 impl<A: Allocator + Clone> Pool<A> {
-    /// Answers a query for a number or an index. It is a separate function, since a function clears
-    /// its whole stack frame when it begins.
+    /// Returns the answer to a query for a number or an index, or to one that reads all bits of a
+    /// set. It is a separate function, since a function clears its whole stack frame when it
+    /// begins.
     #[inline(never)]
     pub(crate) fn ask(&self, alloc: &A, question: &Command<A>) -> Result<Answer<A>, Refusal>
         requires { IsQuestion (order_of question.now) }
@@ -28,7 +29,7 @@ impl<A: Allocator + Clone> Pool<A> {
         }
     }
 
-    /// Answers a query that reads all bits of a set.
+    /// Returns the answer to a query that reads all bits of a set.
     #[inline(never)]
     fn ask_whole(&self, alloc: &A, question: &Command<A>) -> Result<Answer<A>, Refusal>
         requires { AsksWhole (order_of question.now) }

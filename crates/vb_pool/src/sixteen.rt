@@ -11,8 +11,8 @@ use std::mem;
 
 /// Sixteen values, numbered from 0. Contracts see the list of them.
 ///
-/// These are fields, not an array: no contract proves that an array of a type parameter has a size
-/// that a value can have.
+/// These are fields, not an array: no contract proves that an array of sixteen `T` is within the
+/// size limit of a value.
 #[derive(Drop)]
 pub struct Sixteen<T> {
     s0: T,

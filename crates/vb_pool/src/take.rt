@@ -61,9 +61,9 @@ fn is_as_long(n: usize, validity: Option<BitBufferView<'_>>) -> bool
     }
 }
 
-/// Returns the bits at these indices. Returns `OutOfMemory` if memory runs out for their bytes or
-/// then for the owner, or, between the two, `TakeOutOfRange` with the first position whose index is
-/// not ignored and out of range.
+/// Returns the bits at these indices. Allocates their bytes, then tests the indices, and then
+/// allocates the count of owners. Returns `OutOfMemory` if memory runs out, or `TakeOutOfRange`
+/// with the first position whose index is not ignored and out of range.
 #[tactic(auto, using(crate::proofs::Takes::validities))]
 fn take_at<A: Allocator + Clone>(
     alloc: &A,

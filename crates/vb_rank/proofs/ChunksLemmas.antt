@@ -1,4 +1,4 @@
--- Searches of a chunk that a window begins, when the window may end in it.
+-- Searches of a chunk that starts where a window starts; the window may end within the chunk.
 use Rattle.std.proofs.Common.{◌≡◌, ℕ, ◌+◌, ◌-◌, ◌/◌, ◌%◌, ◌<◌, ◌≤◌, Bool, false, List, ◌++◌}
 use Rattle.std.proofs.Common.{length, Some, refl, sym, ap, ◌∙◌, arith, subst}
 use Rattle.std.specs.Prelude.{slice_range}
@@ -26,7 +26,7 @@ front_past : (k l : List Bool) (n p : ℕ)
 front_past k l n p past s =
     omega (arith, s.2, count-take-mono (k ++ l) (length k) p past, ap count (take-append_seam k l))
 
--- ---- a window and the chunk from its begin on
+-- ---- a window and the chunk from its first bit on
 -- the bits of the chunk are those of the window, and then those after it
 cut : (v : Bool) (b xs : List ℕ) (o m : ℕ)
     → o % 8 ≡ 0 → xs ≡ slice_range b (o / 8) (o / 8 + 64) → m ≤ 512

@@ -66,8 +66,8 @@ pub record Narrows (w : ℕ) (v : Bool) (t : List ℕ) (n j m k : ℕ) : Type 0 
   pub before : Rises w v t → m ≡ count_before w v t j
   pub above : Rises w v t → j + k < length t → n < count_before w v t (j + k)
 
--- the chunk is the 64 bytes from the byte of bit o on, if that bit is the first of its byte and the
--- bytes have so many
+-- the chunk is the 64 bytes from the byte of bit o on, if that bit is the first of its byte and 64
+-- bytes begin there
 abbrev pub IsChunkFrom : List ℕ → ℕ → List ℕ → Type 0
 IsChunkFrom b o chunk = o % 8 ≡ 0 → o / 8 + 64 ≤ length b
     → chunk ≡ slice_range b (o / 8) (o / 8 + 64)

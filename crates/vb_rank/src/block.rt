@@ -13,9 +13,9 @@ use crate::level::Level;
 /// greater than the number of bits before its block, and no block has more such bits before it than
 /// a later one. With other counts it is any block of these, and a number of at most `n`.
 ///
-/// Makes as many probes as `size - 1` has binary digits. Each probe halves the counts that are
-/// left, by conditional moves instead of branches, so the number of turns depends on `size` alone.
-/// It never reads count 0, which is 0.
+/// Makes one probe for each binary digit of `size - 1`. Each probe halves the counts that are left,
+/// by conditional moves instead of branches, so the number of turns depends on `size` alone. It
+/// never reads count 0, which is 0.
 pub fn find_block<S, L: Level<S>>(
     source: &mut S,
     level: &L,

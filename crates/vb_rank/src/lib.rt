@@ -4,9 +4,9 @@
 //! `n`-th set bit, counted from 0. The bits are cut into blocks of 512. A table has one entry for
 //! each block: the number of set bits before the block. [`table_of`] builds one. [`rank_by`],
 //! [`select_by`] and [`select_unset_by`] work over any [`Probe`] of a table and any `Glance` at the
-//! bits. For counts that are kept in another way there are the parts of these calls:
-//! [`find_block`], [`rank_from`] and [`select_from`], and for eight selects at once [`find_blocks`]
-//! and [`select_each_from`].
+//! bits. If counts are stored in another way, call the parts of these functions: [`find_block`],
+//! [`rank_from`] and [`select_from`], and for eight selects at once [`find_blocks`] and
+//! [`select_each_from`].
 //!
 //! Lengths, offsets and indices are in bits. A look is a read of up to 64 bytes of bits; a probe is
 //! the read of an entry. A "must" in a docstring is a condition that the caller has to prove.

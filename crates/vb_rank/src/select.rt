@@ -26,8 +26,8 @@ use vb_select::{bit_select_by, bit_select_unset_by};
 /// [`table_of`](crate::table_of) builds; with other entries it is unspecified.
 ///
 /// A look is a read of up to 64 bytes of `src`, and a probe is the read of an entry. Whatever the
-/// entries are, the call makes at most 16 looks, and at most as many probes as
-/// `len.div_ceil(512) + 1` has binary digits.
+/// entries are, the call makes at most 16 looks, and at most one probe for each binary digit of
+/// `len.div_ceil(512) + 1`.
 pub fn select_by<G: Glance, T: Probe>(
     src: &mut G,
     offset: usize,
@@ -58,8 +58,8 @@ pub fn select_by<G: Glance, T: Probe>(
 /// [`table_of`](crate::table_of) builds; with other entries it is unspecified.
 ///
 /// A look is a read of up to 64 bytes of `src`, and a probe is the read of an entry. Whatever the
-/// entries are, the call makes at most 16 looks, and at most as many probes as
-/// `len.div_ceil(512) + 1` has binary digits.
+/// entries are, the call makes at most 16 looks, and at most one probe for each binary digit of
+/// `len.div_ceil(512) + 1`.
 pub fn select_unset_by<G: Glance, T: Probe>(
     src: &mut G,
     offset: usize,

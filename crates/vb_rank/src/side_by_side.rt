@@ -28,13 +28,12 @@ struct Searches {
 }
 
 /// Does [`find_block`](crate::find_block) for eight selects: returns their blocks, and the number
-/// of bits that are `value` before each. Select `k` has a level of its own, with `sizes[k]` counts,
-/// at least 1 and at most `most`. The counts of a level must depend only on the entries of the
-/// source, and the number of probes must be the same for all levels.
+/// of bits that are `value` before each. Select `k` has its own level, with `sizes[k]` counts, at
+/// least 1 and at most `most`. The counts of a level must depend only on the entries of the source,
+/// and the number of probes must be the same for all levels.
 ///
-/// Takes at most eight times as many probes as `most - 1` has binary digits. The searches go side
-/// by side: each makes one probe before any makes its next. A search with one count left makes
-/// none.
+/// Makes at most eight probes for each binary digit of `most - 1`. The searches go side by side:
+/// each makes one probe before any makes its next. A search with one count left makes none.
 #[inline(always)]
 pub fn find_blocks<S, L: Level<S>>(
     source: &mut S,

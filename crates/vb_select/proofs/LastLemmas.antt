@@ -88,7 +88,7 @@ highest_one w k some small =
     )
 
 -- ---- windows
--- after the word that shows the k bits from index a on, no bit is v
+-- the highest set digit of a word that shows k bits from index a on, if no bit after these is v
 pub IsPrevious-word : (v : Bool) (b : List ℕ) (o n a k w : ℕ) → Shows v b o a k w
     → 0 < w → w < 2 ^ k → k ≤ 64 → a + k ≤ n
     → ((i : ℕ) → a + k ≤ i → i < n → at (hits v (bits b o n)) i ≡ false)
@@ -116,7 +116,7 @@ IsPrevious-word v b o n a k w shows some small few within off =
       ],
     )
 
--- the highest digit of the word before the end of a window that it doesn't reach beyond
+-- the highest set digit of the last word of a window of at least 64 bits
 pub IsPrevious-before : (v : Bool) (b : List ℕ) (o n t w : ℕ) → ShowsBefore v b (o + n) t w
     → 0 < w → w < 2 ^ 64 → 64 ≤ n
     → (count_leading_zeros 64 w < 64)

@@ -100,7 +100,7 @@ shifted_low w s i lo l = ap (λ x. eqb x 1) (bit_at_cut (w * 2 ^ s) 64 i l ∙ s
 shifted_high : (w s i : ℕ) → s ≤ i → i < 64 → has_bit (w * 2 ^ s % 2 ^ 64) i ≡ has_bit w (i - s)
 shifted_high w s i hi l = ap (λ x. eqb x 1) (bit_at_cut (w * 2 ^ s) 64 i l ∙ shl_high w s i hi)
 
--- the word of the eight bytes up to that of the bit before bit e, without the bits from e on
+-- the word of the eight bytes that end with the byte of bit e - 1, without the bits from e on
 pub ShowsBefore-shifted : (v : Bool) (b : List ℕ) (e f t w : ℕ)
     → digits w 0 64 ≡ bits b (8 * f) 64 → w < 2 ^ 64 → e + t ≡ 8 * f + 64 → t < 8
     → ShowsBefore v b e t (others (not v) w * 2 ^ t % 2 ^ 64)
@@ -164,7 +164,7 @@ off-digits v b o n a k w shows none i lo hi = elim (cases_lt i n) [
 ]
 
 -- ---- the next one
--- from an index on, after which no bit is v
+-- from an earlier index on, if no bit between the two is v
 pub IsNext_later : (l : List Bool) (a m : ℕ) (r : Option ℕ) → a ≤ m
     → ((i : ℕ) → a ≤ i → i < m → at l i ≡ false) → IsNext l m r → IsNext l a r
 IsNext_later l a m None le off n = λ i h. elim (cases_lt i m) [

@@ -21,7 +21,7 @@ when_false : (x : Bool) → x ≢ true → x ≡ false
 when_false true h = absurd (h refl)
 when_false false h = refl
 
--- a value at an index that can't be that of a true value
+-- the value at an index is false if it can't be true there
 off_unless : (l : List Bool) (i : ℕ) → (i < length l → at l i ≢ true) → at l i ≡ false
 off_unless l i h = elim (cases_lt i (length l)) [
   | inl within ↦ when_false (at l i) (h within)
@@ -131,7 +131,7 @@ hit_behind l a m p off from on = elim (cases_lt p m) [
   | inr here ↦ here
 ]
 
--- a hit is before the index before which a search to the front continues
+-- a hit is below index m if a search to the front continues below m
 pub hit_before : (l : List Bool) (m n p : ℕ) → ((i : ℕ) → m ≤ i → i < n → at l i ≡ false)
     → p < n → IsTrue (at l p) → p < m
 hit_before l m n p off to on = elim (cases_lt p m) [

@@ -199,8 +199,8 @@ fn last_in_words(bytes: &[u8], offset: usize, len: usize, value: bool) -> Option
     None
 }
 
-/// Returns the number of bits left of `len`, which end at a whole byte, after passing whole words
-/// at the end, `n` at a time, while none of their bits is `value`.
+/// Passes whole words at the end of the `len` bits, `n` words at a time, while none of their bits
+/// is `value`. Returns the number of bits left. The bits must end at a whole byte.
 #[inline(always)]
 fn pass_words(bytes: &[u8], offset: usize, len: usize, n: usize, value: bool) -> usize
     requires some { 0 < n }

@@ -38,9 +38,9 @@ pub(crate) fn matches_before(bytes: &[u8], end: usize, value: bool) -> u64
     others(word_at(bytes, end.div_ceil(8) - 8), !value) << ((8 - end % 8) % 8)
 }
 
-/// Returns the window of `len` bits from bit `offset` on, which at most eight bytes have from its
-/// first one on, with a 1 for each bit that is `value`, shifted so that its last bit is the highest
-/// digit.
+/// Returns the window of `len` bits from bit `offset` on as a word, with a 1 for each bit that is
+/// `value`, shifted so that its last bit is the highest digit. `bytes` must have at most eight
+/// bytes from the byte of bit `offset` on.
 #[inline(always)]
 pub(crate) fn matches_at_end(bytes: &[u8], offset: usize, len: usize, value: bool) -> u64
     requires some { 0 < len }

@@ -252,8 +252,8 @@ fn is_without(bytes: &[u8], offset: usize, len: usize, value: bool) -> bool
     is_without_behind(bytes, offset, len, value)
 }
 
-/// [`is_without`] if the window has more bits than its first eight bytes, and none of theirs is
-/// `value`: by the last eight bytes, and then by the words between.
+/// [`is_without`] if the window continues after its first eight bytes, and none of its bits in
+/// these is `value`: by the last eight bytes, and then by the words between.
 #[inline(always)]
 fn is_without_behind(bytes: &[u8], offset: usize, len: usize, value: bool) -> bool
     requires window { InBytes bytes.now offset len }
@@ -279,8 +279,9 @@ fn are_without(bytes: &[u8], at: usize, n: usize, value: bool) -> bool
     ones == n
 }
 
-/// Returns the number of words passed of the `n` from byte `at` on, after `done` without a bit that
-/// is `value`: `size` at a time, while none of their bits is `value`.
+/// Passes words of the `n` from byte `at` on, `size` at a time, while none of their bits is
+/// `value`. Starts after the first `done` words, which have no such bit. Returns the number of
+/// words passed, including these.
 #[inline(always)]
 fn pass_groups(bytes: &[u8], at: usize, n: usize, done: usize, size: usize, value: bool) -> usize
     requires some { 0 < size }

@@ -22,8 +22,8 @@ const MIN_COUNTED_CHUNKS: usize = 4;
 /// few bits are set.
 const FIRST_CHUNKS: usize = 16;
 
-/// In a run of at most this number of chunks none that may hold the bit is counted: the run is too
-/// short to gain by it.
+/// In a run of at most this number of chunks, no chunk that may hold the bit is counted, since the
+/// run is too short to gain by it.
 const SHORT_RUN_CHUNKS: usize = 64;
 
 /// Consecutive chunks of a window, in which a bit is sought.
@@ -41,10 +41,10 @@ impl Stretch {
     /// Returns the number of its chunks to count next, if the `n`-th bit is sought.
     ///
     /// `left / 512` chunks have at most `left` bits, so the bit must come after them. If few bits
-    /// are set, this number is small. It then counts more chunks if the bit is after them at the
-    /// density of the chunks already passed, but no more than it has passed. Of chunks that may
-    /// hold the bit it counts at most half of the stretch: if they do, they are looked at again,
-    /// and the same number of chunks after them never.
+    /// are set, this number is small. It then counts more chunks, but no more than it has passed,
+    /// if at the density of the passed chunks the bit comes after them. Counted chunks that may
+    /// hold the bit are at most half of the stretch: if they hold it, they are looked at again, but
+    /// at least the same number of chunks after them is never looked at.
     fn block(self, n: usize) -> usize
         requires { self.left ≤ n }
         ensures within { result ≤ self.chunks }
@@ -331,11 +331,11 @@ fn find_in_long_run<G: Glance>(
     find_in_units::<[u8; 64], G>(src, search, stretch.chunks)
 }
 
-/// Narrows this number of chunks from bit `at` on down to a few, in which the `n`-th bit that is
-/// `value` is still to be searched for.
+/// Narrows this number of chunks from bit `at` on down to the few in which to search for the `n`-th
+/// bit that is `value`.
 ///
-/// It counts chunks as fast as [`add_chunks`] does. It passes those that don't hold the bit. It
-/// narrows those that do further, and never looks at the chunks after them.
+/// It counts chunks as fast as [`add_chunks`] does. It passes those that don't hold the bit. If
+/// chunks hold it, it narrows these down, and never looks at the chunks after them.
 fn narrow<G: Glance>(src: &mut G, at: usize, chunks: usize, n: usize, value: bool) -> Stretch
     requires aligned { 0 < chunks → at % 8 ≡ 0 }
     requires window { InBytes (G.seen src.old).bytes at (512 * chunks) }

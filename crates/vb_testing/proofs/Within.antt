@@ -1,5 +1,5 @@
--- What the walks of an allocator around another share: the `&` to the one within, and its answer.
--- Assumes `Logic`.
+-- Lemmas for the walks of an allocator that wraps another one: about the `&` to the inner
+-- allocator, and about its result. Assumes `Logic`.
 use Rattle.std.proofs.Common.{ℕ, ◌+◌, [], ◌∷◌}
 use mathlib.Core.Bool.{Bool, true, false}
 use seplogic.Ra.Ura.{Ura}
@@ -22,7 +22,7 @@ use Rattle.vb_testing.specs.declared.refusing.Refusing.{Refusing}
 use Rattle.vb_testing.specs.contracts.refusing.Refusing.{the_row as refusing_row}
 use Rattle.vb_testing.specs.contracts.refusing.Requests.{the_row as requests_row}
 
--- the type argument of the one around, with its methods
+-- the type argument of the outer allocator, with its methods
 abbrev pub argument : Al → Args
 argument Z = bounded (a_type ∷ []) (Z.row, tt) (dcons Z.d (dcons Z.drops dnil))
 
@@ -31,7 +31,7 @@ abbrev field_after : RattleType → ℕ → ℕ
 field_after R e = up (align (lone R.mir)) e
 
 module _ (B : RattleType) where
-  -- where the allocator within lies, and where the requests do
+  -- the offsets of the inner allocator and of the requests
   abbrev pub inner_at : ℕ → ℕ
   inner_at o = o + field_after B 0
 
@@ -39,7 +39,7 @@ module _ (B : RattleType) where
   requests_at o = o + field_after requests_row (field_after B 0 + size (lone B.mir))
 
 module _ {M : Type 1} {𝓤 : Ura M} (𝓛 : Logic 𝓤) where
-  -- a `&` to a `Refusing` gives one to the allocator within, and one to the requests
+  -- a `&` to a `Refusing` contains one to the inner allocator and one to the requests
   pub refusing_shares : (B : RattleType) (κ : Lft) (heap : Refusing B.Denot) (b o : ℕ)
       → ent 𝓤 (sem 𝓛 (hidden_shr (refusing_row (param 0 B)) κ heap b o))
       (sep 𝓤 (sem 𝓛 (hidden_shr B κ heap.inner b (inner_at B o)))
@@ -47,14 +47,14 @@ module _ {M : Type 1} {𝓤 : Ura M} (𝓛 : Logic 𝓤) where
   refusing_shares B κ heap b o = qed 𝓛 (‵ (shared_of (refusing_row (param 0 B)) heap b o κ) ∷ []) ∵
       fsplit ! $ fsplit ! $ move ! (1 ∷ []) $ fsplit ! $ keep ! (2 ∷ 0 ∷ []) $ done !
 
-  -- a `&` to a `Handle` gives one to the allocator within
+  -- a `&` to a `Handle` contains one to the inner allocator
   pub handle_shares : (B : RattleType) (κ : Lft) (handle : Handle B.Denot) (b o : ℕ)
       → ent 𝓤 (sem 𝓛 (hidden_shr (handle_row (param 0 B)) κ handle b o))
       (sem 𝓛 (hidden_shr B κ handle.inner b (inner_at B o)))
   handle_shares B κ handle b o = qed 𝓛 (‵ (shared_of (handle_row (param 0 B)) handle b o κ) ∷ []) ∵
       fsplit ! $ fsplit ! $ keep ! (0 ∷ []) $ done !
 
-  -- what came with the answer of the one within comes with the same answer of the one around
+  -- an assertion about the result of the inner allocator holds for the same result of the outer one
   pub passes_on : (holds : Ty → Ptr → Fml) (τ : Ty) (is_ok : Bool) (b o : ℕ)
       → ent 𝓤 (sem 𝓛 (got holds τ is_ok b o)) (sem 𝓛 (block_if_ok holds τ (result_of is_ok b o)))
   passes_on holds τ true b o = id⊢ 𝓤 _

@@ -1,4 +1,4 @@
--- What a clause sees of a reader and a writer that fault once.
+-- The parts of a `FaultyReader` and a `FaultyWriter` that contracts see.
 use Rattle.std.specs.Prelude.{◌≡◌, ℕ, zero, suc, ◌+◌, Option, Some, None}
 use Rattle.vb_testing.specs.declared.faulty.FaultyReader.{FaultyReader}
 use Rattle.vb_testing.specs.declared.faulty.FaultyWriter.{FaultyWriter}
@@ -7,11 +7,11 @@ use Rattle.vb_testing.specs.declared.faulty.FaultyWriter.{FaultyWriter}
 abbrev pub reader_inner : {R : Type 0} → FaultyReader R → R
 reader_inner r = r.inner
 
--- how many bytes are read before the fault, and `None` after it
+-- the number of bytes left before the fault, or `None` after it
 abbrev pub bytes_until_fault : {R : Type 0} → FaultyReader R → Option ℕ
 bytes_until_fault r = r.until_fault
 
--- n of what is left before a fault are gone, and where no fault is to come none will
+-- n bytes fewer are left before the fault; if no fault is to come, that doesn't change
 abbrev pub LeavesUntilFault : Option ℕ → Option ℕ → ℕ → Type 0
 LeavesUntilFault None new n = new ≡ None
 LeavesUntilFault (Some old) None n = ⊥
@@ -21,11 +21,11 @@ LeavesUntilFault (Some old) (Some new) n = new + n ≡ old
 abbrev pub writer_inner : {W : Type 0} → FaultyWriter W → W
 writer_inner w = w.inner
 
--- how many writes are made before the fault, and `None` after it
+-- the number of writes left before the fault, or `None` after it
 abbrev pub writes_until_fault : {W : Type 0} → FaultyWriter W → Option ℕ
 writes_until_fault w = w.until_fault
 
--- the same after one write more, which at `Some 0` is the fault
+-- the same after one more write; at `Some 0` that write is the fault
 abbrev pub writes_after_one : Option ℕ → Option ℕ
 writes_after_one None = None
 writes_after_one (Some zero) = None

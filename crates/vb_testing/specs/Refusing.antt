@@ -1,6 +1,6 @@
--- What a clause sees of an allocator that refuses one request.
+-- The part of a `Refusing` that contracts see.
 use Rattle.vb_testing.specs.declared.refusing.Refusing.{Refusing}
 
--- the allocator that the requests are passed on to
+-- the inner allocator, to which the requests are forwarded
 abbrev pub refusing_inner : {B : Type 0} → Refusing B → B
 refusing_inner heap = heap.inner

@@ -1,5 +1,5 @@
-//! A reader and a writer that fault once, so that a test can let an input or an output break off.
-//! Neither takes memory of its own.
+//! A reader and a writer that fault once, so that a test can interrupt an input or an output.
+//! Neither allocates.
 ghost use Rattle.std.specs.Prelude.{◌≡◌, ◌≢◌, Some, None, IfOk, OnErr, IsErrAnd};
 ghost use Rattle.std.specs.Io.{ReadsAtMost, WritesAtMost};
 ghost use Rattle.std.specs.Io.KnownBytes.{Keeps, ReadConsumes, WriteAppends};
@@ -7,11 +7,11 @@ ghost use Rattle.std.specs.IoError.{error_kind};
 
 use std::io::{self, ErrorKind, Read, Write};
 
-/// Reads from a reader, and faults once, when a given number of bytes was read.
+/// Reads from another reader, and faults once, after a given number of bytes.
 ///
-/// The fault is an error of the kind `BrokenPipe`, which std's loops don't try again. It takes no
-/// byte: the reads after it go on where the reads before it stopped, and never fault again. So a
-/// test sees whether a caller loses or repeats bytes at a fault.
+/// The fault is an error of the kind `BrokenPipe`, which std's loops don't retry. It consumes no
+/// byte: later reads continue with the next byte, and don't fault again. So a test can detect a
+/// caller that loses or repeats bytes at a fault.
 #[derive(Drop)]
 pub struct FaultyReader<R> {
     inner: R,
@@ -21,8 +21,8 @@ pub struct FaultyReader<R> {
 impl<R> FaultyReader<R> {
     ghost use Rattle.vb_testing.specs.Faulty.{reader_inner, bytes_until_fault};
 
-    /// Faults at the first read once `bytes` bytes were read: with 0 at the very first read. Where
-    /// `inner` gives fewer bytes, its end is seen and no fault.
+    /// Returns a reader of `inner` that faults at the first read after `bytes` bytes: at the very
+    /// first read if `bytes` is 0. If `inner` ends before, the reader ends without a fault.
     pub fn new(inner: R, bytes: usize) -> FaultyReader<R>
         ensures inner { reader_inner result ≡ inner }
         ensures fault { bytes_until_fault result ≡ Some bytes }
@@ -39,10 +39,10 @@ impl<R: Read> Read for FaultyReader<R> {
 
     ghost remaining = { λ r. R.remaining (reader_inner r) };
 
-    /// One read of the reader within, of no more bytes than are left before the fault.
+    /// Reads once from the inner reader, but no more bytes than are left before the fault.
     ///
-    /// An error of the reader within comes back as it is, and the bytes before the fault stay as
-    /// many.
+    /// Returns an error of the inner reader unchanged. The number of bytes left before the fault
+    /// does not change then.
     fn read(&mut self, buf: &mut [u8]) -> io::Result<usize>
         ensures bound { ReadsAtMost result buf.new }
         ensures bytes { ReadConsumes (R.remaining (reader_inner self.old))
@@ -70,10 +70,10 @@ impl<R: Read> Read for FaultyReader<R> {
     }
 }
 
-/// Writes to a writer, and faults once, when a given number of writes was made.
+/// Writes to another writer, and faults once, after a given number of writes.
 ///
-/// The fault is an error of the kind `BrokenPipe`, which std's loops don't try again. It writes
-/// nothing: the writes after it go on, and never fault again.
+/// The fault is an error of the kind `BrokenPipe`, which std's loops don't retry. It writes
+/// nothing. Later writes go to the inner writer, and don't fault again.
 #[derive(Drop)]
 pub struct FaultyWriter<W> {
     inner: W,
@@ -83,7 +83,8 @@ pub struct FaultyWriter<W> {
 impl<W> FaultyWriter<W> {
     ghost use Rattle.vb_testing.specs.Faulty.{writer_inner, writes_until_fault};
 
-    /// Faults at the first write once `writes` writes were made: with 0 at the very first write.
+    /// Returns a writer to `inner` that faults once, after `writes` writes: at the first write if
+    /// `writes` is 0.
     pub fn new(inner: W, writes: usize) -> FaultyWriter<W>
         ensures inner { writer_inner result ≡ inner }
         ensures fault { writes_until_fault result ≡ Some writes }
@@ -94,7 +95,7 @@ impl<W> FaultyWriter<W> {
         }
     }
 
-    /// The writer within.
+    /// Returns the inner writer.
     pub fn inner(&self) -> &W
         ensures { result.now ≡ writer_inner self.now }
     {
@@ -107,7 +108,8 @@ impl<W: Write> Write for FaultyWriter<W> {
 
     ghost contents = { λ w. W.contents (writer_inner w) };
 
-    /// One write of the writer within, which counts as one also where it answers an error.
+    /// Writes once to the inner writer, or faults. A write counts even if the inner writer returns
+    /// an error.
     fn write(&mut self, buf: &[u8]) -> io::Result<usize>
         ensures bound { WritesAtMost result buf.now }
         ensures bytes { WriteAppends (W.contents (writer_inner self.old))
@@ -126,7 +128,7 @@ impl<W: Write> Write for FaultyWriter<W> {
         self.inner.write(buf)
     }
 
-    /// Flushes the writer within. It is no write: it never faults by itself.
+    /// Flushes the inner writer. A flush doesn't count as a write, and causes no fault.
     fn flush(&mut self) -> io::Result<()>
         ensures bytes { Keeps (W.contents (writer_inner self.old))
             (W.contents (writer_inner self.new)) }

@@ -1,17 +1,15 @@
-//! A handle to an allocator that refuses one request, so that a test can let a copy of an allocator
+//! A handle to an allocator that refuses one request, so that a test can make a clone of the handle
 //! fail.
 ghost use Rattle.std.specs.Prelude.{◌≡◌};
 
 use crate::Refusing;
 use std::alloc::{AllocError, Allocator};
 
-/// Passes requests for memory on to another allocator, and can be cloned where that is a
-/// `&Refusing`.
+/// Forwards requests for memory to another allocator, and can be cloned if that is a `&Refusing`.
 ///
-/// A clone is a request of that `Refusing`, which counts and may be the one that is refused; a
-/// clone of the `&Refusing` itself is none, and never fails. So a test takes `&heap` where requests
-/// for memory alone are to be refused, and `Handle { inner: &heap }` where copies of the allocator
-/// are too.
+/// Cloning a handle is a request to that `Refusing`, which counts it and may refuse it. Cloning the
+/// `&Refusing` is no request, and never fails. So a test passes `&heap` to refuse only requests for
+/// memory, and `Handle { inner: &heap }` to refuse clones of the allocator too.
 #[derive(Drop)]
 pub struct Handle<B: Allocator> {
     /// The allocator that the requests go to.

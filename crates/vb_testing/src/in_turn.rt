@@ -1,18 +1,19 @@
-//! Each request for memory refused in turn.
+//! Runs of a test that refuse each of its requests in turn.
 ghost use Rattle.std.specs.Iterator.{at_most};
 ghost use Rattle.std.specs.Prelude.{◌≡◌, ◌⊎◌};
 
 use crate::Refusing;
 use std::alloc::Allocator;
 
-/// How many runs are made at most, so that a trial that asks without end fails its test.
+/// The maximum number of runs, so that a trial that never stops making more requests fails its
+/// test.
 const MOST_RUNS: u64 = 1000;
 
-/// The runs of a trial over one allocator: the first with its first request refused, the second
-/// with its second one, and so on, and the last with none refused, since it made fewer.
+/// The runs of a trial over one allocator. Run `n` refuses request `n`; the last run makes fewer
+/// requests than that, so none is refused.
 ///
-/// `next` begins a run, and gives the number of the request that is refused. A run that was refused
-/// none is the last one, and so is the 1000th.
+/// `next` begins a run, and returns the number of the request to refuse. The last run is the first
+/// one without a refused request, or the 1000th.
 #[derive(Drop)]
 pub struct InTurn<'a, B: Allocator> {
     heap: &'a Refusing<B>,
@@ -37,8 +38,9 @@ impl<'a, B: Allocator> Iterator for InTurn<'a, B> {
 }
 
 impl<B: Allocator> Refusing<B> {
-    /// Runs with each request refused in turn. After the last one [`Refusing::asked`] says how many
-    /// requests it made, and [`Refusing::has_ended`] whether it was refused none.
+    /// Returns runs that refuse each request in turn. After the last run, [`Refusing::asked`]
+    /// returns the number of its requests, and [`Refusing::has_ended`] tests this number and that
+    /// no request was refused.
     pub fn in_turn(&self) -> InTurn<'_, B> {
         InTurn {
             heap: self,
@@ -46,14 +48,13 @@ impl<B: Allocator> Refusing<B> {
         }
     }
 
-    /// Whether the runs have come to one that was refused no request, and made exactly so many:
-    /// false where each of 1000 runs was refused one.
+    /// Returns whether the last run had no request refused, and made exactly `requests` requests.
+    /// Returns false if each of 1000 runs had a request refused.
     pub fn has_ended(&self, requests: u64) -> bool {
         !self.has_refused() && self.asked() == requests
     }
 
-    /// What a run is to answer: `refusal` where its request was refused, and `ample` where none
-    /// was.
+    /// Returns the expected result of a run: `refusal` if a request was refused, else `ample`.
     pub fn wanted<T: Copy>(&self, ample: T, refusal: T) -> T
         ensures { (result ≡ ample) ⊎ (result ≡ refusal) }
     {

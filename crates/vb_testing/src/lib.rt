@@ -1,5 +1,5 @@
-//! What tests lend to the code under test: an allocator that refuses a request and counts, and a
-//! reader and a writer that fault; and the runs that refuse each request in turn. For tests alone.
+//! Test doubles: an allocator that counts requests and refuses one, a reader and a writer that
+//! fault once, and runs that refuse each request in turn. Only tests use this crate.
 #![tactic(auto)]
 
 mod faulty;

@@ -1,23 +1,22 @@
-//! An allocator that refuses one request, so that a test can let each request fail in turn, and
-//! that counts what is asked of it, so that a test can hold a call to what it may take.
+//! An allocator that refuses one request, so that a test can make each request fail in turn. It
+//! also counts the requests and their bytes, so that a test can check how much a call allocates.
 ghost use Rattle.std.specs.Prelude.{◌≡◌};
 
 use std::alloc::{AllocError, Allocator};
 use std::cell::Cell;
 
-/// Passes requests for memory on to another allocator, counts them and their bytes, and refuses one
+/// Forwards requests for memory to another allocator, counts them and their bytes, and refuses one
 /// of them.
 ///
-/// A `&` to it is an allocator too, which can be copied and shares the count, so code under test
-/// takes `&heap` while the test keeps `heap`, asks it how many requests there were, and refuses
-/// another one.
+/// A `&Refusing` is an allocator too. It can be copied, and shares the counts: the code under test
+/// gets `&heap`, and the test keeps `heap`, reads its counts, and makes it refuse another request.
 ///
-/// To allocate, to grow and to shrink is one request each, and what is refused leaves memory as it
-/// was. To give a block back is no request, and always works. The allocator within may refuse what
-/// it can't give: that counts as a request, and not as the refused one.
+/// Each allocation, growth and shrink is one request. A refused request leaves memory unchanged.
+/// Freeing a block is no request, and always succeeds. If the inner allocator fails, that counts as
+/// a request, but not as the refused one.
 ///
-/// It takes no memory of its own. What a cell holds can't stand in a contract, so no clause says
-/// which request is refused and how many there were: the tests of this crate show it.
+/// It does not allocate for itself. Contracts can't name the value of a cell, so no clause says
+/// which request is refused or how many there were; the tests of this crate check it.
 #[derive(Drop)]
 pub struct Refusing<B: Allocator> {
     inner: B,
@@ -27,7 +26,8 @@ pub struct Refusing<B: Allocator> {
 impl<B: Allocator> Refusing<B> {
     ghost use Rattle.vb_testing.specs.Refusing.{refusing_inner};
 
-    /// Passes requests on to `inner`, and refuses request `n`, counted from 1, and none at 0.
+    /// Returns an allocator that forwards requests to `inner` and refuses request `n`, counted from
+    /// 1, or none if `n` is 0.
     pub fn new(inner: B, n: u64) -> Refusing<B>
         ensures { refusing_inner result ≡ inner }
     {
@@ -41,42 +41,41 @@ impl<B: Allocator> Refusing<B> {
         }
     }
 
-    /// Forgets the requests so far, and refuses request `n` from now on, counted from 1, and none
-    /// at 0.
+    /// Resets the counts, and refuses request `n` from now on, counted from 1, or none if `n` is 0.
     pub fn refuse(&self, n: u64) {
         self.requests.asked.set(0);
         self.requests.bytes.set(0);
         self.requests.refused.set(n);
     }
 
-    /// How many requests there were since `new` or the last `refuse`, the refused one among them.
+    /// Returns the number of requests since `new` or the last `refuse`, including the refused one.
     /// The count stops at `u64::MAX`.
     pub fn asked(&self) -> u64 {
         self.requests.asked.get()
     }
 
-    /// How many bytes were asked for since `new` or the last `refuse`, by the refused request too.
-    /// To grow a block asks for all bytes of the greater one. The count stops at `usize::MAX`.
+    /// Returns the number of bytes requested since `new` or the last `refuse`, including those of
+    /// the refused request. Growing a block requests all bytes of the larger block. The count stops
+    /// at `usize::MAX`.
     pub fn asked_bytes(&self) -> usize {
         self.requests.bytes.get()
     }
 
-    /// Whether so many bytes were asked for since `new` or the last `refuse`: at least, and at
-    /// most. Forgets the requests so far, and refuses none from now on.
+    /// Returns whether `least` to `most` bytes were requested since `new` or the last `refuse`.
+    /// Resets the counts, and refuses no request from now on.
     pub fn asks_within(&self, least: usize, most: usize) -> bool {
         let bytes = self.asked_bytes();
         self.refuse(0);
         least <= bytes && bytes <= most
     }
 
-    /// Whether the request that was to be refused came, since `new` or the last `refuse`.
+    /// Returns whether a request was refused since `new` or the last `refuse`.
     pub fn has_refused(&self) -> bool {
         let refused = self.requests.refused.get();
         refused > 0 && self.asked() >= refused
     }
 
-    // Counts one request that is none for memory, and answers whether it is the one that is
-    // refused.
+    // Counts one request that isn't for memory, and returns whether it is the one to refuse.
     pub(crate) fn refuses_next(&self) -> bool {
         self.requests.refuses_next(0)
     }
@@ -97,8 +96,8 @@ unsafe impl<B: Allocator> Allocator for Refusing<B> {
     }
 }
 
-/// The number of requests so far and of their bytes, and the number of the one that is refused, 0
-/// for none.
+/// The number of requests and of their bytes so far, and the number of the request to refuse, or 0
+/// if none is refused.
 #[derive(Drop)]
 struct Requests {
     asked: Cell<u64>,
@@ -107,7 +106,7 @@ struct Requests {
 }
 
 impl Requests {
-    // Counts one request for so many bytes, and answers whether it is the one that is refused.
+    // Counts one request for `size` bytes, and returns whether it is the one to refuse.
     fn refuses_next(&self, size: usize) -> bool {
         let number = self.asked.get().saturating_add(1);
         self.asked.set(number);

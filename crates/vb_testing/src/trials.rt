@@ -1,22 +1,22 @@
-//! What the tests of this crate compare, and trials that ask for memory. A test calls them, since
-//! each is proved once.
+//! Comparisons for the tests of this crate, and trials that allocate. They are functions, so that
+//! each is proved only once.
 use crate::Refusing;
 use std::alloc::{AllocError, Allocator};
 use std::fmt::Debug;
 use std::process::Abort;
 use std::rc::Rc;
 
-/// The two values are equal.
+/// Asserts that two values are equal.
 pub fn equal<T: Copy + PartialEq + Debug>(rt: &impl Abort, given: T, wanted: T) {
     assert_eq!(rt; given, wanted);
 }
 
-/// The two lists of bytes are equal.
+/// Asserts that two lists of bytes are equal.
 pub fn equal_bytes(rt: &impl Abort, given: &[u8], wanted: &[u8]) {
     assert_eq!(rt; given, wanted);
 }
 
-/// The heap made so many requests, and whether it refused one of them.
+/// Asserts the number of requests that the heap received, and whether it refused one of them.
 pub fn has_counted<B: Allocator>(
     rt: &impl Abort,
     heap: &Refusing<B>,
@@ -26,7 +26,8 @@ pub fn has_counted<B: Allocator>(
     equal(rt, (heap.asked(), heap.has_refused()), (asked, has_refused));
 }
 
-/// Two requests: one for room of one item, and one for more. Answers how many items there were.
+/// Makes two requests: one for the capacity of one item, and one to grow. Returns the number of
+/// items.
 pub fn two_items<A: Allocator>(alloc: A) -> Result<usize, AllocError> {
     let mut list = Vec::with_capacity(alloc, 1)?;
     let is_pushed = list.push(1u8).is_ok() && list.push(2).is_ok();
@@ -35,7 +36,7 @@ pub fn two_items<A: Allocator>(alloc: A) -> Result<usize, AllocError> {
     if is_pushed { Ok(len) } else { Err(AllocError) }
 }
 
-/// One request. Answers the number.
+/// Makes one request. Returns the shared number.
 pub fn shared_number<A: Allocator>(alloc: A) -> Result<usize, AllocError> {
     let shared = Rc::new(alloc, 3usize)?;
     let number = *shared;
@@ -43,7 +44,7 @@ pub fn shared_number<A: Allocator>(alloc: A) -> Result<usize, AllocError> {
     Ok(number)
 }
 
-/// One request. Answers the length of the text.
+/// Makes one request. Returns the length of the text.
 pub fn text<A: Allocator>(alloc: A) -> Result<usize, AllocError> {
     let text = String::with_capacity(alloc, 8)?;
     let len = text.len();

@@ -24,8 +24,8 @@ pub trait BitStore {
     // the bits of a window: its offset and length are the numbers
     ghost bits: { Self → ℕ → ℕ → List Bool };
 
-    // whether it allows a view of this window: bytes allow any that is in them and ends below bit
-    // 2^64, a set the one of its own bits
+    // whether it allows a view of this window: bytes allow every window in them that ends below bit
+    // 2^64; a set allows only the window of its own bits
     ghost fits: { Self → ℕ → ℕ → Type 0 };
 
     // any two proofs of that are equal, so no two views differ by their proofs alone
@@ -40,8 +40,8 @@ pub trait BitStore {
 
     ghost kept: { Self → Kept };
 
-    /// Returns all bytes, for a window that it allows. Clause `window` says that the window is in
-    /// them and ends below bit 2^64, and that `bits` are its bits in them.
+    /// Returns all bytes. The target must allow the window. Clause `window` says that the window is
+    /// in bounds of the bytes and ends below bit 2^64, and that `bits` are the bits there.
     fn as_slice(&self, offset: usize, len: usize) -> &[u8]
         requires { fits self.now offset len }
         ensures bytes { result.now ≡ bytes self.now }
@@ -268,7 +268,7 @@ impl<'a> BitBufferMutView<&'a mut [u8]> {
     ghost use Rattle.vb_view.specs.MutView.{mut_bits_of, store_of, mut_len_of};
     ghost use Rattle.vb_view.specs.MutView.{IsSameReference, ShowsWindow};
 
-    /// Returns a view of the first `len` bits of `bytes`, which must have so many.
+    /// Returns a view of the first `len` bits of `bytes`, which must have at least `len` bits.
     pub fn new(bytes: &'a mut [u8], len: usize) -> Self
         requires { len ≤ 8 * length bytes.old }
         ensures lends { IsSameReference (store_of result) bytes.entry }

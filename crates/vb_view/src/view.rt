@@ -41,7 +41,7 @@ pub struct BitBufferView<'a> {
 impl<'a> BitBufferView<'a> {
     ghost use Rattle.vb_view.specs.View.{bits_of, offset_of, bytes_of};
 
-    /// Returns a view of the first `len` bits of `bytes`, which must have so many.
+    /// Returns a view of the first `len` bits of `bytes`, which must have at least `len` bits.
     pub fn new(bytes: &'a [u8], len: usize) -> Self
         requires { len ≤ 8 * length bytes.now }
         ensures bits { bits_of result ≡ bits bytes.now 0 len }
@@ -331,8 +331,8 @@ impl<'a> BitBufferView<'a> {
     }
 
     /// Returns the index of the `n`-th set bit, counted from 0; `None` if at most `n` bits are set.
-    /// Counts from the front, 64 bytes at a time, up to the bytes that have it; of more than 4,096
-    /// bytes it may also count some behind these.
+    /// Counts from the front, 64 bytes at a time, up to the bytes that have it; in a view of more
+    /// than 4,096 bytes it may also count bytes after these.
     pub fn select(&self, n: usize) -> Option<usize>
         ensures place { Selects (bits_of self.now) n result }
         ensures each { InvertsCount (bits_of self.now) n result }
@@ -358,8 +358,8 @@ impl<'a> BitBufferView<'a> {
     }
 
     /// Returns the index of the first set bit at or after index `from`; `None` if there is none, or
-    /// if `from` is at least the length. Reads word by word, from the third word on four at once,
-    /// up to the word that has it. To visit all set bits, [`set_indices`](Self::set_indices) is
+    /// if `from` is at least the length. Reads two words one by one, and then four words at a time,
+    /// up to those that have it. To visit all set bits, [`set_indices`](Self::set_indices) is
     /// faster.
     pub fn next_set(&self, from: usize) -> Option<usize>
         ensures { IsNext (bits_of self.now) from result }

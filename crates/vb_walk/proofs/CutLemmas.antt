@@ -21,7 +21,7 @@ use Rattle.vb_walk.specs.Cut.{cut_words, word_of, IsCut}
 use Rattle.vb_walk.proofs.WordsLemmas.{number_is, length-words, words_none, words_cons, words_push}
 use Rattle.vb_walk.proofs.WordsLemmas.{words_front, word-bits, word_read, take-window}
 
--- ---- values after false ones
+-- ---- values after false values
 -- their number
 bits_number-behind : (s : ℕ) (l : List Bool)
     → bits_number (replicate s false ++ l) ≡ bits_number l * 2 ^ s

@@ -5,8 +5,8 @@ use Rattle.std.specs.Int.{div_ceil}
 use Rattle.vb_bits.specs.Bits.{bits}
 use Rattle.vb_walk.specs.Words.{bits_number, words, item_of}
 
--- the values after s false ones, as words, the last of them padded with false; no words for no
--- values
+-- s false values and then the values, as words; the last word is padded with false. No values have
+-- no words
 abbrev pub cut_words : ℕ → List Bool → List ℕ
 cut_words s [] = []
 cut_words s (b ∷ l) = words (replicate s false ++ b ∷ l) (div_ceil (s + length (b ∷ l)) 64)

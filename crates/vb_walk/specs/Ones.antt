@@ -2,8 +2,8 @@
 use Rattle.std.specs.Prelude.{◌≡◌, ℕ, ◌<◌, ◌≤◌, true, false}
 use Rattle.vb_bits.specs.Digits.{has_bit}
 
--- the digits of the word from a below b are ones, the next one isn't, and `rest` is the word
--- without its digits below b
+-- digits `a..b` of the word are ones, the digit after them isn't, and `rest` is the word without
+-- its digits below b
 pub record CutsOnes (word a b rest : ℕ) : Type 0 where
   pub within : b ≤ 64
   pub ones : (i : ℕ) → a ≤ i → i < b → has_bit word i ≡ true

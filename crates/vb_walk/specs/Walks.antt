@@ -16,7 +16,7 @@ use Rattle.vb_walk.specs.declared.slices.TakenRun.{TakenRun}
 abbrev pub others : Bool → ℕ → ℕ
 others v word = cond v (bit_not w64 word) word
 
--- the bits from a below b are all v
+-- bits `a..b` are all v
 abbrev pub AreAll : List ℕ → Bool → ℕ → ℕ → Type 0
 AreAll bytes v a b = (i : ℕ) → a ≤ i → i < b → bit_of bytes i ≡ v
 
@@ -44,8 +44,8 @@ bits_ahead c = 8 * (c.end - c.byte) + c.left
 abbrev pub stop : Cursor → ℕ
 stop c = c.next + bits_ahead c
 
--- the numbers of a walk are consistent: the current word has the indices from `base` below `next`,
--- and the bits ahead start at byte `byte`
+-- the numbers of a walk are consistent: the current word has the indices `base..next`, and the bits
+-- ahead start at byte `byte`
 pub record IsCursor (bytes : List ℕ) (c : Cursor) : Type 0 where
   pub room : c.offset + stop c ≤ 8 * length bytes
   pub fits : c.offset + stop c < 2 ^ 64
@@ -108,7 +108,7 @@ pub record IsSkipped (bytes : List ℕ) (c d : Cursor) : Type 0 where
   pub last : d.word ≡ 0 → bits_ahead d ≡ 0
 
 -- ---- indices
--- the numbers from a below a + n at which t is true, in ascending order
+-- the numbers in `a..a + n` at which t is true, in ascending order
 unfoldable pub places_in : (ℕ → Bool) → ℕ → ℕ → List ℕ
 places_in t a n = filter t (range_with_len a n)
 

@@ -11,7 +11,8 @@ fn is_broken_pipe<T: Drop>(answer: Result<T, Error>) -> bool {
     }
 }
 
-/// Reads up to a fault, and then to the end. The list has the first bytes, and then all.
+/// Reads up to a fault, and then to the end. Asserts that the list has the first bytes, and then
+/// all.
 fn read_past_a_fault<R: Read, A: Allocator>(
     rt: &impl Abort,
     reader: &mut R,
@@ -25,7 +26,7 @@ fn read_past_a_fault<R: Read, A: Allocator>(
     equal_bytes(rt, list.as_slice(), b"abcdef");
 }
 
-/// How many bytes are read before the fault, and these.
+/// Numbers of bytes before the fault, and these bytes.
 const READS: &[(usize, &[u8])] = &[(0, b""), (4, b"abcd"), (6, b"abcdef")];
 
 #[test]
@@ -47,7 +48,8 @@ fn a_reader_that_ends_before_its_fault_just_ends(rt: HostRuntime) {
     drop(list);
 }
 
-/// Reads once, and compares how many bytes came, none for a fault, and what the buffer holds then.
+/// Reads once, and compares the number of bytes read (`None` for a fault) and the buffer
+/// afterwards.
 fn is_read<R: Read>(
     rt: &impl Abort,
     reader: &mut R,
@@ -96,7 +98,7 @@ fn a_writer_faults_once_after_its_writes(rt: HostRuntime) {
     }
 }
 
-/// Writes two bytes, which the buffer keeps until they are flushed, and meets the fault then.
+/// Writes two bytes, which the buffer keeps until the flush. The next write faults.
 fn write_and_flush<A: Allocator>(
     rt: &impl Abort,
     writer: &mut FaultyWriter<BufWriter<Vec<u8, A>, A>>,

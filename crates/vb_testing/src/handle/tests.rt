@@ -2,8 +2,8 @@ use crate::trials::{equal, has_counted, shared_number, two_items};
 use crate::{Handle, Refusing};
 use std::alloc::{AllocError, Allocator};
 
-// A copy of the allocator, and three requests for memory. Answers how many items the list had, and
-// the number.
+// Clones the allocator, and makes three requests for memory. Returns the number of items of the
+// list, and the shared number.
 fn build<A: Allocator + Clone>(alloc: A) -> Result<(usize, usize), AllocError> {
     let twin = alloc.clone()?;
     let Ok(len) = two_items(alloc) else {
@@ -48,7 +48,7 @@ fn a_refused_clone_leaves_the_handle_as_it_was(rt: HostRuntime) {
     equal(&rt, is_refused(handle.clone()), true);
     let second = handle.clone().expect(&rt, "a clone");
     has_counted(&rt, &heap, 3, true);
-    // Each clone asks the same heap.
+    // Each clone allocates from the same heap.
     equal(&rt, (two_items(first), two_items(second)), (Ok(2), Ok(2)));
     has_counted(&rt, &heap, 7, true);
     drop(handle);

@@ -4,8 +4,8 @@ use std::alloc::{AllocError, Allocator, Global};
 use std::process::Abort;
 use std::rc::Rc;
 
-// Four requests: a list's block and its growth, a shared number, a text. Answers how many items the
-// list had, the number, and the length of the text.
+// Makes four requests: a list's block and its growth, a shared number, a text. Returns the number
+// of items of the list, the shared number, and the length of the text.
 fn build<B: Allocator>(heap: &Refusing<B>) -> Result<(usize, usize, usize), AllocError> {
     Ok((two_items(heap)?, shared_number(heap)?, text(heap)?))
 }
@@ -25,7 +25,7 @@ fn refuses_each_request_in_turn(rt: HostRuntime) {
     }
 }
 
-// Three items in a list with room for two, whose growth is refused once.
+// Pushes three items to a list with capacity for two. Its growth is refused once.
 fn grow_past_a_refusal<B: Allocator>(rt: &impl Abort, heap: &Refusing<B>) {
     let mut list = Vec::with_capacity(heap, 2).expect(rt, "memory");
     list.push(1u8).expect(rt, "room");
@@ -45,7 +45,7 @@ fn refuses_one_request_alone(rt: HostRuntime) {
     grow_past_a_refusal(&rt, &Refusing::new(rt.alloc(), 2));
 }
 
-// A list that gives back its room, which is refused once.
+// Shrinks a list to its length. The first attempt is refused.
 fn shrink_past_a_refusal<B: Allocator>(rt: &impl Abort, heap: &Refusing<B>) {
     let mut list = Vec::with_capacity(heap, 40).expect(rt, "memory");
     list.push(1u8).expect(rt, "room");
@@ -53,7 +53,7 @@ fn shrink_past_a_refusal<B: Allocator>(rt: &impl Abort, heap: &Refusing<B>) {
     has_counted(rt, heap, 0, false);
     list.shrink_to_fit();
     has_counted(rt, heap, 1, true);
-    // A refused shrink leaves the room.
+    // A refused shrink leaves the capacity unchanged.
     equal(rt, list.capacity() >= 40, true);
     heap.refuse(0);
     list.shrink_to_fit();
@@ -67,8 +67,8 @@ fn counts_anew_from_the_last_refuse(rt: HostRuntime) {
     shrink_past_a_refusal(&rt, &Refusing::new(rt.alloc(), 0));
 }
 
-// Makes a shared number another one, and tells how many requests there were, of which the first is
-// refused, and the number then.
+// Changes a shared number while the first request is refused. Returns the number of requests, and
+// the shared number afterwards.
 fn change<B: Allocator>(
     heap: &Refusing<B>,
     shared: &mut Rc<usize, &Refusing<B>>,

@@ -10,7 +10,7 @@ invariant-loop-left g l = record {
       (slice_index l.lanes.left i);
   small : (i : ℕ) → i < 8 → slice_index l.lanes.left i ≤ l.left;
   same : g.L.Level.held l.source ≡ g.L.Level.held l.fn.source;
-  -- each turn takes one binary digit from the most counts that are left
+  -- each turn takes one binary digit from the greatest number of counts left
   probes : (x : g.row.L.Denot) → (g.L.Level.seen x l.source).probes + 8 * binary_digits (l.left - 1)
       ≤ (g.L.Level.seen x l.fn.source).probes + 8 * binary_digits (l.most - 1);
 }

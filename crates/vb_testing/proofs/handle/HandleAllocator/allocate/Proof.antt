@@ -1,4 +1,4 @@
--- A request is passed on to the allocator within, through a `&` to the field. Assumes `Logic`.
+-- Forwards a request to the inner allocator, through a `&` to the field. Assumes `Logic`.
 use Rattle.vb_testing.proofs.Steps.{◌≡◌, ℕ, [], ◌∷◌, refl, w64, proved, Al, token, Takes, at_takes}
 use Rattle.vb_testing.proofs.Steps.{Answered, Takes-goes, Takes-gives, Answer, answer_val}
 use Rattle.vb_testing.proofs.Steps.{Answer-typed, id⊢, ftrue, flft, ◌⊑◌, ⊑_trans, fact, tables}

@@ -1,4 +1,4 @@
--- A block goes back to the allocator within, through a `&` to the field. Assumes `Logic`.
+-- Returns a block to the inner allocator, through a `&` to the field. Assumes `Logic`.
 use Rattle.vb_testing.proofs.Steps.{◌≡◌, [], ◌∷◌, refl, sym, subst, w64, proved, after, Al, token}
 use Rattle.vb_testing.proofs.Steps.{Gives, at_gives, Gives-goes, Gives-Gives, fst∗, never, Fml}
 use Rattle.vb_testing.proofs.Steps.{ftrue, flft, ◌⊑◌, ⊑_trans, fact, tables, T, inst_fn, Fn}

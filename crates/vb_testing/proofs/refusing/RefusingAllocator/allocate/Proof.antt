@@ -1,5 +1,5 @@
--- A request is counted through a `&` to the counts, and then refused or passed on through a `&` to
--- the allocator within. Assumes `Logic`.
+-- Counts a request through a `&` to the counts, and then refuses it or forwards it through a `&` to
+-- the inner allocator. Assumes `Logic`.
 use Rattle.vb_testing.proofs.Steps.{◌≡◌, ◌^◌, ℕ, [], ◌∷◌, refl, ap, w64, proved, after, Al, token}
 use Rattle.vb_testing.proofs.Steps.{Takes, at_takes, Answered, Takes-goes, Takes-gives, Answer}
 use Rattle.vb_testing.proofs.Steps.{answer_val, Answer-typed, id⊢, ftrue, flft, ◌⊑◌, ⊑_trans, fact}
