@@ -1,6 +1,6 @@
 /*
  * The structs of Arrow's C data interface and C stream interface, laid out as its specification
- * says. A program that has them by another header has the same ones.
+ * says. A program that gets them from another header has the same structs.
  */
 #ifndef VORTEX_BITS_ARROW_H
 #define VORTEX_BITS_ARROW_H

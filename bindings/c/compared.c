@@ -1,6 +1,6 @@
 /*
- * Comparisons of vortex_bits.h beside a loop over values: each function and each comparison over
- * random values near the ends of their type, of floats with what isn't a number, both infinities
+ * Compares the comparisons of vortex_bits.h with a loop over values: each function and each
+ * comparison over random values near the ends of their type, of floats with NaN, both infinities
  * and both zeros, into random windows, and each checked form with numbers past every limit; and of
  * floats by their bits. It is C and C++ alike.
  */
@@ -12,7 +12,7 @@
 
 enum { VALUES = 300, BYTES = VALUES / 8 + 3, ROUNDS = 200, COMPARISONS = 6 };
 
-/* Some value of a whole number's type. */
+/* Returns a random value of an integer type. */
 #define WHOLE(T, value)                                                                           \
     static value value_##T(void)                                                                  \
     {                                                                                             \
@@ -22,7 +22,7 @@ enum { VALUES = 300, BYTES = VALUES / 8 + 3, ROUNDS = 200, COMPARISONS = 6 };
         return (value)(near - random_below(3));                                                   \
     }
 
-/* And of a float's, of which any bits are one. */
+/* Returns a random value of a float type; any bits are a value. */
 #define FLOAT(T, value)                                                                           \
     static value value_##T(void)                                                                  \
     {                                                                                             \
@@ -37,7 +37,7 @@ enum { VALUES = 300, BYTES = VALUES / 8 + 3, ROUNDS = 200, COMPARISONS = 6 };
         return any;                                                                               \
     }
 
-/* What vb_compare_T and vb_compare_with_T write, and their checked forms, beside a loop. */
+/* Compares the outputs of vb_compare_T, vb_compare_with_T and their checked forms with a loop. */
 #define COMPARES(T, value)                                                                        \
     static bool holds_##T(uint8_t op, value a, value b)                                           \
     {                                                                                             \
@@ -79,9 +79,9 @@ enum { VALUES = 300, BYTES = VALUES / 8 + 3, ROUNDS = 200, COMPARISONS = 6 };
     }
 
 /*
- * Comparisons of floats beside those that are written out by their bits: each of some floats with
- * each, among them both zeros, subnormals, and NaNs, signalling, quiet and with a payload, of both
- * signs. Loads alone make them, so that no operation quiets a NaN. What is called by value may.
+ * Compares comparisons of floats with comparisons of their bits: each float of a list with each,
+ * including both zeros, subnormals, and NaNs of both signs (signalling, quiet and with a payload).
+ * The floats come only from loads, so that no operation quiets a NaN. Calls by value may do so.
  */
 #define BY_BITS(T, value, form, SIGN, INFINITE, UNIT)                                             \
     static bool holds_by_bits_##T(uint8_t op, form a, form b)                                     \

@@ -1,4 +1,6 @@
-/* The comparisons of vortex_bits.hpp beside those of C++, at the ends of each type's range. */
+/*
+ * Compares the comparisons of vortex_bits.hpp with those of C++, at the ends of each type's range.
+ */
 #include "vortex_bits.hpp"
 
 #include <cmath>
@@ -80,7 +82,10 @@ template <class Value> static std::vector<Value> numbers()
     return found;
 }
 
-/* Compares values of a type with numbers of another, and sees to the bits beside the window. */
+/*
+ * Compares values of a type with numbers of another, and checks that bits outside the window are
+ * unchanged.
+ */
 template <class Value, class Number> static void compare(const std::vector<Number> &with)
 {
     const std::vector<Value> values = numbers<Value>();

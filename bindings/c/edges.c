@@ -1,6 +1,6 @@
 /*
- * Walks over pages of memory: beside a loop over single bits, and with a page behind what was asked
- * for that can't be read. Packs of bools of all values that a byte has. It is C and C++ alike.
+ * Compares walks over pages of memory with a loop over single bits, and runs them before a page
+ * that can't be read. Packs bools with all values of a byte. It is C and C++ alike.
  */
 #ifndef _DEFAULT_SOURCE
 #define _DEFAULT_SOURCE
@@ -19,7 +19,7 @@ static uint32_t narrow[BITS];
 static vb_run runs[BITS / 2 + 1];
 static vb_run_u32 narrow_runs[2][BITS / 2 + 1];
 
-/* Bytes of one kind after the other: all false, all true, and any. */
+/* Fills the bytes with stretches of one kind: all false, all true, or random. */
 static void randomize(uint8_t *bytes)
 {
     size_t kind = 0;
@@ -31,7 +31,7 @@ static void randomize(uint8_t *bytes)
     }
 }
 
-/* The first `room` places and runs of the window are what a loop finds. */
+/* Checks that the first `room` indices and runs of the window are those that a loop finds. */
 static void walk(const uint8_t *bytes, size_t offset, size_t len, size_t room)
 {
     size_t seen = 0, begun = 0, ended = 0, count = 0;
@@ -78,7 +78,7 @@ static void walk(const uint8_t *bytes, size_t offset, size_t len, size_t room)
     }
 }
 
-/* Memory whose last pages can't be read, behind `PAGES` that can. */
+/* Returns memory of `PAGES` pages that can be read and pages after them that can't. */
 static uint8_t *guarded(size_t behind)
 {
     const size_t size = BYTES + behind;
@@ -90,7 +90,10 @@ static uint8_t *guarded(size_t behind)
     return (uint8_t *)all;
 }
 
-/* As many items as have room are found, and what is behind the page of the last one isn't read. */
+/*
+ * Checks that walks find as many items as `out` has space for, and read nothing after the page of
+ * the last one.
+ */
 static void stops(uint8_t *bytes, size_t behind)
 {
     const size_t size = BYTES + behind;
@@ -108,7 +111,7 @@ static void stops(uint8_t *bytes, size_t behind)
     check(vb_set_slices(runs, 0, bytes, size, BITS, 8 * behind) == 0, "no room");
 }
 
-/* Places of 32 bits, of a window of 2^32 bits and of a longer one. */
+/* Checks indices of 32 bits in a window of 2^32 bits and in a longer one. */
 static void longest(void)
 {
     const uint64_t all = (uint64_t)1 << 32;
@@ -139,7 +142,7 @@ static void longest(void)
     munmap(zeros, size);
 }
 
-/* A byte of any value is true where it isn't 0, and changes no bit beside its own. */
+/* Checks that a byte of any value is true unless it is 0, and changes only its own bit. */
 static void bools(void)
 {
     enum { N = 200, OUT = N / 8 };

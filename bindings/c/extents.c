@@ -1,8 +1,8 @@
 /*
- * Each function that writes, on windows whose bytes are the last ones before a page that can be
- * neither read nor written, or the first ones behind one, though it is told that it may write them:
- * a load or a store of another byte stops the call. The same call in memory that can all be written
- * leaves the same. It is C and C++ alike.
+ * Runs each function that writes on windows whose bytes are the last ones before a page that can be
+ * neither read nor written, or the first ones after one. The arguments claim that the function may
+ * write that page, so a load or a store of another byte stops the call. The same call in writable
+ * memory must have the same result. It is C and C++ alike.
  */
 #ifndef _DEFAULT_SOURCE
 #define _DEFAULT_SOURCE
@@ -15,7 +15,7 @@
 #include <signal.h>
 #include <sys/mman.h>
 
-/* Pages of a region: some that can be written, and one beside them on each side. */
+/* The pages of a region: some that can be written, and one on each side of them that can't. */
 enum { PAGE = 4096, OPEN = 5 * PAGE, REGION = OPEN + 2 * PAGE, NEAR = 64, MOST_BITS = 130 };
 
 static const size_t many_bits[] = {1000, 4095, 4097, 32769, 65541, 70001};
@@ -55,17 +55,17 @@ static bool guard(void)
     return sigaction(SIGSEGV, &action, NULL) == 0;
 }
 
-/* Whether the call touches only what it may, and answers as it should. */
+/* Returns whether the call accesses only the allowed bytes, and has the right result. */
 static bool stays(const struct writer *it, const struct job *job)
 {
     return sigsetjmp(fault, 0) == 0 && it->call(job);
 }
 
-/* One call whose windows, or items, begin `at` bytes behind the begin of their regions. */
+/* Makes one call whose windows, or items, begin `at` bytes after the start of their regions. */
 static bool holds(const struct writer *it, size_t at, size_t bit, size_t count)
 {
     const size_t before = random_below(8);
-    /* What is compared: these bytes, and those near them that can be read. */
+    /* The compared bytes: those of the call, and the readable ones near them. */
     size_t from = at - NEAR, to = at + bytes_of(it, bit, count) + NEAR;
     if (from < PAGE) {
         from = PAGE;
@@ -96,12 +96,15 @@ static bool holds(const struct writer *it, size_t at, size_t bit, size_t count)
     return true;
 }
 
-/* Its calls for so many bits, or items, at each bit of a byte, at both ends of what is open. */
+/*
+ * Makes its calls for `count` bits, or items, from each bit of a byte on, at both ends of the
+ * writable pages.
+ */
 static bool holds_of(const struct writer *it, size_t count)
 {
     for (size_t bit = 0; bit < (it->is_told ? 8 : 1); bit++) {
         const size_t bytes = bytes_of(it, bit, count);
-        /* Of no bits, the byte that they would begin in isn't open either. */
+        /* For no bits, the byte in which they would begin isn't writable either. */
         const size_t first = bytes == 0 ? PAGE + OPEN : PAGE;
         if (!holds(it, first, bit, count) || !holds(it, PAGE + OPEN - bytes, bit, count)) {
             fprintf(stderr, "failed: vb_%s: %zu from bit %zu on\n", it->name, count, bit);
@@ -111,7 +114,7 @@ static bool holds_of(const struct writer *it, size_t count)
     return true;
 }
 
-/* All functions for so many; one that fails is left out from then on. */
+/* Runs all functions for `count` bits or items. Leaves out a function once it has failed. */
 static void all_of(bool is_left[], size_t count, bool of_bits, bool of_items)
 {
     make_mask(mask, count);

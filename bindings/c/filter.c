@@ -1,6 +1,6 @@
 /*
- * A filter over a column with validity: the places and the sum of the values that are valid and
- * above a limit, by masks and by a plain loop over the column. It wants C11, for its clock.
+ * A filter over a column with validity: the indices and the sum of the values that are valid and
+ * above a limit, by masks and by a plain loop over the column. It needs C11 for its clock.
  */
 #include "vortex_bits.h"
 
@@ -11,7 +11,7 @@
 enum { VALUES = 1000000, LIMIT = 500, ROUNDS = 50, OFFSET = 3 };
 
 static int32_t values[VALUES];
-/* The first value's bit is bit OFFSET, as of a slice of a longer column. */
+/* The first value's bit is bit OFFSET, as in a slice of a longer column. */
 static uint8_t validity[VALUES / 8 + 1];
 static uint8_t above[VALUES];
 static uint8_t mask[VALUES / 8];

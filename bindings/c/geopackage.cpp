@@ -4,8 +4,8 @@
  *
  *     geopackage FILE [ROWS]
  *
- * FILE is one that ../gdal/make_parcels.py writes. GDAL gives its tables by Arrow's C stream
- * interface, in batches of at most ROWS rows, else 65,536. Each query is printed with its rows;
+ * ../gdal/make_parcels.py writes FILE. GDAL passes its tables by Arrow's C stream interface, in
+ * batches of at most ROWS rows, by default 65,536. It prints each query with its rows;
  * ../gdal/compare compares them with those of SQLite.
  */
 #include "query_columns.hpp"
@@ -34,7 +34,7 @@ struct mask {
     std::size_t len;
 };
 
-/* Ends the program where GDAL doesn't do what it should. */
+/* Ends the program if a call of GDAL fails. */
 static void must(bool good, const char *what)
 {
     if (!good) {
@@ -43,7 +43,7 @@ static void must(bool good, const char *what)
     }
 }
 
-/* The columns of a table that are asked for, with the batches of it. */
+/* The requested columns of a table, and its batches. */
 struct table {
     table(GDALDatasetH file, const char *layer, const std::string &most,
         std::vector<const char *> names)
@@ -67,7 +67,7 @@ struct table {
         stream.release(&stream);
     }
 
-    /* The number of each name among the columns. */
+    /* Finds the index of each name among the columns. */
     void find(ArrowArrayStream &stream, const std::vector<const char *> &names)
     {
         ArrowSchema schema;
@@ -99,7 +99,7 @@ template <class T> struct kept {
         bits_mut(valid, at, count).filter_validity_of(from.valid(), mask);
     }
 
-    /* The rows at indices. */
+    /* Returns the rows at indices. */
     kept take(const std::vector<std::uint32_t> &at) const
     {
         kept taken;
@@ -171,7 +171,10 @@ struct rows {
     kept<std::int64_t> truck, cents;
 };
 
-/* Which values of a column compare with a number; nulls do by what they happen to hold. */
+/*
+ * Returns which values of a column satisfy a comparison with a number. The bits of nulls are
+ * arbitrary.
+ */
 template <class T> static mask compared(const column &of, vb_comparison op, T number)
 {
     mask made(of.size());
@@ -179,7 +182,7 @@ template <class T> static mask compared(const column &of, vb_comparison op, T nu
     return made;
 }
 
-/* The same without the nulls. */
+/* Returns the same, with false at nulls. */
 template <class T> static mask passed(const column &of, vb_comparison op, T number)
 {
     mask made = compared(of, op, number);
@@ -187,7 +190,7 @@ template <class T> static mask passed(const column &of, vb_comparison op, T numb
     return made;
 }
 
-/* Where there is a `not`, a null has to stay null up to it. */
+/* Evaluates a condition with a `not`, up to which a null must stay null. */
 static mask neither_near_nor_light(const parcels &of)
 {
     const mask near = compared<std::int32_t>(of.days, VB_LESS_OR_EQUAL, 3);
@@ -200,7 +203,9 @@ static mask neither_near_nor_light(const parcels &of)
     return any_valid;
 }
 
-/* A bit for each truck, and of those the bit at the number in each row that names one. */
+/*
+ * Returns for each row the bit of `chosen` at its truck's number; false if the row names no truck.
+ */
 static mask of_chosen(const parcels &of, const mask &chosen)
 {
     const auto end = static_cast<std::int64_t>(chosen.len);
@@ -224,7 +229,10 @@ static rows filter(const table &from, const rule &where)
     return found;
 }
 
-/* Which trucks are in Linz. C has no tests of texts: this is the one loop over rows. */
+/*
+ * Returns which trucks are in Linz. The C library has no tests of texts: this is the only loop over
+ * rows.
+ */
 static mask in_linz(const table &trucks)
 {
     mask made(0);
@@ -243,7 +251,10 @@ static mask in_linz(const table &trucks)
     return made;
 }
 
-/* Each truck in turn: how many parcels it has, how many of these have a price, and its sum. */
+/*
+ * Prints for each truck the number of its parcels, the number of those with a price, and the sum of
+ * the prices.
+ */
 static void print_groups(const table &from, std::size_t trucks)
 {
     for (std::size_t truck = 0; truck < trucks; truck++) {
@@ -261,7 +272,10 @@ static void print_groups(const table &from, std::size_t trucks)
     }
 }
 
-/* Keeps the heaviest rows so far, and looks at those alone that are heavier than all of these. */
+/*
+ * Keeps the heaviest rows so far, and considers only rows that are heavier than the lightest of
+ * them.
+ */
 static rows heaviest(const table &from, std::size_t most)
 {
     rows top;
@@ -281,7 +295,7 @@ static rows heaviest(const table &from, std::size_t most)
     return top;
 }
 
-/* Skips rows by their number alone. */
+/* Skips rows by counting bits, without reading their values. */
 static rows page(const table &from, std::size_t offset, std::size_t limit)
 {
     rows found;

@@ -1,6 +1,6 @@
 /*
- * Counts and sums by group of vortex_bits.hpp: what they add, rows without a group, and what they
- * refuse; and the sum, the minimum and the maximum of floats.
+ * Tests counts and sums by group of vortex_bits.hpp: their results, rows without a group, and their
+ * errors; and the sum, the minimum and the maximum of floats.
  */
 #include "vortex_bits.hpp"
 

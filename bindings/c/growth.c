@@ -4,7 +4,7 @@
  *     growth ROW SIZE CALLS
  *
  * It makes inputs of SIZE bits or items once, calls the function of the row CALLS times, and prints
- * a sum of what the calls returned and wrote. Without arguments it prints the rows.
+ * a sum of the results and the outputs of the calls. Without arguments it prints the rows.
  */
 #include <stdio.h>
 #include <stdlib.h>
@@ -32,7 +32,7 @@ static uint64_t *indices_u64;
 static vb_u128 *values, *others;
 static bool *bools;
 static size_t *table, table_count;
-/* What the calls write. */
+/* The outputs of the calls. */
 static uint8_t *out, *valid;
 static vb_u128 *written;
 static size_t *places;
@@ -314,7 +314,7 @@ static void *room(size_t bytes)
     return made;
 }
 
-/* So many bytes at random. */
+/* Returns `bytes` random bytes. */
 static void *random_bytes(size_t bytes)
 {
     uint8_t *made = room(bytes);

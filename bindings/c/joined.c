@@ -1,7 +1,7 @@
 /*
- * Writes at a bit offset of vortex_bits_gather.h beside a loop over single bits: over random
- * windows of some blocks of 4,096 bits, and each checked form with numbers at and past every limit.
- * Batches that are joined are those that a loop joins. It is C and C++ alike.
+ * Compares the writes at a bit offset of vortex_bits_gather.h with a loop over single bits: over
+ * random windows of some blocks of 4,096 bits, and each checked form with numbers at and past every
+ * limit. Batches that are joined are those that a loop joins. It is C and C++ alike.
  */
 #include "tests.h"
 #include "vortex_bits.h"
@@ -14,13 +14,13 @@ enum { BYTES = 3000, BITS = 8 * BYTES, ROUNDS = 300, SOME = 12000 };
 static unsigned long long calls = 0;
 static uint8_t left[BYTES], right[BYTES], before[BYTES], wanted[BYTES], got[BYTES];
 
-/* Few bits in most rounds, and in some several blocks. */
+/* Returns a length: few bits in most rounds, several blocks in the others. */
 static size_t length_up_to(size_t most)
 {
     return random_below(random_below(3) == 0 ? most + 1 : most / 60 + 1);
 }
 
-/* An offset that begins a byte in half of the rounds. */
+/* Returns an offset, in half of the rounds the first bit of a byte. */
 static size_t offset_for(size_t len)
 {
     const size_t o = random_below(BITS - len + 1);
@@ -61,7 +61,7 @@ static void filters(void)
     check(vb_try_filter_bits(got, BYTES, o, left, BYTES, v, right, BYTES, m, len, &written)
             && written == kept, "vb_try_filter_bits");
     wrote("what vb_try_filter_bits writes");
-    /* The last bit that is kept has no room, and no window of bits that don't exist fits. */
+    /* The last selected bit has no space, and windows past the end don't fit. */
     written = 77;
     memcpy(wanted, before, BYTES);
     begin();
@@ -107,7 +107,7 @@ static void packs(void)
     wrote("what stands after a refused pack");
 }
 
-/* Bits that move within one bitmap, mostly to overlap themselves. */
+/* Moves bits within one bitmap, mostly with overlap. */
 static void moves(void)
 {
     const size_t len = length_up_to(BITS / 2), from = random_below(BITS - len + 1);
@@ -218,8 +218,10 @@ static void filters_of_validities(void)
     wrote("what stands after a refused filter");
 }
 
-/* A null pointer that is said to have bytes is no missing validity, nor is another pointer to none;
- * a window has to be in its bytes, if it is not the missing one. */
+/*
+ * Tests that neither a null pointer with a size nor another pointer without bytes is a missing
+ * validity. A validity that isn't missing must be in its bytes.
+ */
 static void no_validities(void)
 {
     size_t number = 77;
@@ -246,7 +248,7 @@ static void no_validities(void)
     wrote("what stands after a refused validity");
 }
 
-/* What vb_take_bits_I and its checked form write, beside a loop. */
+/* Compares the outputs of vb_take_bits_I and its checked form with a loop. */
 #define TAKES(I, index_t)                                                                         \
     static void takes_##I(void)                                                                   \
     {                                                                                             \
@@ -304,7 +306,7 @@ TAKES(u16, uint16_t)
 TAKES(u32, uint32_t)
 TAKES(u64, uint64_t)
 
-/* Batches one behind the other, as a column is made of them. */
+/* Joins batches one after the other into a column. */
 static void joins(void)
 {
     size_t at = 0, rows = 0;

@@ -1,6 +1,6 @@
 /*
- * The filters, deposits and combined counts of vortex_bits.h beside a loop over single bits, over
- * random windows, and each checked form with numbers past every limit. It is C and C++ alike.
+ * Compares the filters, deposits and combined counts of vortex_bits.h with a loop over single bits,
+ * over random windows, and each checked form with numbers past every limit. It is C and C++ alike.
  */
 #include "tests.h"
 #include "vortex_bits.h"
@@ -9,7 +9,7 @@
 
 enum { BYTES = 96, BITS = 8 * BYTES, ROUNDS = 5000 };
 
-/* A value of each width for place i. */
+/* Returns a number for index i, whose low bytes are the values of each width. */
 static uint64_t number_at(size_t i)
 {
     return (i + 1) * 0x9E3779B97F4A7C15u;
@@ -94,7 +94,9 @@ static void questions(const uint8_t *left, size_t l, const uint8_t *right, size_
 }
 /* To here. */
 
-/* Bits that go back to the places of a mask, into a window whose other bits stay. */
+/*
+ * Deposits bits at the set bits of a mask, into a window, and checks that other bits are unchanged.
+ */
 static void deposits(const uint8_t *bytes, size_t v, const uint8_t *mask, size_t m, size_t len,
     size_t ones)
 {
@@ -117,13 +119,16 @@ static void deposits(const uint8_t *bytes, size_t v, const uint8_t *mask, size_t
     check(memcmp(got[1], wanted, BYTES) == 0, "what stands after a refusal");
 }
 
-/* A row of a column: null is 2. */
+/* Returns the truth value of a row of a column; 2 if it is null. */
 static unsigned truth(const uint8_t *values, size_t v, const uint8_t *validity, size_t w, size_t i)
 {
     return validity == NULL || bit(validity, w + i) ? bit(values, v + i) : 2u;
 }
 
-/* Three-valued logic, its calls with a validity or null, and what `and` or `or` answers of rows. */
+/*
+ * Three-valued logic: its calls, with a validity or null, and the results of `and` and `or` for two
+ * rows.
+ */
 static const struct {
     void (*plain)(uint8_t *, size_t, size_t, uint8_t *, size_t, size_t, const uint8_t *, size_t,
         size_t, bool, const uint8_t *, size_t, size_t, const uint8_t *, size_t, size_t, bool,
@@ -137,7 +142,10 @@ static const struct {
     {vb_or_kleene, vb_try_or_kleene, {{0, 1, 2}, {1, 1, 1}, {2, 1, 2}}},
 };
 
-/* Into windows whose other bits stay; without a validity on a side where it is null. */
+/*
+ * Writes three-valued logic into windows, and checks that other bits are unchanged. A side has no
+ * validity if that is null.
+ */
 static void three_valued(const uint8_t *left, size_t l, const uint8_t *left_valid,
     const uint8_t *right, size_t r, const uint8_t *right_valid, size_t len)
 {
@@ -177,7 +185,10 @@ static void three_valued(const uint8_t *left, size_t l, const uint8_t *left_vali
     }
 }
 
-/* Values of a type that go back to the items of a mask, beside items that stay as they were. */
+/*
+ * Scatters values of a type over the items that a mask selects, and checks that the other items are
+ * unchanged.
+ */
 #define SCATTERS(V, value_t)                                                                      \
     static void scatters_##V(const uint8_t *mask, size_t m, size_t len, size_t ones)              \
     {                                                                                             \
@@ -215,7 +226,7 @@ SCATTERS(u32, uint32_t)
 SCATTERS(u64, uint64_t)
 SCATTERS(u128, vb_u128)
 
-/* Values of a type that are filtered in place; those behind them stay as they were. */
+/* Filters values of a type in place, and checks that the values after them are unchanged. */
 #define RETAINS(V, value_t)                                                                       \
     static void retains_##V(const uint8_t *mask, size_t m, size_t len, size_t ones)               \
     {                                                                                             \
@@ -251,7 +262,7 @@ RETAINS(u32, uint32_t)
 RETAINS(u64, uint64_t)
 RETAINS(u128, vb_u128)
 
-/* Of bits and of values the ones that a mask keeps, with what stood in memory behind them. */
+/* Filters bits and values by a mask, and checks that the memory after them is unchanged. */
 static void filters(const uint8_t *bytes, size_t v, const uint8_t *mask, size_t m, size_t len)
 {
     static uint8_t u8[2][BITS], from8[BITS], kept[BYTES], got[2][BYTES];
@@ -335,7 +346,7 @@ static void filters(const uint8_t *bytes, size_t v, const uint8_t *mask, size_t 
     }
 }
 
-/* Checked filters over a window that doesn't fit, and without room. */
+/* Tests checked filters over a window that doesn't fit, and without space for their results. */
 static void bad_filters(const uint8_t *bytes, size_t offset, size_t len)
 {
     static const uint8_t ones[2] = {0xFF, 0xFF};

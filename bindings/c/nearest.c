@@ -1,6 +1,7 @@
 /*
- * The nearest bits and the tests of all bits of vortex_bits.h beside a loop over single bits, over
- * random windows, and each checked form with numbers past every limit. It is C and C++ alike.
+ * Compares the searches for the nearest bits and the tests of all bits of vortex_bits.h with a loop
+ * over single bits, over random windows, and each checked form with numbers past every limit. It is
+ * C and C++ alike.
  */
 #include "tests.h"
 #include "vortex_bits.h"
@@ -9,7 +10,10 @@
 
 enum { BYTES = 96, BITS = 8 * BYTES, ROUNDS = 20000 };
 
-/* Any bytes, or all but few of one kind. */
+/*
+ * Fills the bytes at random: few bits are set, few are unset, about half are set, or about a
+ * quarter.
+ */
 static void randomize(uint8_t *bytes)
 {
     const size_t kind = random_below(4);

@@ -1,7 +1,7 @@
 /*
- * Two threads that write neighbouring windows, or items, of one memory at once, by the same
- * function, which is told that it may write all that follows: none loses what the other one wrote.
- * It is C and C++ alike.
+ * Two threads write neighbouring windows, or items, of one memory at once with the same function.
+ * Its arguments claim that it may write all bytes that follow. Checks that neither thread loses the
+ * writes of the other one. It is C and C++ alike.
  */
 #ifndef _DEFAULT_SOURCE
 #define _DEFAULT_SOURCE
@@ -12,10 +12,10 @@
 
 #include <pthread.h>
 
-/* How often each thread calls a function, and the bytes of a memory. */
+/* The number of calls per thread and function, and the number of bytes of a memory. */
 enum { ROUNDS = 100000, BYTES = 2048, BEFORE = 3 };
 
-/* What one thread writes: its windows, or items, and how they are before and after a call. */
+/* The output of one thread: its windows, or items, and their contents before and after a call. */
 struct side {
     const struct writer *writer;
     struct job job;
@@ -27,7 +27,10 @@ struct side {
 
 static uint64_t memory[OUTS][BYTES / 8];
 
-/* The side whose bytes begin at byte `at`, for so many bits from bit `bit` of that on, or items. */
+/*
+ * Sets up the side whose bytes begin at byte `at`, for `count` bits from bit `bit` of that byte on,
+ * or items.
+ */
 static void make_side(struct side *it, size_t at, size_t bit, size_t count)
 {
     uint8_t *first[OUTS], *end[OUTS];
@@ -65,7 +68,7 @@ static void *run(void *argument)
     return NULL;
 }
 
-/* Both sides of a function at once. */
+/* Runs both sides of a function at once. */
 static void beside(const struct writer *it)
 {
     static struct side left, right;

@@ -1,6 +1,6 @@
 /*
- * What pages.c is made of, beside its calls, which bindings/c/functions writes: items between pages
- * that can't be read, and what is looked at after a call. It is C and C++ alike.
+ * The parts of pages.c, except its calls, which bindings/c/functions writes: items between pages
+ * that can't be read, and the checks after a call. It is C and C++ alike.
  */
 #ifndef VORTEX_BITS_PAGES_H
 #define VORTEX_BITS_PAGES_H
@@ -19,9 +19,9 @@ enum { PAGE = 4096, ROOM = 2 * PAGE, ARENAS = 6, ROUNDS = 2000, MOST = 500 };
 static uint64_t state = 88172645463325252u;
 static int failures = 0;
 static unsigned long long calls = 0, good = 0;
-/* Memory between pages that can't be read, what it is before a call, and after one. */
+/* Memory between pages that can't be read, and its contents before and after a call. */
 static uint8_t *arena[ARENAS], before[ARENAS][ROOM], after[ARENAS][ROOM];
-/* Where the items of a call are in each, and how many bytes they have. */
+/* The index of a call's items in each, and the number of their bytes. */
 static size_t start[ARENAS], bytes[ARENAS];
 
 static size_t random_below(size_t n)
@@ -40,7 +40,7 @@ static void check(bool holds, const char *name, const char *what)
     }
 }
 
-/* A call begins with the memory as it was made. */
+/* Restores the memory before a call. */
 static void begin(void)
 {
     calls++;
@@ -64,8 +64,8 @@ static bool guard(void)
 }
 
 /*
- * Room for items of so many bytes each, some right behind a page that can't be read, others right
- * before one; they are any bytes, or numbers below a thousand.
+ * Returns `count` items of `each` bytes, either right after a page that can't be read or right
+ * before one. They are any bytes, or numbers below 1,024.
  */
 static void *items(size_t k, size_t count, size_t each)
 {
@@ -84,7 +84,7 @@ static void *items(size_t k, size_t count, size_t each)
     return arena[k] + start[k];
 }
 
-/* A number that often is a good one, and else is past every limit. */
+/* Returns a number that is often valid, and otherwise past every limit. */
 static size_t any_number(void)
 {
     const size_t kind = random_below(12);

@@ -1,13 +1,13 @@
 /*
- * A small engine in C: `select b, c where a > x and b is not null` over a stream of batches, as
- * another part of the program, query_rows.h, gives it by Arrow's C stream interface. It is answered
- * by the calls of vortex_bits.h, and by plain loops over rows, and the answers have to be the same.
+ * A small engine in C: `select b, c where a > x and b is not null` over a stream of batches, which
+ * another part of the program, query_rows.h, produces by Arrow's C stream interface. The program
+ * answers it by the calls of vortex_bits.h, and by plain loops over rows, and compares the answers.
  * It wants C11, for its clock.
  *
  *     query [ROWS [time]]
  *
- * It makes ROWS rows, a hundred thousand unless they are said. With `time` it prints how long the
- * query takes beside the plain loops, by turns, the least of 30 times of each.
+ * It makes ROWS rows, by default 100,000. With `time` it prints the times of the query and of the
+ * plain loops, which it runs in turns: the least of 30 times of each.
  */
 #include "arrow.h"
 #include "query_rows.h"
@@ -20,7 +20,7 @@
 
 enum { LIMIT = 700, NTH = 999, AT = 1000, ROUNDS = 30 };
 
-/* Bits from `offset` on; `bytes` is NULL where all are true. */
+/* Bits from `offset` on; `bytes` is NULL if all are true. */
 struct bits {
     const uint8_t *bytes;
     size_t size;
@@ -31,7 +31,7 @@ struct bits {
 struct column {
     size_t len;
     size_t offset;
-    /* A missing one is null, of no bytes. */
+    /* The validity; if it is missing, a null pointer of no bytes. */
     struct bits valid;
     /* The values, if they are bits. */
     struct bits flags;
@@ -57,22 +57,22 @@ struct answer {
     double *c;
     uint8_t *c_valid;
     size_t c_valid_size;
-    /* Of the rows that are kept and valid. */
+    /* The sums over the selected rows in which the value is valid. */
     int64_t sum_b;
     double sum_c;
-    /* The rows of the first one that is kept, and of the NTH from 0 on. */
+    /* The first selected row, and the selected row number NTH, counted from 0. */
     vb_place first;
     vb_place nth;
-    /* In how many rows a or b is null, and in how many the flag is true. */
+    /* The number of rows in which a or b is null, and of those in which the flag is true. */
     size_t nulls;
     size_t flags;
-    /* The values of b at AT places of those that are kept, and how many of c are null there. */
+    /* The values of b at AT of the selected rows, and the number of nulls of c there. */
     size_t taken;
     int64_t at[AT];
     size_t taken_nulls;
 };
 
-/* With room for so many rows. */
+/* Returns an empty answer with space for `rows` rows. */
 static struct answer answer_for(size_t rows)
 {
     struct answer answer = {.b = room(rows, sizeof *answer.b), .c = room(rows, sizeof *answer.c),
@@ -87,20 +87,20 @@ static void free_answer(struct answer *answer)
     free(answer->c_valid);
 }
 
-/* Place `i` of those that are looked at once all batches are. */
+/* Returns index `i` of the rows that `finish` reads. */
 static uint32_t place_at(uint32_t i)
 {
     return (uint32_t)(i * 2654435761u) >> 16;
 }
 
-/* In how many of `len` rows both are valid. */
+/* Returns the number of rows, among `len`, in which both are valid. */
 static size_t count_both(struct bits left, struct bits right, size_t len)
 {
     return vb_count_valid(left.bytes, left.size, left.offset, right.bytes, right.size, right.offset,
         len);
 }
 
-/* Which rows of a batch have an a above the limit, and neither a nor b null. */
+/* Writes which rows of a batch have an a above the limit, and neither a nor b null. */
 static void compare(uint8_t *mask, const struct column *a, const struct column *b)
 {
     const struct bits valid[] = {a->valid, b->valid};
@@ -112,7 +112,7 @@ static void compare(uint8_t *mask, const struct column *a, const struct column *
     }
 }
 
-/* Adds the rows of a batch that the mask keeps, `kept` of them, to the columns. */
+/* Adds the `kept` rows of a batch that the mask selects to the columns. */
 static void keep(struct answer *answer, const uint8_t *mask, size_t kept, const struct column *b,
     const struct column *c)
 {
@@ -126,7 +126,7 @@ static void keep(struct answer *answer, const uint8_t *mask, size_t kept, const 
     answer->kept += kept;
 }
 
-/* The row of the n-th true bit of a batch's mask, where it has that many. */
+/* Returns the row of the n-th true bit of a batch's mask, if it has that many. */
 static vb_place find(const struct answer *answer, const uint8_t *mask, size_t len, size_t n)
 {
     vb_place place = vb_select(mask, bytes_for(len), 0, len, n);
@@ -153,7 +153,7 @@ static void add(struct answer *answer, const struct ArrowArray *batch)
     answer->rows += a.len;
 }
 
-/* The sums of what is kept, and the rows at places of it. */
+/* Computes the sums of the selected values, and takes rows at indices of them. */
 static void finish(struct answer *answer)
 {
     size_t found[64], start = 0, n;
@@ -242,7 +242,7 @@ static void finish_by_loop(struct answer *answer)
 }
 
 /*
- * What asks it.
+ * The batches of the query.
  */
 
 struct batches {
@@ -261,14 +261,17 @@ static bool is_known(const struct ArrowSchema *schema)
     return known;
 }
 
-/* A batch that the engine has room for, and of which no row is null as a whole. */
+/* Returns whether a batch isn't too long for the engine, and has no null rows. */
 static bool is_good(const struct ArrowArray *batch)
 {
     return batch->n_children == COLUMNS && batch->length <= BATCH
         && (batch->null_count == 0 || batch->buffers[0] == NULL);
 }
 
-/* All batches of a stream, which is released; answers whether they are such as the engine knows. */
+/*
+ * Reads all batches of a stream, and releases it. Returns whether the engine can process all of
+ * them.
+ */
 static bool read_all(struct ArrowArrayStream *stream, struct batches *batches)
 {
     struct ArrowSchema schema;
@@ -350,7 +353,7 @@ static void print_answer(const struct answer *answer)
     printf("%zu rows at places, %zu nulls of c\n", answer->taken, answer->taken_nulls);
 }
 
-/* The time of one answer in milliseconds, where it is less than `least`. */
+/* Returns the time of one answer in milliseconds, or `least` if that is less. */
 static double time_of(const struct batches *batches, add_batch *add_one,
     void (*end)(struct answer *), double least)
 {

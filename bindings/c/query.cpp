@@ -23,10 +23,10 @@ struct answer {
     std::vector<std::uint8_t> c_valid;
     std::int64_t sum_b = 0;
     double sum_c = 0;
-    /* The rows of the first one that is kept, and of the nth from 0 on. */
+    /* The first selected row, and the selected row number n, counted from 0. */
     std::optional<std::size_t> first, found;
     std::size_t nulls = 0, flags = 0;
-    /* The values of b at places of those that are kept, and how many of c are null there. */
+    /* The values of b at some of the selected rows, and the number of nulls of c there. */
     std::vector<std::int64_t> taken;
     std::size_t taken_nulls = 0;
 
@@ -44,7 +44,7 @@ static std::uint32_t place_at(std::uint32_t i)
     return static_cast<std::uint32_t>(i * 2654435761u) >> 16;
 }
 
-/* The values that the mask keeps, `kept` of them, behind those that are there. */
+/* Appends the `kept` values that the mask selects. */
 template <class T>
 static void append(std::vector<T> &all, view<const T> values, bits mask, std::size_t kept)
 {
@@ -61,7 +61,7 @@ struct by_calls {
         }
     }
 
-    /* The validity of the values of c that the mask keeps, behind `at` others. */
+    /* Appends the validity of the values of c that the mask selects, after `at` others. */
     static void append_valid(answer &to, std::size_t at, std::optional<bits> valid, bits mask,
         std::size_t kept)
     {
@@ -167,7 +167,7 @@ template <class Way> static answer ask(const std::vector<batch> &batches)
     return made;
 }
 
-/* All batches of a stream, which is released. Their columns are those of query_rows.h. */
+/* Reads all batches of a stream, and releases it. Their columns are those of query_rows.h. */
 static std::vector<batch> read_all(ArrowArrayStream stream)
 {
     std::vector<batch> batches;

@@ -22,7 +22,7 @@ struct release {
 };
 using batch = std::unique_ptr<ArrowArray, release>;
 
-/* A column of a batch: which rows are valid, none where all are, and its values. */
+/* A column of a batch: its values, and its validity, if it has one. */
 class column {
 public:
     column(const batch &all, std::size_t i)
@@ -40,7 +40,7 @@ public:
 
     bits flags() const { return bits_of(1); }
 
-    /* A row by itself. */
+    /* Queries of a single row. */
     bool is_valid(std::size_t row) const { return !has_nulls() || bit(0, row); }
     bool flag(std::size_t row) const { return bit(1, row); }
 

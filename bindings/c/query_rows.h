@@ -1,7 +1,7 @@
 /*
- * Rows for query.c and query.cpp, and the stream of their batches by Arrow's C stream interface:
- * this part of the program could be another's. A batch is a slice of the columns, by an offset into
- * each. Of the flag no row is null, so it has no validity. It is C and C++ alike.
+ * Rows for query.c and query.cpp, and the stream of their batches by Arrow's C stream interface. It
+ * takes the role of another program. A batch is a slice of the columns, by an offset into each. The
+ * flag has no null row, and so no validity. It is C and C++ alike.
  */
 #ifndef VORTEX_BITS_QUERY_ROWS_H
 #define VORTEX_BITS_QUERY_ROWS_H
@@ -14,10 +14,10 @@
 #include <stdlib.h>
 #include <string.h>
 
-/* How many rows a batch has at most. */
+/* The greatest number of rows of a batch. */
 enum { BATCH = 65536 };
 
-/* Memory for so many items, zeros; the program ends where there is none. */
+/* Returns `count` items of zeros; ends the program if memory runs out. */
 static void *room(size_t count, size_t size)
 {
     void *made = calloc(count + 1, size);
@@ -45,7 +45,7 @@ struct rows {
     const void *buffers[COLUMNS][2];
 };
 
-/* What a stream of them has given. */
+/* The position of a stream in the rows. */
 struct given {
     const struct rows *rows;
     size_t next;
@@ -61,7 +61,7 @@ static uint64_t below(uint64_t n)
     return (state >> 11) % n;
 }
 
-/* Bits of which one in `n` is false. */
+/* Returns bits of which about one in `n` is false. */
 static uint8_t *mostly_true(size_t count, uint64_t n)
 {
     uint8_t *bits = (uint8_t *)room(bytes_for(count), 1);
@@ -71,7 +71,7 @@ static uint8_t *mostly_true(size_t count, uint64_t n)
     return bits;
 }
 
-/* The sums of c are exact in any order. What stands at nulls is a value like others. */
+/* The sums of c are exact in any order. The value of a null is like any other. */
 static struct rows make_rows(size_t count)
 {
     int32_t *a = (int32_t *)room(count, sizeof *a);
@@ -96,7 +96,7 @@ static void free_rows(struct rows *rows)
     }
 }
 
-/* Of a column and of a struct: what they have of their own is one block of memory. */
+/* Releases a column or a struct: its own part is one block of memory. */
 static void release_array(struct ArrowArray *array)
 {
     for (int64_t i = 0; i < array->n_children; i++) {

@@ -1,6 +1,6 @@
 /*
- * What stands in vortex_bits::ranks after moves, swaps and assignments, also those for which there
- * is no memory: its window and its table are always of one another.
+ * Tests vortex_bits::ranks after moves, swaps and assignments, including those that run out of
+ * memory: its window and its table always belong together.
  */
 #include "vortex_bits.hpp"
 
@@ -15,7 +15,7 @@ static_assert(std::is_nothrow_move_constructible_v<ranks>);
 static_assert(std::is_nothrow_move_assignable_v<ranks>);
 static_assert(std::is_nothrow_swappable_v<ranks>);
 
-/* Whether there is memory for what is allocated. */
+/* Whether allocations succeed. */
 static bool has_memory = true;
 static int failures = 0;
 
@@ -53,7 +53,7 @@ template <class Error, class Call> static bool throws(Call call)
     return false;
 }
 
-/* Whether it answers as its window does, up to its end and past it. */
+/* Returns whether its results are those of the window, up to its end and past it. */
 static bool is_of(const ranks &it, bits window)
 {
     const std::size_t len = window.size();

@@ -1,7 +1,7 @@
 /*
- * Values by their size of vortex_bits_values.h beside the functions for values of a type, over
- * random masks and indices, and the checked forms with sizes and alignments that there are none
- * for. It is C and C++ alike.
+ * Compares the functions by size of vortex_bits_values.h with those for values of a type, over
+ * random masks and indices, and tests the checked forms with unknown sizes and alignments. It is C
+ * and C++ alike.
  */
 #include "tests.h"
 #include "vortex_bits.h"

@@ -1,7 +1,7 @@
 /*
- * Values at indices by vortex_bits.h beside a loop over positions: each function over random
- * values, indices and validities, with an index that names nothing at a random position, and each
- * checked form with numbers past every limit. It is C and C++ alike.
+ * Compares the values at indices of vortex_bits.h with a loop over positions: each function over
+ * random values, indices and validities, with an index that names nothing at a random position, and
+ * each checked form with numbers past every limit. It is C and C++ alike.
  */
 #include "tests.h"
 #include "vortex_bits.h"
@@ -20,7 +20,7 @@ static void make(void *value, size_t size, size_t i)
     }
 }
 
-/* What vb_take_values_V_I and its checked form write, beside a loop. */
+/* Compares the outputs of vb_take_values_V_I and its checked form with a loop. */
 #define TAKES(V, value_t, I, index_t)                                                             \
     static void takes_##V##_##I(void)                                                             \
     {                                                                                             \

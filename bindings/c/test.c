@@ -1,6 +1,6 @@
 /*
- * Each function of vortex_bits.h beside a loop over single bits, over random windows, and each
- * checked form with numbers at and past every limit. It is C and C++ alike.
+ * Compares each function of vortex_bits.h with a loop over single bits, over random windows, and
+ * each checked form with numbers at and past every limit. It is C and C++ alike.
  */
 #include "tests.h"
 #include "vortex_bits.h"
@@ -10,7 +10,7 @@
 
 enum { BYTES = 96, BITS = 8 * BYTES, ROUNDS = 20000 };
 
-/* The place of the n-th bit that is v, or len. */
+/* Returns the index of the n-th bit that is v, or len. */
 static size_t nth(const uint8_t *bytes, size_t offset, size_t len, size_t n, bool v)
 {
     for (size_t i = 0; i < len; i++) {
@@ -58,7 +58,7 @@ static void questions(const uint8_t *bytes, size_t offset, size_t len)
     }
 }
 
-/* The places of 32 bits are those of `size_t`, which are looked at. */
+/* Checks that the indices of 32 bits are those of `size_t`. */
 static void narrow_places(const size_t *places, size_t room, const uint8_t *bytes, size_t offset,
     size_t len, size_t found)
 {
@@ -128,7 +128,7 @@ typedef void (*into)(uint8_t *, size_t, size_t, const uint8_t *, size_t, size_t,
 typedef bool (*try_into)(uint8_t *, size_t, size_t, const uint8_t *, size_t, size_t,
     const uint8_t *, size_t, size_t, size_t);
 
-/* What each operator makes of two bits: digit 2 * left + right. */
+/* The result of each operator for two bits: digit 2 * left + right. */
 static const struct {
     const char *name;
     combine plain;
@@ -145,7 +145,10 @@ static const struct {
 };
 enum { COMBINES = sizeof combines / sizeof combines[0] };
 
-/* The operator k of two windows into one of a third, whose other bits stay. */
+/*
+ * Writes the result of operator k on two windows to a third one, and checks that other bits are
+ * unchanged.
+ */
 static void thirds(size_t k, const uint8_t *bytes, size_t l, const uint8_t *other, size_t r,
     size_t len)
 {
@@ -219,7 +222,7 @@ static void writes(const uint8_t *bytes, const uint8_t *other, size_t offset, si
         "vb_try_negate_bits");
 }
 
-/* Packs of the bytes: `other` is what stood in the memory before. */
+/* Tests packs of the bytes. `other` has the contents of the memory before. */
 static void packs(const uint8_t *bytes, const uint8_t *other)
 {
     uint8_t wanted[BYTES], got[BYTES];
@@ -243,7 +246,7 @@ static void packs(const uint8_t *bytes, const uint8_t *other)
     memcpy(got, other, BYTES);
     check(vb_try_pack_truthy_padded(got, BYTES, bytes, n) && memcmp(got, wanted, BYTES) == 0,
         "vb_try_pack_truthy_padded");
-    /* One value more than there is room for. */
+    /* One value more than there is space for. */
     memcpy(got, other, BYTES);
     check(!vb_try_pack_bools_padded(got, 1, bools, 9)
             && !vb_try_pack_truthy_padded(got, 1, bytes, 9)
@@ -251,7 +254,7 @@ static void packs(const uint8_t *bytes, const uint8_t *other)
     check(vb_try_pack_truthy_padded(got, 1, bytes, 8), "a pack that has room");
 }
 
-/* Bits of a window as bools and as bytes, before items that stay as they were. */
+/* Unpacks a window to bools and to bytes, and checks that the items after them are unchanged. */
 static void unpacks(const uint8_t *bytes, size_t offset, size_t len)
 {
     static uint8_t got[4][BITS + 9];
@@ -278,8 +281,8 @@ static void unpacks(const uint8_t *bytes, size_t offset, size_t len)
 enum { INDICES = 200 };
 
 /*
- * Takes of random indices, of which in half of the rounds some are past the window; `valid` is the
- * window of validity from bit v on, or null.
+ * Tests takes at random indices; in half of the rounds some are past the window. `valid` is the
+ * validity from bit v on, or null.
  */
 static void takes(const uint8_t *bytes, size_t offset, size_t len, const uint8_t *valid, size_t v)
 {
@@ -355,7 +358,7 @@ static void ranks(const uint8_t *bytes, size_t offset, size_t len)
             && is_place(place, unset, len), "vb_try_ranked_select_unset");
 }
 
-/* Tables of a wrong size, of wrong numbers, and windows that don't fit. */
+/* Tests tables with a wrong size or wrong numbers, and windows that don't fit. */
 static void bad_ranks(const uint8_t *bytes, size_t offset, size_t len)
 {
     size_t table[BLOCKS + 1], rank = 77;
@@ -386,7 +389,7 @@ static void bad_ranks(const uint8_t *bytes, size_t offset, size_t len)
         "a wrong table is read");
 }
 
-/* Takes whose windows don't fit, or whose bits have no room. */
+/* Tests takes whose windows don't fit, or whose bits have no space. */
 static void bad_takes(const uint8_t *bytes, size_t offset, size_t len)
 {
     const uint32_t narrow[9] = {0};

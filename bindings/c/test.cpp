@@ -1,6 +1,6 @@
 /*
- * The classes of vortex_bits.hpp beside loops over single bits, over random windows, and what they
- * refuse.
+ * Compares the classes of vortex_bits.hpp with loops over single bits, over random windows, and
+ * tests their errors.
  */
 #include "vortex_bits.hpp"
 
@@ -36,7 +36,7 @@ static bool bit(const buffer &all, std::size_t i)
     return (all[i / 8] >> (i % 8) & 1) != 0;
 }
 
-/* The bits of a window, by a loop. */
+/* Returns the bits of a window, by a loop. */
 static std::vector<bool> list(const buffer &all, std::size_t offset, std::size_t len)
 {
     std::vector<bool> found;
@@ -46,7 +46,7 @@ static std::vector<bool> list(const buffer &all, std::size_t offset, std::size_t
     return found;
 }
 
-/* Places and runs in vectors, and in room for some of them. */
+/* Tests indices and runs in vectors, and in outputs that are too short for all. */
 static void walks_into(bits window, const std::vector<std::size_t> &trues)
 {
     const std::vector<vb_run> runs = window.set_slices();
@@ -339,7 +339,7 @@ static void values_at_indices()
         "a long validity");
 }
 
-/* Takes of so many indices of a type, the last of them past what it names, by a loop. */
+/* Compares takes at n indices of a type with a loop; the last index may be out of range. */
 template <class Index> static void take(const buffer &all, bool valid, std::size_t n, bool past)
 {
     const std::size_t most = std::min<std::size_t>(100, 8 * all.size() - 3);
@@ -372,7 +372,7 @@ template <class... Index> static void takes_of_types(const buffer &all)
     }
 }
 
-/* Values of a type that a mask keeps, by a loop. */
+/* Compares filters of a type's values with a loop. */
 template <class Value> static void keep(const buffer &all)
 {
     const bits mask(all, 5, 190);

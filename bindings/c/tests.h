@@ -1,6 +1,6 @@
 /*
- * What the tests of this folder share: numbers at random, bits one by one, and a word of each check
- * that fails. It is C and C++ alike.
+ * The code that the tests of this folder share: random numbers, access to single bits, and a
+ * message for each failed check. It is C and C++ alike.
  */
 #ifndef VORTEX_BITS_TESTS_H
 #define VORTEX_BITS_TESTS_H
@@ -40,7 +40,7 @@ static inline void put(uint8_t *bytes, size_t i, bool v)
     bytes[i / 8] = (uint8_t)(v ? bytes[i / 8] | mask : bytes[i / 8] & ~mask);
 }
 
-/* Bytes of one kind: no bit true, each, any, or few. */
+/* Fills the bytes in one of four ways: no bit is true, all are, about half are, or fewer are. */
 static inline void randomize_bytes(uint8_t *bytes, size_t size)
 {
     const size_t kind = random_below(4);

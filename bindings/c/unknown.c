@@ -1,6 +1,6 @@
 /*
- * Sizes of items and comparisons that there aren't: plain forms say so or stop the program, as
- * their headers say, and checked forms refuse them. It is C and C++ alike.
+ * Tests unknown sizes of items and unknown comparisons: plain forms report them or stop the
+ * program, as their headers say, and checked forms reject them. It is C and C++ alike.
  */
 #ifndef _DEFAULT_SOURCE
 #define _DEFAULT_SOURCE
@@ -13,17 +13,17 @@
 #include <sys/wait.h>
 #include <unistd.h>
 
-/* Items, and what is written, which no call below may change. */
+/* Items, and an output that no call below may change. */
 static uint64_t values[8], others[8], out[8];
 static const uint8_t mask[1] = {0xFF};
 
-/* Sizes of no value, of no index and of neither: also those of which multiples are known ones. */
+/* Sizes that no value, no index or neither has, including some whose multiples are known sizes. */
 static const size_t SIZES[] = {0, 3, 5, 6, 7, 9, 12, 15, 17, 18, 20, 24, 31, 32, 33, 34, 48, 64,
     128, 255, 256, 257, SIZE_MAX / 16, SIZE_MAX / 16 + 1, SIZE_MAX / 16 + 2, SIZE_MAX / 2 + 1,
     SIZE_MAX - 15, SIZE_MAX - 14, SIZE_MAX};
 enum { COUNT = sizeof SIZES / sizeof *SIZES };
 
-/* Whether a call, in a process of its own, stops the program by an illegal instruction. */
+/* Returns whether a call, in its own process, stops the program by an illegal instruction. */
 static bool stops(void (*call)(size_t), size_t number)
 {
     int status = 0;

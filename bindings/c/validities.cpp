@@ -1,6 +1,6 @@
 /*
- * Validities that may be missing, by the classes of vortex_bits.hpp: beside a loop over single
- * rows, and what they refuse.
+ * Compares validities that may be missing, in the classes of vortex_bits.hpp, with a loop over
+ * single rows, and tests their errors.
  */
 #include "vortex_bits.hpp"
 
@@ -31,7 +31,7 @@ template <class Call> static void refused(Call call, const char *what)
     }
 }
 
-/* What `call` writes to the `len` bits from bit 5 on, beside `wanted` of each. */
+/* Compares the output of `call` to the `len` bits from bit 5 on with `wanted` of each. */
 template <class Call, class Wanted>
 static void writes(const buffer &before, std::size_t len, Call call, Wanted wanted,
     const char *what)

@@ -26,22 +26,22 @@
  *
  * A call may load any of the `size` bytes that it is given to read. In a window that it writes, it
  * loads and stores only the bytes that have a bit of the window; the other bits of the first and
- * the last byte are stored unchanged. Of items, such as values, indices and runs, it stores only
- * those that it returns, whatever the capacity; a take that finds a bad index may store items for
- * all indices, and a call by group that finds a bad code stores totals again as they were. Any
- * thread may call any function. Two threads may write windows of one bitmap at once if these share
- * no byte, such as the first 1,000 bits and the next 1,000.
+ * the last byte are stored unchanged. It stores only the items that it returns, such as values,
+ * indices and runs, whatever the capacity. A take that finds a bad index may store items for all
+ * indices, and a call by group that finds a bad code stores totals again as they were. Any thread
+ * may call any function. Two threads may write windows of one bitmap at once if these share no
+ * byte, such as the first 1,000 bits and the next 1,000.
  *
  * For every call, the caller must ensure: each pointer points to the number of items that the next
  * argument gives, and may be null if that is 0; the last pointer of a vb_try_ function, to the
- * result, is not null; the output overlaps no other argument (no function tests that, also none
- * with `try`); during the call nothing else accesses the bytes that it stores, and nothing writes
- * the `size` bytes that it reads. For a call without `try` also: each window ends in its bytes, and
- * its end, offset + len, is at most SIZE_MAX.
+ * result, is not null; the output overlaps no other argument (no function tests that, not even
+ * those with `try`); during the call nothing else accesses the bytes that it stores, and nothing
+ * writes the `size` bytes that it reads. For a call without `try` also: each window ends in its
+ * bytes, and its end, offset + len, is at most SIZE_MAX.
  *
  * A vb_try_ function requires no more than every call does. It tests sizes, offsets, lengths and
- * capacities, and that no pointer is null whose number is not 0, as after a failed malloc. If a
- * test fails, it returns false and leaves everything unchanged. An index that is out of range is
+ * capacities, and that no pointer is null unless its number is 0. So it detects a failed malloc. If
+ * a test fails, it returns false and leaves everything unchanged. An index that is out of range is
  * not such a failure: takes and calls by group report the first one in the vb_taken that they
  * return, their vb_try_ forms write it to their last pointer. No function allocates memory or keeps
  * a pointer.
@@ -56,14 +56,15 @@
  *     #define WINDOW(it) (it).bytes, (it).size, (it).offset
  *     assert(vb_and_count(WINDOW(a), WINDOW(a), 5) == 4);
  *
- * The functions of each level are proved. The code in front of them is written by hand, and tested:
- * it replaces a null pointer to no items by one that they accept; checked forms reject others;
- * plain forms stop at an `op` or a size of values that doesn't exist; it selects the level;
- * vb_set_indices, vb_set_indices_u32, vb_set_slices and their checked forms work by pages of
- * memory, and join runs that cross page ends; it packs bools as bytes, and unpacks them so;
- * vb_filter_values, vb_retain_values, vb_scatter_values and vb_take_values choose by sizes, and the
- * functions of validities that may be missing by which are; vb_set_slices_u32 narrows the indices
- * of runs. The C++ classes are also written by hand, and tested.
+ * The functions of each level are proved. The code in front of them is written by hand, and tested.
+ * It selects the level. It replaces a null pointer to no items by one that they accept; checked
+ * forms reject other null pointers. Plain forms stop at an `op` or a size of values that doesn't
+ * exist. vb_set_indices, vb_set_indices_u32, vb_set_slices and their checked forms process one page
+ * of memory after the other, and join runs that cross page ends. Bools are packed and unpacked as
+ * bytes. vb_filter_values, vb_retain_values, vb_scatter_values and vb_take_values choose a function
+ * by the sizes, and the functions of validities choose one by which validities are missing.
+ * vb_set_slices_u32 narrows the indices of runs. The C++ classes are also written by hand, and
+ * tested.
  */
 #ifndef VORTEX_BITS_H
 #define VORTEX_BITS_H
@@ -190,8 +191,8 @@ VB_CHECKED bool vb_try_and_not_count(const uint8_t *left, size_t left_size, size
 
 /*
  * Returns the index within the window of its n-th set bit, counted from 0; finds none if at most n
- * bits are set. Counts from the front, 64 bytes at a time, up to the bytes that have it; of more
- * than 4,096 bytes it may also count some behind these.
+ * bits are set. Counts from the front, 64 bytes at a time, up to the bytes that have it; in a
+ * window of more than 4,096 bytes it may also count bytes after these.
  *
  *     const uint8_t rows[] = {0xE8, 0x06};
  *     const vb_place third = vb_select(rows, 2, 3, 10, 2);
@@ -310,7 +311,7 @@ VB_CHECKED bool vb_try_is_subset(const uint8_t *left, size_t left_size, size_t l
 /*
  * Writes the indices of the set bits, in ascending order, to the front of `out`, up to its
  * capacity, and returns the number written (`written`). Reads no page of memory after that of the
- * last one for which there is capacity. It is faster if there is capacity for each bit.
+ * last bit whose index fits in `out`. It is faster if there is capacity for each bit.
  *
  *     const uint8_t rows[] = {0xE8, 0x06};
  *     size_t places[4];
@@ -337,7 +338,7 @@ VB_CHECKED bool vb_try_set_indices_u32(uint32_t *out, size_t out_count, const ui
 /*
  * Writes the runs of set bits, from front to end, each as long as possible, to the front of `out`,
  * up to its capacity, and returns the number written (`written`). Reads no page of memory after
- * that of the end of the last one for which there is capacity.
+ * that of the end of the last run that fits in `out`.
  *
  *     const uint8_t rows[] = {0xE8, 0x06};
  *     vb_run runs[4];
@@ -351,7 +352,7 @@ VB_CHECKED bool vb_try_set_slices(vb_run *out, size_t out_count, const uint8_t *
 
 /*
  * Does the same with indices of 32 bits, for a window of fewer than 2^32 bits: the checked form
- * returns false for a longer one. Makes runs of vb_set_slices shorter, 64 at a time.
+ * returns false for a longer one. Narrows the runs of vb_set_slices, 64 at a time.
  *
  *     const uint8_t rows[] = {0xE8, 0x06};
  *     vb_run_u32 runs[4];

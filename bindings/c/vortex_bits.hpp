@@ -12,8 +12,8 @@
  * A window is tested once, by its constructor. It owns no bytes, like a std::span, so over a
  * temporary container it does not compile. Calls test lengths, single indices and capacity, and
  * throw std::out_of_range before a write, or abort without exceptions. Takes and calls by group
- * return the first index out of range instead; set_indices_into and set_slices_into write as many
- * items as fit. No output may overlap an input.
+ * return the first index out of range instead; set_indices_into and set_slices_into write items up
+ * to the capacity of their output. No output may overlap an input.
  */
 #ifndef VORTEX_BITS_HPP
 #define VORTEX_BITS_HPP
@@ -130,7 +130,7 @@ public:
         return detail::place(vb_next_unset(bytes_, size_, offset_, len_, from));
     }
 
-    /* Returns that of the last one before index `before`. */
+    /* Returns the index of the last set, or unset, bit before index `before`, if there is one. */
     std::optional<std::size_t> previous_set(std::size_t before) const
     {
         return detail::place(vb_previous_set(bytes_, size_, offset_, len_, before));
@@ -166,8 +166,8 @@ public:
     }
 
     /*
-     * Calls `f` with the start and the end of each run of set bits, as long as possible. If `f`
-     * returns a bool, the walk ends at the first false; any other result is ignored.
+     * Calls `f` with the start and the end of each maximal run of set bits. If `f` returns a bool,
+     * the walk ends at the first false; any other result is ignored.
      */
     template <class F> void for_each_run(F f) const
     {
@@ -252,8 +252,8 @@ public:
     /*
      * Writes the values whose bit is set, in order, to the front of `out`, and returns their
      * number. There must be one value per bit. They are whole numbers, floats, bool, vb_u128, or
-     * others that are copied as bytes: of 1, 2, 4, 8 or 16 bytes, and aligned as a whole number of
-     * that size, those of 16 as one of 8.
+     * other types that can be copied as bytes. These must have 1, 2, 4, 8 or 16 bytes and the
+     * alignment of an integer of that size; those of 16 bytes need that of 8 bytes.
      */
     template <class Values, class Out>
     std::size_t keep_into(const Values &values, Out &&out) const;
@@ -327,8 +327,8 @@ protected:
 };
 
 /*
- * A writable window, with all calls of bits; every bit outside of it is unchanged. Assign no window
- * of const bytes to one through a reference to bits: it would then write these.
+ * A writable window, with all calls of bits; every bit outside of it is unchanged. Don't assign a
+ * window over const bytes to it through a reference to bits: it would then write these bytes.
  */
 class bits_mut : public bits {
 public:
@@ -396,7 +396,7 @@ public:
         vb_move_bits(writable(), size_, offset_ + to, offset_ + from, len);
     }
 
-    /* `source` or `right` has this length, and its bytes overlap none of these; so in all below. */
+    /* Here and below `source` or `right` has this length, and its bytes don't overlap these. */
     void copy_from(bits source) { by_another(vb_copy_bits, source); }
     void operator&=(bits right) { by_another(vb_and_bits, right); }
     void operator|=(bits right) { by_another(vb_or_bits, right); }
@@ -424,7 +424,8 @@ public:
 
     /*
      * Writes the bits of `values` that `mask`, of the same length, selects, in order, to the first
-     * bits of the window, and returns their number. This joins batches, behind `rows` bits:
+     * bits of the window, and returns their number. To join batches, write each one after the
+     * `rows` bits of the earlier ones:
      *
      *     rows += out.slice(rows, out.size() - rows).filter_of(batch, mask);
      */
@@ -481,7 +482,7 @@ private:
     void by_columns(Call call, bits left, std::optional<bits> left_valid, bits right,
         std::optional<bits> right_valid, bits_mut valid);
 
-    /* Returns the bytes, which each constructor is given to write. */
+    /* Returns the bytes for writing. Each constructor has received writable bytes. */
     std::uint8_t *writable() const { return const_cast<std::uint8_t *>(bytes_); }
 };
 

@@ -115,7 +115,7 @@ template <class Value> constexpr bool is_float()
     return std::is_same_v<Value, float> || std::is_same_v<Value, double>;
 }
 
-/* Calls `call` with those for the type of the values, and with the arguments of each. */
+/* Calls `call` with the C functions for the type of the values, and with their arguments. */
 struct aggregate {
     template <class Values, class Call>
     static auto of_whole(const Values &values, const bits &mask, Call call)
@@ -126,7 +126,7 @@ struct aggregate {
         if constexpr (is_index<value>()) {
             return call_by<aggregated_by<sizeof(value), std::is_signed_v<value>>>(values, mask, call);
         } else if constexpr (std::is_arithmetic_v<value>) {
-            // Of the right type, so that what a program does with it is no second error.
+            // Returns the right type, so that the uses of the result cause no second error.
             return of_whole(std::array<std::int64_t, 0>{}, mask, call);
         }
     }
@@ -185,7 +185,8 @@ template <class Value, class Optional> std::optional<Value> optional(Optional it
 /*
  * Returns the exact sum of the values whose bit in the mask is set: a vb_i128 for signed values, a
  * vb_u128 for unsigned ones. Values are whole numbers of 8 to 64 bits; the mask has a bit for each.
- * Of floats and doubles it returns the sum in their type: from 0.0 on one after the other, in order.
+ * For floats and doubles it returns the sum in their type: it starts from 0.0 and adds one value
+ * after the other, in order.
  */
 template <class Values> [[nodiscard]] auto masked_sum(const Values &values, bits mask)
 {
@@ -209,8 +210,8 @@ template <class Values> [[nodiscard]] auto masked_wrapping_sum(const Values &val
 }
 
 /*
- * Returns the minimum of the values whose bit in the mask is set; nullopt if there are none. Of floats
- * it skips NaN, returns nullopt if there are no others, and -0.0 is less than 0.0.
+ * Returns the minimum of the values whose bit in the mask is set; nullopt if there are none. For
+ * floats it skips NaN and returns nullopt if there are no other values; -0.0 is less than 0.0.
  */
 template <class Values> [[nodiscard]] auto masked_min(const Values &values, bits mask)
 {

@@ -79,7 +79,10 @@ template <class Value, class Number> bound<Value> bound_of_whole(Number number)
     return {is_less ? limits::min() : static_cast<Value>(number), !is_less, false};
 }
 
-/* Returns whether a number, rounded, is above it (1) or below it (-1); 0 if it is it, or a NaN. */
+/*
+ * Returns 1 if the rounded number is above the number, -1 if it is below, and 0 if both are equal
+ * or NaN.
+ */
 template <class Value, class Number> int side(Value rounded, Number number)
 {
     if constexpr (std::is_floating_point_v<Number>) {
@@ -87,7 +90,7 @@ template <class Value, class Number> int side(Value rounded, Number number)
         const wide left = static_cast<wide>(rounded), right = static_cast<wide>(number);
         return (left > right) - (left < right);
     } else {
-        // It is a whole number, and behind the type of the number if it was rounded up to that.
+        // `rounded` is a whole number, and above the range of `Number` if rounding moved it there.
         constexpr Value half = static_cast<Value>(std::numeric_limits<Number>::max() / 2 + 1);
         if (rounded >= 2 * half) {
             return 1;
@@ -119,8 +122,8 @@ template <class Value, class Number> bound<Value> bound_of(Number number)
 /*
  * Writes to `out` which of the values compare with `number` by `op`: VB_EQUAL, VB_LESS, .. of
  * vortex_bits_compare.h. Values are whole numbers of 8 to 64 bits, floats or doubles. `number` is
- * of any type of numbers, and a whole number if the values are. It is compared as it is, exactly,
- * also if their type doesn't have it: all values of 8 bits are below 300, and no float equals 0.1.
+ * of any type of numbers, and a whole number if the values are. The comparison is exact, even if
+ * their type can't represent `number`: all values of 8 bits are below 300, and no float equals 0.1.
  */
 template <class Values, class Number>
 void compare(const Values &values, vb_comparison op, Number number, bits_mut out)

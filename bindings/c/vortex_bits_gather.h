@@ -1,9 +1,9 @@
 /*
- * Bits built from other bits: combine two windows into a third one, also validities that may be
- * missing; pack truth values, take (gather) bits at indices, filter by a mask and deposit again by
- * it, and `and` and `or` of truth values that may be null. And bits unpacked to bools and bytes.
- * vortex_bits.h includes this file; its first comment states what the caller must ensure for every
- * call.
+ * Bits built from other bits: two windows or validities combined into a third one, packed truth
+ * values, bits at indices (take, gather), bits that a mask selects (filter) and their inverse
+ * (deposit), and `and` and `or` of truth values that may be null. Also bits unpacked to bools and
+ * bytes. vortex_bits.h includes this file; its first comment states what the caller must ensure for
+ * every call.
  *
  * The calls write to any window of `out` and leave its other bits unchanged, so the results of
  * batches can be written one after the other. Those that end in _padded write whole bytes, and those
@@ -104,7 +104,7 @@ VB_CHECKED bool vb_try_and_validities(uint8_t *out, size_t out_size, size_t out_
 
 /*
  * Sets each of the `len` bits of `dst` from bit `dst_offset` on to false if its row isn't valid:
- * vb_and_bits with a validity that may be missing, which changes nothing.
+ * does vb_and_bits with a validity. A missing validity changes nothing.
  *
  *     uint8_t mask[] = {0x06};
  *     const uint8_t valid[] = {0xEC};
@@ -118,8 +118,8 @@ VB_CHECKED bool vb_try_and_validity(uint8_t *dst, size_t dst_size, size_t dst_of
         const uint8_t *validity, size_t validity_size, size_t validity_offset, size_t len);
 
 /*
- * Returns the number of rows that are valid in both of two columns (`valid`), each of whose
- * validities may be missing: of a single column, if the other one is NULL, 0, 0.
+ * Returns the number of rows that are valid in both of two columns (`valid`). Each validity may be
+ * missing: if one is NULL, 0, 0, this is the number of valid rows of the other column.
  *
  *     const uint8_t valid[] = {0xEC};
  *     assert(vb_count_valid(valid, 1, 2, NULL, 0, 0, 4) == 3);
@@ -131,9 +131,10 @@ VB_CHECKED bool vb_try_count_valid(const uint8_t *left, size_t left_size, size_t
         const uint8_t *right, size_t right_size, size_t right_offset, size_t len, size_t *valid);
 
 /*
- * Packs truth values into the bits of `out` from bit `out_offset` on, one each, which must be in
- * `out`; every other bit is unchanged. Processes 64 values at a time, by vectors. A `bool` is a
- * byte 0 or 1, as the compiler makes it: another one, written through a pointer, counts as true.
+ * Packs truth values into the bits of `out` from bit `out_offset` on, one bit per value. The bits
+ * must be in `out`; every other bit is unchanged. Processes 64 values at a time, by vectors. A
+ * `bool` is a byte 0 or 1, as the compiler makes it: another one, written through a pointer, counts
+ * as true.
  *
  *     uint8_t out[] = {0xFF};
  *     vb_pack_bools(out, 1, 3, (const bool[]){true, false, true}, 3);
@@ -205,8 +206,8 @@ VB_CHECKED bool vb_try_unpack_bytes(uint8_t *out, size_t out_count, const uint8_
  * `all_valid` is true, each position counts, and the validity may be null, of no bytes. Else a
  * position counts if its bit of `validity`, from bit `validity_offset` on, is true; the others get
  * false, and their indices are ignored. Every other bit of `out` is unchanged. If a position is
- * returned, the bits of `out` for all indices are unspecified. Processes 64 indices at a time, one
- * by one of windows of 2^32 - 9 bits or more.
+ * returned, the bits of `out` for all indices are unspecified. Processes 64 indices at a time, or
+ * single indices if the window has 2^32 - 9 bits or more.
  *
  * With the codes of rows as indices into a selection of keys, one call is a whole semi-join.
  *
@@ -256,10 +257,11 @@ VB_CHECKED bool vb_try_take_bits_u64(uint8_t *out, size_t out_size, size_t out_o
 /* To here. */
 
 /*
- * Filters bits: writes the bits of `bytes` from bit `offset` on whose bit of `mask`, from bit
- * `mask_offset` on, is true, in order, to the bits of `out` from bit `out_offset` on. They must be
- * in `out`; the checked form tests that too. Returns their number (`written`). Every other bit of
- * `out` is unchanged. Processes 64 bits at a time.
+ * Filters bits: writes the bits that the mask selects to the bits of `out` from bit `out_offset`
+ * on, in order. It selects the bits of `bytes` from bit `offset` on whose bit of `mask`, from bit
+ * `mask_offset` on, is true. The bits to write must be in `out`; the checked form tests that too.
+ * Returns their number (`written`). Every other bit of `out` is unchanged. Processes 64 bits at a
+ * time.
  *
  *     uint8_t out[] = {0xFF};
  *     const uint8_t bits[] = {0x76}, mask[] = {0x4B};
@@ -288,10 +290,11 @@ VB_CHECKED bool vb_try_filter_validity(uint8_t *out, size_t out_size, size_t out
         size_t mask_size, size_t mask_offset, size_t len, size_t *written);
 
 /*
- * Undoes vb_filter_bits (deposits): writes `len` bits to `out` from bit `out_offset` on. Where the
- * bit of `mask` from bit `mask_offset` on is true, they are those of `bytes` from bit `offset` on,
- * in order; elsewhere false. `bytes` must have a bit for each set bit of the mask, which the
- * checked form counts. Every other bit of `out` is unchanged.
+ * Deposits bits, the inverse of vb_filter_bits for the bits that the mask selects: writes `len`
+ * bits to `out` from bit `out_offset` on. They are the bits of `bytes` from bit `offset` on, in
+ * order, where the bit of `mask` from bit `mask_offset` on is true, and false elsewhere. `bytes`
+ * must have a bit for each set bit of the mask, which the checked form counts. Every other bit of
+ * `out` is unchanged.
  *
  *     uint8_t out[] = {0};
  *     const uint8_t bits[] = {0x0A}, mask[] = {0x4B};
@@ -315,7 +318,7 @@ VB_CHECKED bool vb_try_deposit_bits(uint8_t *out, size_t out_size, size_t out_of
  * The values are the bits of `left` from bit `left_offset` on, and of `right` from `right_offset`
  * on. If `left_all_valid` is true, none of `left` is null, and its validity may be null, of no
  * bytes. Else a value is null if its bit of `left_validity`, from bit `left_validity_offset` on, is
- * false, whatever the value is. The same holds for the right side. `not` needs no call of its own:
+ * false, whatever the value is. The same holds for the right side. `not` needs no separate call:
  * negate the values by vb_negate_bits, and keep the validity.
  *
  *     // True, true, false and null, with true, false, true and false.

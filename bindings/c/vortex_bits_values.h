@@ -55,9 +55,9 @@ VB_CHECKED bool vb_try_filter_values_u128(vb_u128 *out, size_t out_count, const 
 
 /*
  * Does the same for values of any type, signed ones, floats and structs too, by their size: 1, 2,
- * 4, 8 or 16 bytes. They are aligned as a whole number of that size is, those of 16 bytes as one of
- * 8. With another size the plain form crashes with SIGILL (illegal instruction). The checked form
- * returns false for such a size, and for a pointer that isn't aligned so.
+ * 4, 8 or 16 bytes. They must have the alignment of an integer of that size; values of 16 bytes
+ * need that of 8 bytes. With another size the plain form crashes with SIGILL (illegal instruction).
+ * The checked form returns false for such a size, and for a pointer that isn't aligned so.
  *
  *     const double prices[] = {0.5, 1.5, 2.5, 3.5};
  *     const uint8_t mask[] = {0x0B};

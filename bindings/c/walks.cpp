@@ -1,6 +1,6 @@
 /*
- * Walks of vortex_bits.hpp that end before their window does, windows over temporary views, windows
- * over words, and what moves within a window or a column.
+ * Tests walks of vortex_bits.hpp that end before their window, windows over temporary views,
+ * windows over words, and moves within a window or a column.
  */
 #include "vortex_bits.hpp"
 
@@ -38,7 +38,7 @@ struct view {
     std::size_t size() const { return count; }
 };
 
-/* Walks that end at the n-th place or run, where what they call answers false. */
+/* Tests walks that end at the n-th index or run, because the function returns false. */
 static void stops(const buffer &all, std::size_t n)
 {
     const bits window(all, 3, 8 * all.size() - 5);
@@ -94,7 +94,9 @@ static void views()
 #endif
 }
 
-/* Windows over words beside those over the same bytes, at each offset of two words and more. */
+/*
+ * Compares windows over words with those over the same bytes, at each offset of two words and more.
+ */
 static void words(const buffer &all)
 {
     std::vector<std::uint64_t> some(all.size() / 8);
@@ -115,7 +117,7 @@ static void words(const buffer &all)
     refused([&] { bits_mut(some, 64 * some.size(), 1); }, "a window behind its words");
 }
 
-/* Indices of 32 bits of too long a window: none of its bytes is read. */
+/* Tests indices of 32 bits in a window that is too long: no byte is read. */
 static void narrow_indices()
 {
     const std::size_t len = (std::size_t(1) << 32) + 1;
@@ -130,7 +132,7 @@ static void narrow_indices()
     check(run[0].start == 7 && run[0].end == 8, "a refused walk of runs wrote nothing");
 }
 
-/* The class view: its items, and what it refuses. */
+/* Tests the class view: its items, and its errors. */
 static void items()
 {
     const buffer all = {5, 6, 7};
@@ -141,7 +143,7 @@ static void items()
     check(none.empty() && none.size() == 0 && none.begin() == none.end(), "a view of nothing");
 }
 
-/* Bits that move within their window, beside a loop over a copy. */
+/* Compares moves of bits within their window with a loop over a copy. */
 static void moves(const buffer &any)
 {
     for (const std::size_t len : std::array<std::size_t, 6>{0, 1, 64, 65, 500, 1300}) {

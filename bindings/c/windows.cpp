@@ -1,13 +1,16 @@
 /*
- * Windows of vortex_bits.hpp that are written as windows that are read, and their bytes, and how
- * often filters count the bits of a mask.
+ * Tests writable windows of vortex_bits.hpp as read-only ones, their bytes, and the number of times
+ * that filters count the bits of a mask.
  */
 #include "vortex_bits.h"
 
 #include <cstddef>
 #include <cstdint>
 
-/* How often a class counts bits: not for a call of C that counts them too. */
+/*
+ * The number of times that a class counts bits. It must not do so for a call of C that counts them
+ * too.
+ */
 static std::size_t counts = 0;
 
 static std::size_t counted(const std::uint8_t *bytes, std::size_t size, std::size_t offset,
@@ -45,7 +48,7 @@ template <class Call> static void refused(Call call, const char *what)
     }
 }
 
-/* Calls that filter count the bits of a mask in C alone, where there is room for all. */
+/* Checks that only C counts the bits of a mask for filters, if there is space for all. */
 static void counts_of_filters()
 {
     const buffer all = {0xB6, 0x01};

@@ -1,5 +1,5 @@
 /*
- * What extents.c and neighbours.c share: where a call writes, and what it reads. The calls
+ * The code that extents.c and neighbours.c share: the output of a call, and its input. The calls
  * themselves, one of each function that writes, are in calls.h, which bindings/c/functions writes.
  * It is C and C++ alike.
  */
@@ -13,23 +13,23 @@
 
 enum { SOURCE = 1 << 20, INDICES = 1 << 17, MASK = 1 << 15, OUTS = 2, NAMED = 200 };
 
-/* A call writes `count` bits of each `out` from bit `offset` on, or as many items. */
+/* A call writes `count` bits, or items, of each `out` from bit `offset` on. */
 struct job {
     uint8_t *out[OUTS];
     size_t size[OUTS];
     size_t offset, count;
-    /* From bit 3 on, as many of the first kept_of(count) bits are true. */
+    /* Among the kept_of(count) bits from bit 3 on, `count` are true. */
     const uint8_t *mask;
 };
 
-/* A function that writes: items of so many bytes, or bits where that is 0. */
+/* A function that writes items of `each` bytes, or bits if that is 0. */
 struct writer {
     const char *name;
     size_t each;
-    /* How many windows it writes, and whether it is told the first bit of them. */
+    /* The number of windows that it writes, and whether their first bit is an argument. */
     size_t outs;
     bool is_told;
-    /* Whether it answered as it should. */
+    /* Makes the call. Returns whether its result is correct. */
     bool (*call)(const struct job *it);
 };
 
@@ -57,7 +57,7 @@ static inline size_t kept_of(size_t count)
     return 2 * count + 3;
 }
 
-/* A mask that keeps so many. */
+/* Writes a mask that selects `count` bits. */
 static inline void make_mask(uint8_t *mask, size_t count)
 {
     size_t wanted = count;
@@ -88,7 +88,7 @@ static inline void make_sources(void)
     }
 }
 
-/* How many bytes have a bit of its windows, or its items. */
+/* Returns the number of bytes that have a bit of its windows, or its items. */
 static inline size_t bytes_of(const struct writer *it, size_t bit, size_t count)
 {
     return it->each != 0 ? it->each * count : count == 0 ? 0 : (bit + count + 7) / 8;
@@ -96,7 +96,8 @@ static inline size_t bytes_of(const struct writer *it, size_t bit, size_t count)
 
 /*
  * The call of `it` on bits from bit `bit` of `first` on, or on items from there, with all bytes up
- * to `end` to write. Of a function that is told its first bit, `out` is some bytes before.
+ * to `end` to write. If the first bit is an argument of the function, `out` begins `before` bytes
+ * earlier.
  */
 static inline struct job job_of(const struct writer *it, uint8_t *const first[OUTS],
     uint8_t *const end[OUTS], size_t before, size_t bit, size_t count, const uint8_t *mask)

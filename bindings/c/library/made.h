@@ -1,12 +1,15 @@
 /*
- * The functions of vortex_bits.h that no level has. Each calls one of several functions, by the
- * size of a value or of an index, or by which validities are missing, or passes bools as bytes, or
- * narrows what another one writes.
+ * The functions of vortex_bits.h that no level has. Each selects one of several functions, by the
+ * size of a value or of an index or by which validities are missing, or passes bools as bytes, or
+ * narrows the output of another function.
  */
 #ifndef VORTEX_BITS_MADE_H
 #define VORTEX_BITS_MADE_H
 
-/* Narrows the runs of a window, some at a time: they go on behind the last one. */
+/*
+ * Writes the runs of a window with indices of 32 bits, a block at a time. Each block begins after
+ * the last run.
+ */
 size_t vb_set_slices_u32(vb_run_u32 *out, size_t out_count, const uint8_t *bytes, size_t size,
     size_t offset, size_t len)
 {
@@ -63,8 +66,10 @@ bool vb_try_unpack_bools(bool *out, size_t out_count, const uint8_t *bytes, size
     return vb_try_unpack_bytes((uint8_t *)out, out_count, bytes, size, offset, len);
 }
 
-/* Returns whether a validity is missing: a null pointer of size 0. One of another size is a mistake,
- * and the function that it is passed to refuses it. */
+/*
+ * Returns whether a validity is missing: a null pointer of size 0. A null pointer of another size
+ * is an error, which the called function rejects.
+ */
 static bool is_missing(const uint8_t *validity, size_t validity_size)
 {
     return validity == NULL && validity_size == 0;
@@ -111,7 +116,10 @@ void vb_and_validity(uint8_t *dst, size_t dst_size, size_t dst_offset, const uin
     }
 }
 
-/* Tests the window of `dst` by a search of no bits, which reads none, if nothing is to be done. */
+/*
+ * If the validity is missing, tests only the window of `dst`, by a search before index 0, which
+ * reads no bits.
+ */
 bool vb_try_and_validity(uint8_t *dst, size_t dst_size, size_t dst_offset, const uint8_t *validity,
     size_t validity_size, size_t validity_offset, size_t len)
 {

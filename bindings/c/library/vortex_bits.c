@@ -120,11 +120,11 @@ static inline uint8_t known(uint8_t op)
 #define KNOWN(op) known(op)
 
 /*
- * Few calls have a null pointer or a comparison that there isn't, or come before a level is chosen:
- * the function rare_NAME is for these. The others pay for one test of the highest digit of several
+ * Few calls have a null pointer or an unknown comparison, or come before a level is chosen: the
+ * function rare_NAME is for these. The others pay for one test of the highest bit of several
  * numbers. The test selects the function that is called, since a compiler that branches moves each
- * argument that is on the stack to a register and back. A pointer with that digit goes to
- * rare_NAME too, which accepts any.
+ * argument that is on the stack to a register and back. A pointer with that bit set goes to
+ * rare_NAME too, which accepts any pointer.
  */
 #define NULL_DIGIT(number) ((uintptr_t)(number) - 1)
 #define UNKNOWN_DIGIT(op) ((uintptr_t)VB_GREATER_OR_EQUAL - (op))

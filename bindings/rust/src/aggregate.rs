@@ -28,7 +28,7 @@ pub(crate) mod sealed {
     #[cfg(vortex_bits_native)]
     use crate::native::{Kernels, Masked, Optional, SignedWide, Wide};
 
-    /// What a type of values that can be summed provides.
+    /// The parts that a type of values that can be summed provides.
     pub trait Summand: Sized {
         /// Returns the sum of both, wrapped around at the end of the type.
         fn wrapping_plus(self, other: Self) -> Self;
@@ -54,7 +54,7 @@ pub(crate) mod sealed {
         fn masked_max(kernels: &Kernels) -> Option<Masked<Self::Laid, Optional<Self::Laid>>>;
     }
 
-    /// What a type of values with exact sums of the type `Total` provides.
+    /// The parts that a type of values with exact sums of the type `Total` provides.
     pub trait WideSummand<Total>: Summand {
         /// The sum of no values.
         const NOTHING: Total;
@@ -65,7 +65,7 @@ pub(crate) mod sealed {
         /// Returns the sum as a value; None if it is out of the type's range.
         fn narrow(total: Total) -> Option<Self>;
 
-        /// The type by which such a sum crosses from C.
+        /// The type in which C returns such a sum.
         #[cfg(vortex_bits_native)]
         type Halves: Into<Total>;
 
@@ -126,7 +126,7 @@ pub(crate) mod sealed {
 
                 #[inline]
                 fn plus(total: $total, value: $value) -> $total {
-                    // A slice has fewer values than 2^64, so no sum is past an end.
+                    // A slice has fewer than 2^64 values, so no sum overflows.
                     total + value as $total
                 }
 

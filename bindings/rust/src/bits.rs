@@ -219,8 +219,8 @@ impl<'a> Bits<'a> {
     }
 
     /// Returns the index of the `n`-th set bit, counted from 0; None if at most `n` are set. Counts
-    /// the bits from the front up to the one it returns, of more than 4,096 bytes maybe also some
-    /// behind it: for more than a few calls [`Ranks`](crate::Ranks) is faster.
+    /// the bits from the front up to the one it returns; in a window of more than 4,096 bytes it
+    /// may also count bits after that. For more than a few calls [`Ranks`](crate::Ranks) is faster.
     ///
     /// ```
     /// use vortex_bits::Bits;
@@ -456,8 +456,8 @@ impl<'a> Bits<'a> {
         kernels::unpack_bytes(out, self);
     }
 
-    /// Writes the indices of the set bits to the front of `out`, in ascending order and as many as
-    /// fit, and returns their number. The rest of `out` is unchanged.
+    /// Writes the indices of the set bits, in ascending order, to the front of `out`, up to its
+    /// length. Returns the number of indices written. The rest of `out` is unchanged.
     ///
     /// ```
     /// use vortex_bits::Bits;

@@ -160,9 +160,9 @@ pub fn compare_into<T: Compare>(values: &[T], op: Comparison, number: T, mut out
     kernels::compare(&mut out.written(), values, op, number);
 }
 
-/// Unsets each bit of `mask` for whose value `value op number` is false: `&=` with the result of a
-/// comparison, which gets no bitmap. So the terms of an `and` write one mask. Values at unset bits
-/// are compared too.
+/// Unsets each bit of `mask` whose value doesn't satisfy `value op number`. The result is that of
+/// `&=` with the result of [`compare`], but no bitmap is allocated: all terms of an `and` write one
+/// mask. It compares the values at unset bits too.
 ///
 /// ```
 /// use vortex_bits::{Bitmap, Bits, Comparison, values};
@@ -186,8 +186,8 @@ pub fn and_compare<T: Compare>(values: &[T], op: Comparison, number: T, mask: Bi
     });
 }
 
-/// Unsets each bit of `mask` for whose value `value op other` is false, with the one of `others` at
-/// the same index, as [`and_compare`] does for a number.
+/// Unsets each bit of `mask` whose value doesn't satisfy `value op other`, where `other` is the
+/// item of `others` at the same index, as [`and_compare`] does for a number.
 ///
 /// ```
 /// use vortex_bits::{Bitmap, Comparison, values};

@@ -1,9 +1,10 @@
-//! Of which sources the proved archives have to be. bindings/build names a symbol of each archive by
-//! the digest of what it is built from, and this crate links the symbol of this digest alone.
+//! The digest of the sources from which the proved archives must be built. bindings/build names a
+//! symbol in each archive after the digest of its sources, and this crate links only the symbol
+//! with this digest.
 
-/// What tools/digest prints; tools/write-lists writes it here.
+/// The output of tools/digest. tools/write-lists writes it here.
 macro_rules! digest {
     () => {
-        "62e44b1e824ed16b5d1fe5f62bb4be9064be9f81eb6a6d82ffe2579e7ae97494"
+        "c3e0e5fee5400b2e84cfd2a3380ec2c98c8b05401f43cd0579dd5e65ad0109f2"
     };
 }

@@ -14,7 +14,7 @@ pub(crate) mod sealed {
     #[cfg(vortex_bits_native)]
     use crate::native::{Kernels, Masked};
 
-    /// What a type of floats provides.
+    /// The parts that a type of floats provides.
     pub trait Float: Copy + PartialOrd {
         const INFINITY: Self;
         const NEG_INFINITY: Self;

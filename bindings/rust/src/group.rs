@@ -17,7 +17,7 @@ pub(crate) mod sealed {
     #[cfg(vortex_bits_native)]
     use crate::native::{GroupSums, Kernels};
 
-    /// What a type of values with sums of the type `Sum` provides.
+    /// The parts that a type of values with sums of the type `Sum` provides.
     pub trait GroupSummand<Sum>: Sized {
         /// Returns the sum with one value more.
         fn plus(sum: Sum, value: Self) -> Sum;

@@ -4,12 +4,12 @@ use crate::error::{GroupError, expect};
 use crate::group::{no_group, one_each};
 use crate::{BitIndex, Compare, Mask, portable};
 
-/// Replaces the minimum of each group by the least of it and of the values that `mask` selects and
-/// whose code is its index. None is that of a group without values. If the mask is None, all rows
+/// Updates the minimum of each group with the values that `mask` selects and whose code is the
+/// index of the group. The minimum of a group without values is None. If the mask is None, all rows
 /// are selected. Rows that it doesn't select may have any number as their code and their value.
 ///
-/// Values compare as Rust's operators say: a NaN is skipped, also as a minimum that is given, and of
-/// equal values, such as 0.0 and -0.0, the first one counts.
+/// Values compare as Rust's operators say. It skips NaN, even if it is the given minimum. Among
+/// equal values, such as 0.0 and -0.0, it keeps the first one.
 ///
 /// ```
 /// use vortex_bits::{Bits, values};
@@ -34,8 +34,7 @@ pub fn group_min<V: Compare, I: BitIndex>(
     expect(try_group_min(minima, codes, values, mask));
 }
 
-/// Replaces the minimum of each group by the least of it and of its selected values, as
-/// [`group_min`] does.
+/// Updates the minimum of each group with its selected values, as [`group_min`] does.
 ///
 /// ```
 /// use vortex_bits::{Bits, values};
@@ -59,8 +58,8 @@ pub fn try_group_min<V: Compare, I: BitIndex>(
     best(minima, codes, values, &mask, |value, least| value < least)
 }
 
-/// Replaces the maximum of each group by the greatest of it and of the values that `mask` selects
-/// and whose code is its index, as [`group_min`] does for the minimum.
+/// Updates the maximum of each group with the values that `mask` selects and whose code is the
+/// index of the group, as [`group_min`] does for the minimum.
 ///
 /// ```
 /// use vortex_bits::{Bits, values};
@@ -84,8 +83,7 @@ pub fn group_max<V: Compare, I: BitIndex>(
     expect(try_group_max(maxima, codes, values, mask));
 }
 
-/// Replaces the maximum of each group by the greatest of it and of its selected values, as
-/// [`group_max`] does.
+/// Updates the maximum of each group with its selected values, as [`group_max`] does.
 ///
 /// ```
 /// use vortex_bits::{Bits, values};

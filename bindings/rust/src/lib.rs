@@ -31,9 +31,9 @@
 //!
 //! On x86-64 Linux, calls over more than 64 bits run C functions. They are proved in Rattle to meet
 //! their definitions at every offset and length, at the level x86-64-v2 or x86-64-v3, depending on
-//! the processor. Comparisons, packing, unpacking, bits at indices and ranks run them at any
-//! length, values at indices, and counts and sums by group, for more than 16 of them. The rest is
-//! Rust of this crate, which isn't proved, but tested against loops over single bits:
+//! the processor. Comparisons, packing, unpacking, takes of bits and ranks run them at any length;
+//! takes of values, and counts and sums by group, run them for more than 16 items. The rest is Rust
+//! of this crate, which isn't proved, but tested against loops over single bits:
 //!
 //! - single bits, other windows of at most 64, values at up to 16 indices, and types of values and
 //!   indices that [`Value`], [`Compare`], [`Summand`] and [`BitIndex`] exclude;

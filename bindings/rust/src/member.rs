@@ -6,9 +6,9 @@ use crate::{BitIndex, Bits, BitsMut, Mask, portable};
 #[cfg(feature = "alloc")]
 use crate::Bitmap;
 
-/// Writes a bit per value to `out`: whether `mask` selects it and the bit of `set` at it is set. A
-/// negative value, and one that isn't below the length of `set`, is no member. If the mask is None,
-/// all values are selected. The parameters are those of [`is_in`](crate::values::is_in).
+/// Writes a bit per value to `out`: whether `mask` selects it and the bit of `set` at that index is
+/// set. A negative value, and one that isn't below the length of `set`, is no member. If the mask
+/// is None, all values are selected. The parameters are those of [`is_in`](crate::values::is_in).
 ///
 /// ```
 /// use vortex_bits::{Bits, BitsMut, values};
@@ -34,8 +34,9 @@ pub fn is_in_into<'a, I: BitIndex>(
     portable::is_in(&mut out.written(), set.into(), values, mask);
 }
 
-/// Unsets each bit of `mask` whose value isn't in the set: `&=` with the result of
-/// [`is_in`](crate::values::is_in), which gets no bitmap. Values at unset bits may be any numbers.
+/// Unsets each bit of `mask` whose value isn't in the set. The result is that of `&=` with the
+/// result of [`is_in`](crate::values::is_in), but no bitmap is allocated. Values at unset bits may
+/// be any numbers.
 ///
 /// ```
 /// use vortex_bits::{Bitmap, values};

@@ -11,7 +11,7 @@
 //!   per selected one. There is space for a value at each index. There is a bit of validity per
 //!   index, unless all are valid. A deposit has one bit per set bit of its mask. The mask of an
 //!   aggregate has one bit per value. There is one value, and one bit of the mask, per code.
-//! - A comparison is a number below 6, and there are as many others as values.
+//! - A comparison is a number below 6, and there is one other per value.
 //! - A table has one entry per block of 512 bits of the window, with any contents.
 //! - The processor has the level.
 //!
@@ -33,7 +33,7 @@ pub type CompareNumber<T> = unsafe extern "C" fn(*mut u8, usize, usize, *const T
 pub type CompareOthers<T> =
     unsafe extern "C" fn(*mut u8, usize, usize, *const T, usize, u8, *const T, usize);
 
-/// A call on values and their mask: what it returns of those whose bit is true.
+/// A call on values and their mask, which returns a result for the values whose bit is true.
 pub type Masked<T, R> = unsafe extern "C" fn(*const T, usize, *const u8, usize, usize) -> R;
 
 // Written by tools/write-lists from tools/families/masked_sums.txt.

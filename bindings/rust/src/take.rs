@@ -27,7 +27,7 @@ pub(crate) mod sealed {
         fn place(self) -> Option<usize>;
 
         /// Returns the index as a `usize`; if it is negative or doesn't fit, one that isn't below
-        /// the number of bits that any memory holds. Takes no test where that is a cast.
+        /// the number of bits that any memory holds. Needs no test if that is a cast.
         fn place_or_far(self) -> usize;
 
         /// Returns the index itself; `i128::MAX` if it is above that.
@@ -72,7 +72,7 @@ pub(crate) mod sealed {
                 }
 
                 // The comparisons have the width of the indices and no branch, so that the compiler
-                // makes vectors of them.
+                // vectorizes them.
                 #[inline]
                 fn any_past(indices: &[$index], len: usize) -> bool {
                     let last = match len.checked_sub(1).map(<$index>::try_from) {

@@ -6,14 +6,15 @@ use crate::{Compare, Mask, portable};
 
 /// The greatest or the least `k` values of a column that comes batch by batch, with their rows: an
 /// `order by` with a `limit`. Values are equal, above or below one another as Rust's operators say.
-/// Of equal values, such as 0.0 and -0.0, those of the first rows count. A NaN is never among them.
+/// Among equal values, such as 0.0 and -0.0, it keeps those of the first rows. It never keeps a
+/// NaN.
 ///
-/// A batch allocates only if it has one of the first `k` values. It holds at most about twice `k`
-/// values, and 128 more. After the first sort, a value that doesn't come before the last of the
-/// first `k` is only compared with it. The values are sorted whenever there are `k` more, or 64
-/// more if `k` is smaller, and at the end of a batch, which inserts up to 16 new ones instead. So a
-/// batch with one of the first `k` values takes time in proportion to `k` too, however few rows it
-/// has.
+/// A batch allocates only if it has one of the first `k` values. The `TopK` holds at most about
+/// twice `k` values, and 128 more. After the first sort, a value that doesn't come before the last
+/// of the first `k` is only compared with it. The values are sorted whenever there are `k` more, or
+/// 64 more if `k` is smaller, and at the end of a batch, which inserts up to 16 new ones instead.
+/// So a batch with one of the first `k` values takes time in proportion to `k` too, however few
+/// rows it has.
 ///
 /// ```
 /// use vortex_bits::{Bits, TopK};
@@ -107,8 +108,8 @@ impl<T: Compare> TopK<T> {
 }
 
 /// Returns the indices of the `k` greatest values that `mask` selects, the greatest first; of all
-/// values if it is None. There are fewer if fewer are selected. Of equal values the first ones
-/// count, and a NaN is never among them. [`TopK`] finds those of several batches.
+/// values if it is None. There are fewer if fewer are selected. Among equal values it returns the
+/// first ones, and it never returns a NaN. [`TopK`] finds those of several batches.
 ///
 /// ```
 /// use vortex_bits::{Bits, values};

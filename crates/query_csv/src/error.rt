@@ -1,4 +1,4 @@
-//! Errors, with the texts in which the user reads them.
+//! Errors, with their texts for the user.
 use crate::splitter::{LONGEST_ROW, MOST_FIELDS};
 use std::alloc::{AllocError, AllocFailed, Global};
 use std::{fmt, io};
@@ -10,14 +10,14 @@ pub enum Failure {
     Told(String),
     /// Memory ran out.
     Memory,
-    /// The reader of standard output has gone.
+    /// The reader of standard output has closed the pipe.
     Closed,
 }
 
-/// What a call returns, or a failure.
+/// The result of a call, or a failure.
 pub type Result<T> = std::result::Result<T, Failure>;
 
-/// Returns the failure of a text, or of the memory for it.
+/// Returns the failure with this text, or `Memory` if memory ran out for the text.
 pub fn told(text: std::result::Result<String, AllocError>) -> Failure {
     match text {
         Ok(text) => Failure::Told(text),
@@ -50,7 +50,7 @@ pub enum CsvError {
         line: u64,
         /// The field of the row, from 0 on.
         field: usize,
-        /// What is wrong there.
+        /// The error.
         what: Malformed,
     },
 }
@@ -89,7 +89,7 @@ pub enum Malformed {
 }
 
 impl Malformed {
-    /// Returns what the user is told.
+    /// Returns the text for the user.
     pub fn message(self, alloc: Global) -> std::result::Result<String, AllocError> {
         match self {
             Malformed::Unclosed => {

@@ -1,9 +1,9 @@
 //! Reading of a CSV file (RFC 4180) in batches of rows, and writing of rows as CSV.
 //!
 //! [`Reader`] splits bytes into the fields of [`Rows`] by a [`Splitter`]; [`write_row`] writes
-//! fields back. Beside them is what a query over the fields needs: numbers of fields, texts as a
-//! terminal may show them, errors at a position of the command line ([`Source`]), and [`Failure`],
-//! the error of every crate of the program.
+//! fields back. The crate also has helpers for queries over the fields: fields as numbers, texts
+//! that are safe to print in a terminal, errors at a position of the command line ([`Source`]), and
+//! [`Failure`], the error of every crate of the program.
 #![tactic(auto)]
 
 mod error;

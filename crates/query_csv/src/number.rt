@@ -11,8 +11,8 @@ pub fn whole(field: &[u8]) -> Option<i64> {
     }
 }
 
-/// Returns the finite float that is next to the decimal number of a field. Words such as `inf` and
-/// `NaN` are no numbers.
+/// Returns the finite float that is nearest to the decimal number of a field. Words such as `inf`
+/// and `NaN` are not numbers.
 pub fn float(field: &[u8]) -> Option<f64> {
     if !is_decimal(field) {
         return None;
@@ -28,7 +28,7 @@ pub fn float(field: &[u8]) -> Option<f64> {
     }
 }
 
-/// Whether all bytes of a field may be in a decimal number.
+/// Returns whether all bytes of a field may be in a decimal number.
 fn is_decimal(field: &[u8]) -> bool {
     for byte in field {
         if !matches!(*byte, b'0'..=b'9' | b'.' | b'+' | b'-' | b'e' | b'E') {
@@ -67,8 +67,9 @@ pub fn compare(whole: i64, float: f64) -> Ordering {
     }
 }
 
-/// Returns a whole number for a float that isn't a NaN, such that these numbers are in the order of
-/// the floats: the float's bits, negated for a negative float. Both zeros become 0.
+/// Returns a whole number for a float that isn't a NaN. These numbers have the same order as the
+/// floats: a number has the bits of the absolute value, and is negated for a negative float. Both
+/// zeros become 0.
 pub fn ordered(float: f64) -> i64 {
     let bits = f64_to_bits_with_nan(float);
     let size = (bits & 0x7FFF_FFFF_FFFF_FFFF) as i64;

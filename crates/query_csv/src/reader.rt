@@ -5,7 +5,7 @@ use crate::splitter::{Dialect, Splitter};
 use std::alloc::Global;
 use std::io::{self, Read};
 
-/// How much is read at once.
+/// The number of bytes that are read at once.
 const BUFFER: usize = 65_536;
 
 const BYTE_ORDER_MARK: &[u8] = &[0xEF, 0xBB, 0xBF];
@@ -15,9 +15,9 @@ const BYTE_ORDER_MARK: &[u8] = &[0xEF, 0xBB, 0xBF];
 pub struct Reader<R: Read + Drop> {
     source: R,
     buffer: Vec<u8>,
-    /// The bytes of the buffer that are read and not split yet are from here on,
+    /// The start of the bytes in the buffer that are read and not yet split.
     at: usize,
-    /// up to here.
+    /// The end of those bytes.
     end: usize,
     splitter: Splitter,
 }
@@ -25,8 +25,8 @@ pub struct Reader<R: Read + Drop> {
 impl<R: Read + Drop> Reader<R> {
     /// Returns a reader at the first row. A byte-order mark before it is skipped.
     ///
-    /// Fails if the input can't be read or begins as UTF-16, or if memory runs out. The memory is
-    /// that of a buffer, whose size doesn't depend on the input.
+    /// Fails if the input can't be read or begins as UTF-16, or if memory runs out. Allocates one
+    /// buffer, whose size doesn't depend on the input.
     pub fn new(alloc: Global, source: R, dialect: Dialect) -> Result<Reader<R>, CsvError> {
         let buffer = Vec::from_elem(alloc, 0, BUFFER)?;
         let mut reader = Reader {
@@ -70,7 +70,7 @@ impl<R: Read + Drop> Reader<R> {
         Ok(false)
     }
 
-    /// Reads as many bytes as a byte-order mark has, unless the input ends before.
+    /// Reads the number of bytes of a byte-order mark, unless the input ends before.
     fn read_start(&mut self) -> io::Result<()> {
         for _ in 0..BYTE_ORDER_MARK.len() {
             let space = self
@@ -87,7 +87,7 @@ impl<R: Read + Drop> Reader<R> {
         Ok(())
     }
 
-    /// Reads the next bytes into the buffer. Returns how many.
+    /// Reads the next bytes into the buffer. Returns their number.
     fn fill(&mut self) -> io::Result<usize> {
         self.at = 0;
         self.end = self.source.read(self.buffer.as_mut_slice())?;
@@ -99,7 +99,7 @@ impl<R: Read + Drop> Reader<R> {
     }
 }
 
-/// Whether a file begins with the byte-order mark of UTF-16, in either byte order.
+/// Returns whether a file begins with the byte-order mark of UTF-16, in either byte order.
 fn starts_as_utf16(start: &[u8]) -> bool {
     matches!(start, [0xFE, 0xFF, ..] | [0xFF, 0xFE, ..])
 }

@@ -1,7 +1,7 @@
 //! Rows of text fields.
 use std::alloc::{AllocError, AllocFailed, Global};
 
-/// Rows of a file, as the bytes of their fields one behind the other.
+/// Rows of a file, as the bytes of their fields one after the other.
 #[derive(Drop)]
 pub struct Rows {
     bytes: Vec<u8>,
@@ -65,12 +65,12 @@ impl Rows {
         self.lines.last().copied().unwrap_or(0)
     }
 
-    /// Returns one field; no byte where there is none.
+    /// Returns one field; no bytes if it doesn't exist.
     pub fn field(&self, row: usize, column: usize) -> &[u8] {
         self.nth_field(row.saturating_mul(self.width).saturating_add(column))
     }
 
-    /// Returns a field by its index among the fields of all rows; no byte where there is none.
+    /// Returns a field by its index among the fields of all rows; no bytes if it doesn't exist.
     pub fn nth_field(&self, field: usize) -> &[u8] {
         let start = self.ends.get(field).copied().unwrap_or(0);
         let end = self.ends.get(field.saturating_add(1)).copied().unwrap_or(0);

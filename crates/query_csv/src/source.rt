@@ -39,7 +39,7 @@ impl<'a> Source<'a> {
         pointed
     }
 
-    /// The line of a position, with a space for each character before the position.
+    /// Returns the line of a position, and a space for each character before the position.
     fn line_at(self, alloc: Global, at: usize) -> Result<(String, String), AllocError> {
         let mut line = String::new(alloc);
         let mut before = String::new(alloc);

@@ -17,7 +17,7 @@ pub struct Dialect {
     pub quote: Option<u8>,
 }
 
-/// Where in a row the next byte is.
+/// The state before the next byte of a row.
 #[derive(Clone, Copy, PartialEq, Eq)]
 enum State {
     /// Before a row.
@@ -43,7 +43,7 @@ pub struct Splitter {
     line: u64,
     /// The line of the last quote that opened a field.
     opened: u64,
-    /// The number of fields of the row that are ended.
+    /// The number of fields of the row that have ended.
     field: usize,
     /// The number of bytes of the row's fields.
     size: usize,
@@ -62,11 +62,11 @@ impl Splitter {
         }
     }
 
-    /// Adds the fields of bytes to the rows, up to the end of a row. Returns how many bytes it
-    /// took, and whether a row is ended.
+    /// Adds the fields of bytes to the rows, up to the end of a row. Returns the number of bytes it
+    /// read, and whether a row has ended.
     ///
-    /// An error says what is wrong where; the rows then hold what came before, and a row that isn't
-    /// whole.
+    /// An error has the line, the field and the reason. `rows` then has the rows before it, and a
+    /// part of a row.
     pub fn feed(&mut self, bytes: &[u8], rows: &mut Rows) -> Result<(usize, bool), CsvError> {
         let mut taken = 0usize;
         for byte in bytes {
@@ -157,7 +157,7 @@ impl Splitter {
         Ok(false)
     }
 
-    /// Takes a delimiter, or the first byte of a line end.
+    /// Processes a delimiter, or the first byte of a line end.
     fn end(&mut self, byte: u8, rows: &mut Rows) -> Result<bool, CsvError> {
         if byte == self.dialect.delimiter {
             return self.end_field(rows);

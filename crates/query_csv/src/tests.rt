@@ -25,7 +25,7 @@ fn feed_all(splitter: &mut Splitter, piece: &[u8], rows: &mut Rows) -> Result<()
     Ok(())
 }
 
-/// The rows of a text that comes in pieces of `size` bytes.
+/// Returns the rows of a text that comes in pieces of `size` bytes.
 fn split(alloc: Global, text: &[u8], size: usize) -> Result<Rows, CsvError> {
     let mut rows = Rows::new(alloc, 2)?;
     let mut splitter = Splitter::new(COMMAS);
@@ -37,7 +37,7 @@ fn split(alloc: Global, text: &[u8], size: usize) -> Result<Rows, CsvError> {
     Ok(rows)
 }
 
-/// All fields, each before a bar.
+/// Returns all fields, each before a bar.
 fn listed(alloc: Global, rows: &Rows) -> Result<Vec<u8>, CsvError> {
     let mut listed = Vec::new(alloc);
     for field in 0..rows.fields() {
@@ -47,7 +47,7 @@ fn listed(alloc: Global, rows: &Rows) -> Result<Vec<u8>, CsvError> {
     Ok(listed)
 }
 
-/// The number of rows and their fields, or None after an error.
+/// Returns the number of rows and their fields; None after an error.
 fn fields(alloc: Global, size: usize) -> Option<(usize, Vec<u8>)> {
     let rows = split(alloc, TEXT, size).ok()?;
     let fields = listed(alloc, &rows).ok();
@@ -67,7 +67,7 @@ fn pieces_make_no_difference(rt: HostRuntime) -> Result<(), Fail> {
     Ok(())
 }
 
-/// Where a text isn't CSV, and what is wrong there.
+/// Returns the line, the field and the reason of a text's error.
 fn wrong(alloc: Global, text: &[u8]) -> Option<(u64, usize, Malformed)> {
     match split(alloc, text, 100) {
         Err(CsvError::Malformed { line, field, what }) => Some((line, field, what)),

@@ -1,7 +1,7 @@
-//! Texts as a terminal may show them.
+//! Texts that are safe to print in a terminal.
 use std::alloc::{AllocError, Global};
 
-/// Returns a character as one that moves no cursor: control characters become their pictures.
+/// Returns the character, or a visible symbol for a control character, which could move the cursor.
 pub fn visible(character: char) -> char {
     match character {
         '\0'..='\x1F' => char::from_u32(0x2400 + u32::from(character)).unwrap_or('?'),
@@ -11,8 +11,8 @@ pub fn visible(character: char) -> char {
     }
 }
 
-/// Returns the text of bytes as a terminal may show it, cut to `most` characters. Bytes that aren't
-/// UTF-8 become `U+FFFD`. Allocates the text.
+/// Returns bytes as a text that is safe to print in a terminal, cut to `most` characters. Bytes
+/// that aren't UTF-8 become `U+FFFD`. Allocates the text.
 pub fn shown(alloc: Global, bytes: &[u8], most: usize) -> Result<String, AllocError> {
     let enough = most.saturating_mul(4).saturating_add(4);
     let start = bytes.get(..enough).unwrap_or(bytes);
@@ -22,7 +22,8 @@ pub fn shown(alloc: Global, bytes: &[u8], most: usize) -> Result<String, AllocEr
     cut
 }
 
-/// The first `most` characters of a text; of a longer one the last of these becomes dots.
+/// Returns the first `most` characters of a text. If the text is longer, the last of these becomes
+/// dots.
 fn cut_to(alloc: Global, text: &str, most: usize) -> Result<String, AllocError> {
     let mut cut = String::new(alloc);
     let mut left = most;

@@ -4,7 +4,7 @@ use std::io::{self, Write};
 
 /// Writes a row of fields and a line feed. Fields are quoted where the dialect needs it.
 ///
-/// Fails if `out` can't be written; a part of the row may be written then.
+/// Fails if `out` can't be written. A part of the row may then be written.
 pub fn write_row<'a, W: Write>(
     out: &mut W,
     dialect: Dialect,
@@ -40,8 +40,8 @@ fn write_quoted<W: Write>(out: &mut W, quote: u8, field: &[u8]) -> io::Result<()
     out.write_all(&[quote])
 }
 
-/// Whether a field is read back as it is only between quotes: a byte-order mark would be skipped at
-/// the beginning of a file.
+/// Returns whether a field needs quotes to be read back unchanged. This includes a byte-order mark,
+/// which would be skipped at the beginning of a file.
 fn needs_quotes(field: &[u8], delimiter: u8, quote: u8) -> bool {
     if field.starts_with("\u{FEFF}".as_bytes()) {
         return true;

@@ -1,4 +1,4 @@
-//! Where the bins of a histogram begin: at 1, 2 or 5 times a power of ten.
+//! The edges of a histogram's bins: 1, 2 or 5 times a power of ten, or multiples of that.
 use std::alloc::{AllocError, Global};
 use std::num::{nearest_i64_to_f64, saturating_f64_to_i64};
 
@@ -8,12 +8,12 @@ const BINS: f64 = 16.0;
 /// The most edges.
 const MOST: usize = 32;
 
-/// Bins grow with the numbers if the greatest is so many times the least.
+/// Bins may grow with the numbers if the greatest is at least this many times the least.
 const DECADES: f64 = 1000.0;
 /// The least finite float. The first edge of a histogram may be below it.
 const LEAST: f64 = -1.7976931348623157e308;
 
-/// What a step is times a power of ten.
+/// The factors of a power of ten in a step.
 const DIGITS: &[i128] = &[1, 2, 5];
 
 /// A power of ten, times 1, 2 or 5.
@@ -24,7 +24,7 @@ struct Step {
 }
 
 impl Step {
-    /// The least step that is at least `width`.
+    /// Returns the least step that is at least `width`.
     fn above(alloc: Global, width: f64) -> Result<Step, AllocError> {
         let exponent = saturating_f64_to_i64(width.log10().floor());
         let mut step = Step { digit: 1, exponent };
@@ -42,7 +42,7 @@ impl Step {
         Ok(step)
     }
 
-    /// The float next to a multiple of the step.
+    /// Returns the float that is nearest to a multiple of the step.
     fn times(self, alloc: Global, number: i128) -> Result<f64, AllocError> {
         let multiple = self.digit.wrapping_mul(number);
         let text = format!(in alloc; "{multiple}e{}", self.exponent)?;
@@ -51,7 +51,7 @@ impl Step {
         Ok(found)
     }
 
-    /// The step as a whole number, if it is one of 64 bits.
+    /// Returns the step as a whole number, if it is one of 64 bits.
     fn whole(self) -> Option<i64> {
         let exponent = u32::try_from(self.exponent).ok()?;
         let power = 10i64.checked_pow(exponent)?;
@@ -60,7 +60,7 @@ impl Step {
     }
 }
 
-/// Whether most numbers of a range are in the first of many bins of equal width.
+/// Returns whether most numbers of a range are in the first of many bins of equal width.
 fn is_skewed(least: f64, greatest: f64, mean: f64) -> bool {
     let start = if least == 0.0 { 1.0 } else { least };
     least >= 0.0 && greatest / start >= DECADES && mean - least < (greatest - least) / BINS
@@ -85,7 +85,7 @@ pub fn wholes(alloc: Global, least: i64, greatest: i64, mean: f64) -> Result<Vec
     )
 }
 
-/// Edges of equal distance.
+/// Returns edges at equal distances.
 fn even_wholes(
     alloc: Global,
     step: i128,
@@ -105,7 +105,7 @@ fn even_wholes(
     Ok(edges)
 }
 
-/// Edges that grow with the numbers.
+/// Returns edges whose distances grow with the numbers.
 fn growing_wholes(alloc: Global, least: i64, greatest: i64) -> Result<Vec<i64>, AllocError> {
     let mut all = Vec::new(alloc);
     all.push(0)?;
@@ -126,7 +126,8 @@ fn growing_wholes(alloc: Global, least: i64, greatest: i64) -> Result<Vec<i64>, 
     edges
 }
 
-/// The last edge at or below `least`, and how many there are from it on up to `greatest`.
+/// Returns the index of the last edge at or below `least`, and the number of edges from it up to
+/// `greatest`.
 fn span_of_wholes(all: &[i64], least: i64, greatest: i64) -> (usize, usize) {
     let mut first = 0usize;
     let mut end = 0usize;
@@ -153,7 +154,7 @@ pub fn floats(alloc: Global, least: f64, greatest: f64, mean: f64) -> Result<Vec
     even_floats(alloc, Step::above(alloc, width)?, least, greatest)
 }
 
-/// Edges of equal distance.
+/// Returns edges at equal distances.
 fn even_floats(
     alloc: Global,
     step: Step,
@@ -174,7 +175,7 @@ fn even_floats(
     Ok(edges)
 }
 
-/// Edges that grow with the numbers.
+/// Returns edges whose distances grow with the numbers.
 fn growing_floats(alloc: Global, least: f64, greatest: f64) -> Result<Vec<f64>, AllocError> {
     let mut all = Vec::new(alloc);
     for exponent in -323..309i64 {
@@ -192,7 +193,8 @@ fn growing_floats(alloc: Global, least: f64, greatest: f64) -> Result<Vec<f64>, 
     edges
 }
 
-/// The last edge at or below `least`, and how many there are from it on up to `greatest`.
+/// Returns the index of the last edge at or below `least`, and the number of edges from it up to
+/// `greatest`.
 fn span_of_floats(all: &[f64], least: f64, greatest: f64) -> (usize, usize) {
     let mut first = 0usize;
     let mut end = 0usize;
@@ -207,7 +209,8 @@ fn span_of_floats(all: &[f64], least: f64, greatest: f64) -> (usize, usize) {
     (first, end.saturating_sub(first))
 }
 
-/// `count` edges from the first one on; of very many some.
+/// Returns `count` edges from index `first` on, or every k-th of them, so that there are at most
+/// [`MOST`].
 fn some<T: Copy>(
     alloc: Global,
     all: &[T],

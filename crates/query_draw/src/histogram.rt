@@ -1,4 +1,4 @@
-//! How the values of a column are spread.
+//! The distribution of a column's values.
 use crate::edges::{floats, label, wholes};
 use query_csv::{Result, grouped, ordered};
 use query_engine::{Batch, made};
@@ -6,19 +6,19 @@ use query_table::Range;
 use std::alloc::{AllocError, Global};
 use vortex_buffer::{BitBuffer, Comparison, compared};
 
-/// How many values of a column are in each bin, of the rows that are kept.
+/// The number of a column's values in each bin, among the kept rows.
 #[derive(Drop)]
 pub struct Histogram {
     column: usize,
     /// The number at which each bin begins, as a text and as a key of the column's values.
     labels: Vec<String>,
     keys: Vec<i64>,
-    /// How many values are at each edge or above; of the first edge, all.
+    /// The number of values at each edge or above it; for the first edge, all values.
     above: Vec<u64>,
 }
 
 impl Histogram {
-    /// Returns the histogram of a column whose numbers are in a range, of no value yet.
+    /// Returns the histogram of a column whose numbers are in a range, without values so far.
     pub fn new(
         alloc: Global,
         column: usize,
@@ -39,7 +39,7 @@ impl Histogram {
         self.column
     }
 
-    /// Returns the first bin that has values, and the one behind the last that has some.
+    /// Returns the first bin that has values, and the one after the last that has values.
     pub fn bins(&self) -> (usize, usize) {
         let mut first = None;
         let mut end = 0usize;
@@ -59,7 +59,7 @@ impl Histogram {
         above.saturating_sub(next)
     }
 
-    /// Returns where a bin begins, as text.
+    /// Returns the edge at which a bin begins, as text.
     pub fn label(&self, bin: usize) -> &str {
         match self.labels.get(bin) {
             Some(label) => label.as_str(),
@@ -76,7 +76,7 @@ impl Histogram {
         most
     }
 
-    /// Returns how long the longest text of an edge is, of the bins from the first with values to
+    /// Returns the length of the longest edge text, among the bins from the first with values to
     /// the last.
     pub fn longest(&self) -> usize {
         let (first, end) = self.bins();
@@ -122,7 +122,8 @@ impl Histogram {
         counted
     }
 
-    /// Adds how many numbers of a mask are at each edge or above; to the first one, all.
+    /// Adds to each edge the number of selected numbers at or above it; to the first edge, all of
+    /// them.
     fn add(&mut self, alloc: Global, numbers: &[i64], mask: &BitBuffer) -> Result<()> {
         for (bin, edge) in self.keys.iter().enumerate() {
             let count = if bin == 0 {
@@ -138,7 +139,7 @@ impl Histogram {
     }
 }
 
-/// How many numbers of a mask are at an edge or above.
+/// Returns how many of the numbers that a mask selects are at an edge or above.
 fn count_from(alloc: Global, numbers: &[i64], edge: i64, mask: &BitBuffer) -> Result<usize> {
     let above = compared(alloc, numbers, Comparison::GreaterOrEqual, edge, None);
     let above = made(alloc, above)?;
@@ -147,7 +148,7 @@ fn count_from(alloc: Global, numbers: &[i64], edge: i64, mask: &BitBuffer) -> Re
     made(alloc, count)
 }
 
-/// The number at which each bin begins, as a text and as a key.
+/// Returns the number at which each bin begins, as a text and as a key.
 fn edges(alloc: Global, range: Range) -> std::result::Result<(Vec<String>, Vec<i64>), AllocError> {
     let mut labels = Vec::new(alloc);
     match range {

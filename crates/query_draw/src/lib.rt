@@ -1,5 +1,5 @@
-//! What is drawn of the rows that are kept: a [`Strip`] of them, the [`Histogram`] of a column, the
-//! [`Report`] that has both as text, and a [`Picture`] of both as SVG.
+//! Drawings of the kept rows: a [`Strip`] of them, the [`Histogram`] of a column, the [`Report`]
+//! that has both as text, and a [`Picture`] of both as SVG.
 #![tactic(auto)]
 
 mod edges;

@@ -25,21 +25,21 @@ const CHART_HEIGHT: f64 = 200.0;
 
 const CHART_LEFT: f64 = 80.0;
 
-/// About how wide a character of an axis is.
+/// The approximate width of a character on an axis.
 const CHARACTER: f64 = 6.5;
 
-/// How many characters of the file's name are shown,
+/// The number of characters of the file's name that are shown.
 const FILE: usize = 60;
 
-/// of the condition,
+/// The number of characters of the condition that are shown.
 const CONDITION: usize = 90;
 
-/// and of a column's name.
+/// The number of characters of a column's name that are shown.
 const NAME: usize = 30;
 
 type Added = std::result::Result<(), AllocError>;
 
-/// What a picture shows.
+/// The contents of a picture.
 #[derive(Clone, Copy)]
 pub struct Picture<'a> {
     /// The memory for the text.
@@ -111,8 +111,8 @@ impl<'a> Picture<'a> {
         added
     }
 
-    /// Adds the strip of rows. Its cells begin at whole units and aren't blurred, since a gap would
-    /// show between blurred ones.
+    /// Adds the strip of rows. Its cells begin at whole units, so that they aren't blurred: blurred
+    /// cells would have visible gaps between them.
     fn add_strip(&self, out: &mut String) -> Added {
         writeln!(
             out,
@@ -126,7 +126,7 @@ impl<'a> Picture<'a> {
         self.add_legend(out)
     }
 
-    /// Adds what is below the strip.
+    /// Adds the legend below the strip.
     fn add_legend(&self, out: &mut String) -> Added {
         let below = STRIP_TOP + STRIP_HEIGHT + 16.0;
         self.add_text(out, (MARGIN, below), "start", "", "row 1")?;
@@ -182,7 +182,7 @@ impl<'a> Picture<'a> {
         let count = nearest_usize_to_f64(end.saturating_sub(first).max(1));
         let slot = (WIDTH - MARGIN - CHART_LEFT) / count;
         let label = nearest_usize_to_f64(histogram.longest().saturating_add(1)) * CHARACTER;
-        // The remainder of floats is a call of the C library that older ones lack.
+        // A remainder of floats would call a C function that older C libraries lack.
         let each = saturating_f64_to_usize((label / slot).ceil()).max(1);
         for bin in first..end {
             let place = bin.saturating_sub(first);
@@ -252,7 +252,7 @@ fn add_cell(out: &mut String, cell: usize, strip: &Strip) -> Added {
     )
 }
 
-/// Where a cell begins, of a strip of `cells`.
+/// Returns the start of a cell in a strip of `cells` cells.
 fn cell_start(cell: usize, cells: usize) -> usize {
     let start = cell
         .saturating_mul(STRIP_WIDTH)
@@ -261,7 +261,7 @@ fn cell_start(cell: usize, cells: usize) -> usize {
     start.saturating_add(STRIP_LEFT)
 }
 
-/// A text between tags. Characters that XML can't have become others.
+/// Returns a text, escaped for XML. Replaces the characters that XML can't have.
 fn escaped(alloc: Global, text: &str) -> std::result::Result<String, AllocError> {
     let mut escaped = String::new(alloc);
     for character in text.chars() {

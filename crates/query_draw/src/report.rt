@@ -1,4 +1,4 @@
-//! What is printed without another option: the columns, which rows are kept, and a histogram.
+//! The default output: the columns, which rows are kept, and a histogram.
 use crate::histogram::Histogram;
 use crate::strip::Strip;
 use crate::texts::{pad, trim_end, width};
@@ -9,13 +9,13 @@ use query_where::Aggregate;
 use std::alloc::{AllocError, Global};
 use std::num::nearest_u64_to_f64;
 
-/// How many characters of a text a table shows.
+/// The number of characters of a text that a table shows.
 const CELL: usize = 24;
 
-/// How many characters the longest bar of a histogram has.
+/// The number of characters of a histogram's longest bar.
 const BAR: u64 = 48;
 
-/// How many cells a row of the table has.
+/// The number of cells in a row of the table.
 const CELLS: usize = 6;
 
 const HEAD: &[&str] = &["column", "type", "nulls", "least", "greatest", "sum"];
@@ -35,7 +35,7 @@ pub struct Row {
     pub fields: Vec<Vec<u8>>,
 }
 
-/// What a report is about.
+/// The subject of a report.
 #[derive(Clone, Copy)]
 pub struct Report<'a> {
     /// The memory for texts.
@@ -51,7 +51,7 @@ pub struct Report<'a> {
 }
 
 impl<'a> Report<'a> {
-    /// Returns the first line: the file, and what [`Report::counts`] returns.
+    /// Returns the first line: the file, and the text of [`Report::counts`].
     pub fn title(&self) -> Text {
         let alloc = self.alloc;
         let file = shown(alloc, self.table.path().as_bytes(), 200)?;
@@ -212,7 +212,7 @@ impl<'a> Report<'a> {
         Ok(line)
     }
 
-    /// How many characters the longest name has, as it is shown.
+    /// Returns the number of characters of the longest name, as it is shown.
     fn widest_name(&self) -> std::result::Result<usize, AllocError> {
         let mut widest = 0usize;
         for column in 0..self.table.width() {
@@ -257,7 +257,7 @@ fn add_cell(line: &mut String, column: usize, cell: &str, widest: usize) -> Adde
     Ok(())
 }
 
-/// The width of each column of a table.
+/// Returns the width of each column of a table.
 fn widths(alloc: Global, cells: &[String]) -> std::result::Result<Vec<usize>, AllocError> {
     let mut widths = Vec::from_elem(alloc, 0usize, CELLS)?;
     for (place, cell) in cells.iter().enumerate() {
@@ -268,7 +268,7 @@ fn widths(alloc: Global, cells: &[String]) -> std::result::Result<Vec<usize>, Al
     Ok(widths)
 }
 
-/// Where the name of a file begins in its path: behind the last slash.
+/// Returns the index of a file's name in its path, after the last slash.
 fn base_start(path: &[u8]) -> usize {
     let mut start = 0usize;
     for (place, byte) in path.iter().enumerate() {

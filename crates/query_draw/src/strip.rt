@@ -7,12 +7,12 @@ use vortex_buffer::BitBuffer;
 #[derive(Drop)]
 pub struct Strip {
     rows: u64,
-    /// How many rows of each cell are kept.
+    /// The number of kept rows in each cell.
     kept: Vec<u64>,
 }
 
 impl Strip {
-    /// Returns the strip of `rows` rows in at most `cells` cells, of which none is kept yet.
+    /// Returns the strip of `rows` rows in at most `cells` cells, without kept rows so far.
     pub fn new(alloc: Global, rows: u64, cells: u64) -> Result<Strip, AllocError> {
         let cells = rows.min(cells) as usize;
         Ok(Strip {
@@ -26,12 +26,12 @@ impl Strip {
         self.kept.len()
     }
 
-    /// Returns whether there is no cell, since there is no row.
+    /// Returns whether there are no cells, because there are no rows.
     pub fn is_empty(&self) -> bool {
         self.kept.is_empty()
     }
 
-    /// The first row of a cell, also of the one behind the last.
+    /// Returns the first row of a cell; for the cell after the last, the number of rows.
     fn start(&self, cell: usize) -> u64 {
         let before = u128::from(self.rows).wrapping_mul(cell as u128);
         let start = before.checked_div(self.kept.len() as u128).unwrap_or(0);
@@ -75,12 +75,13 @@ impl Strip {
     }
 }
 
-/// Where a row is in a batch of `len` rows behind `before` others: 0 before it, `len` behind it.
+/// Returns the index of a row in a batch of `len` rows after `before` others: 0 if the row is
+/// before the batch, `len` if it is after it.
 fn within(row: u64, before: u64, len: usize) -> usize {
     row.saturating_sub(before).min(len as u64) as usize
 }
 
-/// A dot where no row is kept, a full block where all are.
+/// Returns the character of a share: a dot if no row is kept, a full block if all are.
 fn shade(share: f64) -> char {
     if share == 0.0 {
         '·'

@@ -10,7 +10,7 @@ pub fn width(text: &str) -> usize {
     width
 }
 
-/// Adds spaces up to `width` characters, in place of which a text has `given`.
+/// Adds the spaces that a text of `given` characters lacks for `width` characters.
 pub fn pad(out: &mut String, given: usize, width: usize) -> Result<(), AllocError> {
     for _ in given..width {
         out.push(' ')?;
@@ -18,8 +18,8 @@ pub fn pad(out: &mut String, given: usize, width: usize) -> Result<(), AllocErro
     Ok(())
 }
 
-/// Returns the beginning of a text that is about as wide as `most` letters; the last character of a
-/// longer text becomes dots. Characters of East Asia are as wide as two letters.
+/// Returns the beginning of a text, at most about `most` letters wide. If the text is wider, the
+/// last character becomes dots. Characters of East Asia count as two letters.
 pub fn fitted(alloc: Global, text: &str, most: usize) -> Result<String, AllocError> {
     let mut fitted = String::new(alloc);
     let mut left = most;

@@ -9,14 +9,14 @@ use std::alloc::Global;
 pub struct Batch<'a> {
     /// The rows as texts.
     pub rows: &'a Rows,
-    /// How many rows are before these.
+    /// The number of rows before these.
     pub before: u64,
     alloc: Global,
     columns: Vec<Option<Column>>,
 }
 
 impl<'a> Batch<'a> {
-    /// Reads the columns of rows that `uses` says.
+    /// Reads the columns of rows that `uses` marks.
     ///
     /// Fails if a field isn't of its column's type, since the file has changed.
     pub fn read(
@@ -45,7 +45,7 @@ impl<'a> Batch<'a> {
         })
     }
 
-    /// Returns a column that the filter or an output uses; a failure if none of them said so.
+    /// Returns a column that the filter or an output uses; a failure if none has marked it.
     pub fn column(&self, place: usize) -> Result<&Column> {
         match self.columns.get(place) {
             Some(Some(column)) => Ok(column),

@@ -8,8 +8,8 @@ use vortex_buffer::{BitBuffer, Buffer};
 /// A column of a batch. An empty field is a null.
 #[derive(Drop)]
 pub struct Column {
-    /// A number for each row, in the order of the values: a whole number itself, for a float its
-    /// [`ordered`]; None of texts. At nulls it is 0.
+    /// A number for each row; the numbers have the same order as the values. It is a whole number
+    /// itself, the [`ordered`] number of a float, and 0 for a null. None if the column has texts.
     keys: Option<Buffer<i64>>,
     /// The floats, with 0 at nulls; none if the column has other values.
     floats: Vec<f64>,
@@ -51,7 +51,8 @@ impl Column {
         }
     }
 
-    /// Returns a number for each row, in the order of the values; None of texts.
+    /// Returns a number for each row; the numbers have the same order as the values. Returns None
+    /// if the column has texts.
     pub fn keys(&self) -> Option<&Buffer<i64>> {
         self.keys.as_ref()
     }

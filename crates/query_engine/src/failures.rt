@@ -3,7 +3,7 @@ use query_csv::{Failure, Result, told};
 use std::alloc::Global;
 use vortex_buffer::{BitBuffer, BufferError};
 
-/// Returns what a call of the library made, or its failure.
+/// Returns the result of a call of the library, or its failure.
 pub fn made<T>(alloc: Global, made: vortex_buffer::Result<T>) -> Result<T> {
     match made {
         Ok(made) => Ok(made),

@@ -23,9 +23,9 @@ pub enum Test {
     Always(usize, bool),
     /// A column that is null.
     IsNull(usize),
-    /// What isn't so.
+    /// The negation of the last truth value.
     Not,
-    /// Two that are joined.
+    /// The last two truth values, joined.
     Join(Joint),
 }
 
@@ -37,7 +37,7 @@ pub struct RowFilter {
 }
 
 impl RowFilter {
-    /// Returns what a condition means for the columns of a table. `source` has its text.
+    /// Returns a condition for the columns of a table. `source` has its text.
     ///
     /// Fails at a name that isn't a column's, and where a comparison's sides are of types that
     /// don't compare.
@@ -71,8 +71,7 @@ impl RowFilter {
         }
     }
 
-    /// Returns which rows the condition keeps: those for which it is true, and neither false nor
-    /// null.
+    /// Returns the rows for which the condition is true, neither false nor null.
     pub fn kept(&self, alloc: Global, batch: &Batch<'_>) -> Result<BitBuffer> {
         let mut truths = Vec::new(alloc);
         for test in self.tests.iter() {
@@ -106,7 +105,7 @@ fn lacking(alloc: Global) -> Failure {
 }
 
 impl Test {
-    /// The columns that are compared.
+    /// Returns the columns that are compared.
     fn columns(&self) -> (Option<usize>, Option<usize>) {
         match self {
             Test::Number(column, _, _)
@@ -118,7 +117,7 @@ impl Test {
         }
     }
 
-    /// The truth values of the step, whose operands are the last ones of `truths`.
+    /// Returns the truth values of the step. Removes its operands, the last ones, from `truths`.
     fn applied(&self, alloc: Global, batch: &Batch<'_>, truths: &mut Vec<Truth>) -> Result<Truth> {
         match self {
             Test::Not => popped(alloc, truths)?.not(alloc),
@@ -137,7 +136,8 @@ impl Test {
         }
     }
 
-    /// Which rows of a column compare so with a number or a text, whatever a null has there.
+    /// Returns which rows of a column pass the comparison with a number or a text. The bits of null
+    /// rows are arbitrary.
     fn compared(&self, alloc: Global, batch: &Batch<'_>) -> Result<BitBuffer> {
         match self {
             Test::Number(column, comparison, key) => {
@@ -154,7 +154,7 @@ impl Test {
     }
 }
 
-/// Truth values that are null where the column is.
+/// Returns truth values that are null where the column is.
 fn valid_where(alloc: Global, trues: BitBuffer, column: &Column) -> Result<Truth> {
     match column.valid().clone() {
         Ok(valid) => Ok(Truth { trues, valid }),
@@ -200,7 +200,7 @@ fn texts(
     packed(alloc, bools)
 }
 
-/// How two columns compare: null where one of them is.
+/// Returns the comparison of two columns: null where one of them is.
 fn two(
     alloc: Global,
     batch: &Batch<'_>,
@@ -226,7 +226,7 @@ fn two(
     }
 }
 
-/// How two columns of one type of numbers compare.
+/// Returns the comparison of two columns of the same type of numbers.
 fn alike(
     alloc: Global,
     left: &Buffer<i64>,
@@ -240,7 +240,7 @@ fn alike(
     )
 }
 
-/// How whole numbers compare with floats.
+/// Returns the comparison of whole numbers with floats.
 fn mixed(
     alloc: Global,
     wholes: &Buffer<i64>,

@@ -1,7 +1,7 @@
-//! The second pass over a file: which rows of a batch a condition keeps, and what is made of them.
+//! The second pass over a file: the rows of a batch that a condition selects, and their aggregates.
 //!
-//! A [`Batch`] holds the columns that are used. A [`RowFilter`] makes a bitmap of it: each
-//! comparison is one, and `and`, `or` and `not` join bitmaps by SQL's three-valued logic. A
+//! A [`Batch`] holds the columns that are used. A [`RowFilter`] returns a bitmap of its rows: each
+//! comparison is a bitmap, and `and`, `or` and `not` join bitmaps by SQL's three-valued logic. A
 //! [`Summary`] takes the batch and the bitmap.
 #![tactic(auto)]
 

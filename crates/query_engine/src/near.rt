@@ -4,10 +4,10 @@ use std::cmp::Ordering;
 use std::num::{nearest_i64_to_f64, saturating_f64_to_i64};
 use vortex_buffer::Comparison;
 
-/// Where a number is among the values of a type.
+/// The position of a number next to a value of a type.
 #[derive(Clone, Copy, PartialEq, Eq)]
 pub enum Side {
-    /// It is the value that is beside it.
+    /// It equals that value.
     At,
     /// It is above that value, and below the next one.
     Above,
@@ -15,16 +15,17 @@ pub enum Side {
     Below,
 }
 
-/// What a comparison with a number is among values of another type.
+/// The comparison of values of one type that has the same result as a comparison with a number of
+/// another type.
 #[derive(Clone, Copy, PartialEq, Eq)]
 pub enum Meaning {
-    /// A comparison with the value that is beside it.
+    /// A comparison with the value next to the number.
     Compare(Comparison),
     /// The same truth value for each.
     Always(bool),
 }
 
-/// Returns the whole number beside a finite float, and on which side the float is.
+/// Returns a whole number next to a finite float, and the side of it on which the float is.
 pub fn among_wholes(number: f64) -> (i64, Side) {
     let floor = saturating_f64_to_i64(number.floor());
     match compare(floor, number) {
@@ -34,7 +35,7 @@ pub fn among_wholes(number: f64) -> (i64, Side) {
     }
 }
 
-/// Returns the float beside a whole number, and on which side the whole number is.
+/// Returns the float nearest to a whole number, and the side of it on which the whole number is.
 pub fn among_floats(number: i64) -> (f64, Side) {
     let nearest = nearest_i64_to_f64(number);
     match compare(number, nearest) {
@@ -45,7 +46,8 @@ pub fn among_floats(number: i64) -> (f64, Side) {
 }
 
 impl Side {
-    /// Returns what a comparison of values with a number on this side of one means among values.
+    /// Returns the comparison of values with the neighboring value that has the same result as
+    /// `comparison` with a number on this side of it.
     pub fn meaning(self, comparison: Comparison) -> Meaning {
         match (self, comparison) {
             (Side::At, _) => Meaning::Compare(comparison),

@@ -1,4 +1,4 @@
-//! What a condition means for the columns of a table.
+//! Resolves the names of a condition to the columns of a table.
 use crate::filter::Test;
 use crate::near::{Meaning, among_floats, among_wholes};
 use crate::truth::{Joint, swapped};
@@ -18,7 +18,7 @@ pub struct Resolver<'a> {
 }
 
 impl<'a> Resolver<'a> {
-    /// Returns what a step means.
+    /// Returns the test of a step.
     ///
     /// Fails at a name that isn't a column's, and where a comparison's sides are of types that
     /// don't compare.

@@ -1,5 +1,4 @@
-//! What is answered about the rows that are kept: counts, sums, means, the least and the
-//! greatest.
+//! Answers about the kept rows: counts, sums, means, minima and maxima.
 use crate::batch::Batch;
 use crate::column::Column;
 use crate::failures::made;
@@ -10,7 +9,7 @@ use query_where::Aggregate;
 use std::alloc::{AllocError, Global};
 use vortex_buffer::{BitBuffer, Buffer, Filter};
 
-/// What is answered about one column, of the rows that are kept and not null there.
+/// The answers about one column, over the kept rows that are not null there.
 #[derive(Drop)]
 pub struct Summary {
     column: usize,
@@ -45,7 +44,8 @@ impl Summary {
         self.count
     }
 
-    /// Returns one answer as text: empty if there is no value, and for a sum or a mean of texts.
+    /// Returns one answer as text. It is empty for a sum or a mean of texts, and, except for a
+    /// count, if there is no value.
     pub fn answer(
         &self,
         alloc: Global,
@@ -116,7 +116,7 @@ impl Summary {
         }
     }
 
-    /// Returns the range of the values; None if there is none, and of texts.
+    /// Returns the range of the values; None if there are none or they are texts.
     pub fn range(&self, alloc: Global) -> std::result::Result<Option<Range>, AllocError> {
         if let Some(wholes) = self.wholes {
             return Ok(Some(wholes.range(alloc, self.count)?));
@@ -162,7 +162,7 @@ impl Summary {
         Ok(())
     }
 
-    /// Adds the floats of a batch, which are first added by themselves.
+    /// Sums the floats of a batch separately, and adds that sum to the total.
     fn add_floats(&mut self, numbers: &[f64], mask: &BitBuffer) {
         let mut total = None;
         for row in mask.set_indices() {
@@ -220,7 +220,7 @@ fn bytes(
     Ok(text?.into_bytes())
 }
 
-/// A float in the fewest digits from which it is read back, with a point or an exponent.
+/// Returns a float in the fewest digits that parse to the same float, with a point or an exponent.
 fn float_text(alloc: Global, number: f64) -> std::result::Result<Vec<u8>, AllocError> {
     bytes(format!(in alloc; "{number:?}"))
 }

@@ -1,4 +1,4 @@
-//! The values of a column, taken together.
+//! Totals of a column's values.
 use query_table::Range;
 use std::alloc::{AllocError, Global};
 use std::num::nearest_u64_to_f64;
@@ -76,7 +76,7 @@ impl Floats {
         }
     }
 
-    /// Returns both as one.
+    /// Returns the total of both.
     pub fn joined(self, other: Floats) -> Floats {
         Floats {
             least: least(self.least, other.least),
@@ -133,10 +133,10 @@ impl Sum {
         }
     }
 
-    /// Returns both as one.
+    /// Returns the sum of both.
     pub fn joined(self, other: Sum) -> Sum {
         let joined = self.plus(other.high);
-        // What an infinite sum has lost isn't a number.
+        // The rounding error of an infinite sum is NaN.
         if other.high.is_finite() {
             joined.plus(other.low)
         } else {

@@ -8,7 +8,7 @@ use vortex_buffer::{BitBuffer, Comparison, try_and_kleene, try_or_kleene};
 /// A truth value per row, by SQL's three-valued logic.
 #[derive(Drop)]
 pub struct Truth {
-    /// Which rows are true; what a null has here counts for nothing.
+    /// Which rows are true. The bits of null rows are arbitrary.
     pub trues: BitBuffer,
     /// Which rows aren't null.
     pub valid: BitBuffer,

@@ -7,7 +7,7 @@ use std::io::Read;
 /// The most rows of a batch.
 const BATCH: usize = 65_536;
 
-/// A batch ends with the row that brings it to so many bytes or fields.
+/// A batch ends with the row that brings it to this number of bytes or fields.
 const BATCH_BYTES: usize = 8_388_608;
 
 const BATCH_FIELDS: usize = 1_048_576;
@@ -20,7 +20,7 @@ pub struct Batches<F: Read + Drop> {
 }
 
 impl<F: Read + Drop> Batches<F> {
-    /// Returns the rows that a reader reads, each as wide as `rows` says.
+    /// Returns the batches of a reader, whose rows have the width of `rows`.
     pub fn new(reader: Reader<F>, rows: Rows) -> Batches<F> {
         Batches { reader, rows }
     }
@@ -30,8 +30,8 @@ impl<F: Read + Drop> Batches<F> {
         &self.rows
     }
 
-    /// Reads the next batch of a table's rows. Returns whether there is one. A line without a byte
-    /// is skipped, but for a table of one column, where it is a null.
+    /// Reads the next batch of a table's rows. Returns whether there is one. Skips empty lines; in
+    /// a table of one column they are nulls instead.
     ///
     /// Fails if the file can't be read, isn't CSV, or a row has another number of fields than the
     /// first one.

@@ -2,7 +2,7 @@
 use query_csv::{Failure, Result, Rows, Source, shown};
 use std::alloc::{AllocError, Global};
 
-/// The names of `width` columns, by the fields of the first row.
+/// Returns the names of `width` columns, from the fields of the first row.
 pub fn names(
     alloc: Global,
     first: &Rows,
@@ -22,7 +22,7 @@ pub fn names(
     Ok(names)
 }
 
-/// The index of the column of a name, as `Table::find` says.
+/// Returns the index of the column with a name, as `Table::find` does.
 pub fn find(
     alloc: Global,
     names: &[String],
@@ -49,7 +49,7 @@ pub fn find(
     Err(failure)
 }
 
-/// How many names are one that is looked for, and the first two of them.
+/// The number of names that match, and the first two of them.
 #[derive(Clone, Copy)]
 struct Found {
     count: usize,
@@ -81,7 +81,7 @@ impl Found {
     }
 }
 
-/// The message of a name that no column has.
+/// Returns the message about a name that no column has.
 fn no_column(
     alloc: Global,
     names: &[String],
@@ -94,7 +94,7 @@ fn no_column(
     message
 }
 
-/// The message of a name that several columns have.
+/// Returns the message about a name that several columns have.
 fn several(alloc: Global, name: &str, found: Found) -> std::result::Result<String, AllocError> {
     let shown = shown(alloc, name.as_bytes(), 40)?;
     let (first, second) = (
@@ -114,7 +114,7 @@ fn several(alloc: Global, name: &str, found: Found) -> std::result::Result<Strin
 /// The most names that an error lists.
 const LISTED: usize = 12;
 
-/// The names as an error lists them, the first of many.
+/// Returns the names for an error; only the first if there are many.
 pub fn listed(alloc: Global, names: &[String]) -> std::result::Result<String, AllocError> {
     let mut list = String::new(alloc);
     for (place, name) in names.iter().enumerate() {

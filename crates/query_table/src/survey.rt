@@ -36,7 +36,7 @@ impl Kind {
         }
     }
 
-    /// What a field of this type has to be.
+    /// Returns the description of a field of this type, for an error.
     fn wanted(self) -> &'static str {
         match self {
             Kind::Whole => "a whole number of 64 bits",
@@ -45,7 +45,7 @@ impl Kind {
         }
     }
 
-    /// Whether a field that isn't empty is of this type.
+    /// Returns whether a field that isn't empty is of this type.
     fn has(self, field: &[u8]) -> bool {
         match self {
             Kind::Whole => whole(field).is_some(),
@@ -83,11 +83,11 @@ pub enum Range {
 pub struct Column {
     /// Its type.
     pub kind: Kind,
-    /// The range of its numbers; None of texts, and where all fields are empty.
+    /// The range of its numbers; None if it has texts, or if all fields are empty.
     pub range: Option<Range>,
 }
 
-/// What the first pass found.
+/// The results of the first pass.
 #[derive(Drop)]
 pub struct Survey {
     /// The number of rows.
@@ -121,7 +121,7 @@ impl Survey {
         Ok(Survey { rows, columns })
     }
 
-    /// Returns the type of a column; text where there is none.
+    /// Returns the type of a column; text if there is no such column.
     pub fn kind(&self, column: usize) -> Kind {
         match self.columns.get(column) {
             Some(column) => column.kind,
@@ -129,7 +129,7 @@ impl Survey {
         }
     }
 
-    /// Returns the range of a column's numbers, if it has some.
+    /// Returns the range of a column's numbers, if it has any.
     pub fn range(&self, column: usize) -> Option<Range> {
         match self.columns.get(column) {
             Some(column) => column.range,
@@ -148,7 +148,7 @@ impl Survey {
     }
 }
 
-/// Reads the file, and adds what each column has. Returns the number of rows.
+/// Reads the file, and adds the fields of each column. Returns the number of rows.
 fn read_all<R: Files + AllocGlobal>(rt: &R, table: &Table, seen: &mut Vec<Seen>) -> Result<u64> {
     let mut rows = 0u64;
     let mut batches = table.batches(rt)?;
@@ -175,16 +175,16 @@ fn add_batch(alloc: Global, table: &Table, rows: &Rows, seen: &mut Vec<Seen>) ->
     Ok(())
 }
 
-/// What the fields of a column have been so far.
+/// The properties of a column's fields so far.
 #[derive(Clone, Copy)]
 struct Seen {
     /// The type that the user gave.
     given: Option<Kind>,
-    /// Whether some field is no number.
+    /// Whether any field isn't a number.
     texts: bool,
-    /// Whether some field is a number that isn't whole.
+    /// Whether any field is a number that isn't whole.
     floats: bool,
-    /// Whether some field is a whole number beyond 64 bits.
+    /// Whether any field is a whole number beyond 64 bits.
     beyond: bool,
     whole: Option<(i64, i64)>,
     float: Option<(f64, f64)>,
@@ -247,8 +247,9 @@ impl Seen {
         }
     }
 
-    /// A column without a number is text, and so is one of whole numbers that don't fit 64 bits:
-    /// floats would lose digits of these.
+    /// Returns the type that the user gave, or else that of the fields. It is text if a field isn't
+    /// a number, if there is no number, or if all numbers are whole and one doesn't fit in 64 bits:
+    /// a float would lose its digits.
     fn kind(&self) -> Kind {
         if let Some(kind) = self.given {
             return kind;
@@ -283,7 +284,7 @@ fn whole_range(whole: Option<(i64, i64)>, mean: f64) -> Option<Range> {
     })
 }
 
-/// The range of floats, of which some may be whole numbers.
+/// Returns the range of floats, some of which may be whole numbers.
 fn float_range(float: Option<(f64, f64)>, whole: Option<(i64, i64)>, mean: f64) -> Option<Range> {
     let wholes = match whole {
         Some((least, greatest)) => {

@@ -13,12 +13,12 @@ pub struct Format {
     pub dialect: Dialect,
     /// Whether the first row has the names of the columns.
     pub has_header: bool,
-    /// Whether rows may lack fields at their end, which are null then.
+    /// Whether rows may lack fields at their end. These are then null.
     pub has_short_rows: bool,
 }
 
 impl Format {
-    /// Returns the format of commas, double quotes and a header line.
+    /// Returns the format with commas, double quotes and a header line.
     pub fn commas() -> Format {
         Format {
             dialect: Dialect {
@@ -44,9 +44,9 @@ pub struct Table {
 
 impl Table {
     /// Returns the table of a file, whose first row has the names of the columns. Without a header
-    /// line, and where a name is empty, they are called c1, c2 and so on. Without a header line,
-    /// and if rows may be short, there is a column for each field of the longest row; the file is
-    /// then read for it.
+    /// line, or if a name is empty, a column is called c1, c2 and so on. Without a header line and
+    /// if rows may be short, there is a column for each field of the longest row, and the call
+    /// reads the whole file.
     ///
     /// Fails if the file isn't a regular one, can't be read, is empty, or begins with no row of
     /// CSV.
@@ -91,7 +91,7 @@ impl Table {
         Ok(())
     }
 
-    /// Reads the file once. Returns the number of fields of the row that has most.
+    /// Reads the file once. Returns the greatest number of fields in a row.
     fn widest<R: Files + AllocGlobal>(&self, rt: &R) -> Result<usize> {
         let mut reader = self.reader(rt)?;
         let mut rows = Rows::new(self.alloc, 0)?;
@@ -133,7 +133,7 @@ impl Table {
         self.names.len()
     }
 
-    /// Returns the name of a column; no character where there is none.
+    /// Returns the name of a column; an empty text if there is no such column.
     pub fn name(&self, column: usize) -> &str {
         match self.names.get(column) {
             Some(name) => name.as_str(),
@@ -146,16 +146,16 @@ impl Table {
         self.first.nth_field(column)
     }
 
-    /// Returns the index of a column. Names are compared as they are; if none is equal, without
-    /// regard to the case of ASCII letters, as in SQL.
+    /// Returns the index of a column. Compares names exactly; if none is equal, ignores the case of
+    /// ASCII letters, as SQL does.
     ///
-    /// Fails if no column has the name, or several have it; the text, of which the name is at byte
-    /// `at`, is in the error.
+    /// Fails if no column has the name, or several have it. The error has the text of `source`,
+    /// with the name at byte `at`.
     pub fn find(&self, name: &str, source: Source<'_>, at: usize) -> Result<usize> {
         find(self.alloc, self.names.as_slice(), name, source, at)
     }
 
-    /// Returns the names as an error lists them, the first of many.
+    /// Returns the names for an error; only the first if there are many.
     pub fn listed(&self) -> std::result::Result<String, AllocError> {
         listed(self.alloc, self.names.as_slice())
     }
@@ -182,7 +182,7 @@ impl Table {
         }
     }
 
-    /// Returns what was read, or the failure that the user is told.
+    /// Returns the result of a read, or its failure for the user.
     pub fn checked(&self, read: std::result::Result<bool, CsvError>) -> Result<bool> {
         match read {
             Ok(has_row) => Ok(has_row),
@@ -225,7 +225,7 @@ impl Table {
         text
     }
 
-    /// How an error names the column of a field.
+    /// Returns the name of a field's column for an error.
     fn column_of(&self, field: usize) -> std::result::Result<String, AllocError> {
         match self.names.get(field) {
             Some(name) => {
@@ -241,7 +241,7 @@ impl Table {
 
 const NOT_REGULAR: &str = "not a regular file; it is read twice, so save the data to a file first";
 
-/// Returns the failure of a file, with what the system says.
+/// Returns the failure of a file, with the system's message.
 pub fn file_failure(alloc: Global, path: &str, error: &io::Error) -> Failure {
     told(format!(in alloc; "{path}: {error}"))
 }

@@ -16,11 +16,11 @@ pub enum Step {
     Compare(Operand, Sign, Operand),
     /// A column that is null.
     IsNull(Name),
-    /// What isn't so.
+    /// The negation of the last truth value.
     Not,
-    /// Both of two.
+    /// The conjunction of the last two truth values.
     And,
-    /// One of two, or both.
+    /// The disjunction of the last two truth values.
     Or,
 }
 

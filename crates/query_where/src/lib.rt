@@ -1,8 +1,8 @@
 //! Conditions and lists of answers or columns, read from the command line.
 //!
-//! [`parse_condition`] reads what `--where` keeps as steps in the order in which they are computed,
-//! [`selection`] what `--select` answers, and [`column_names`] what `--columns` names. Columns are
-//! still names here.
+//! [`parse_condition`] parses the condition of `--where` into steps in the order in which they are
+//! computed, [`selection`] the answers of `--select`, and [`column_names`] the names of
+//! `--columns`. Columns are still names here.
 #![tactic(auto)]
 
 mod condition;

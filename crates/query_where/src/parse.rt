@@ -1,18 +1,18 @@
 //! A condition, read from its words.
 //!
-//! Words that join conditions wait until their right side is read, as in Dijkstra's shunting yard:
-//! no function calls itself, and the stack doesn't grow with the condition.
+//! The parser keeps words that join conditions until it has read their right side, as in Dijkstra's
+//! shunting yard. So no function is recursive, and the call stack doesn't grow with the condition.
 use crate::condition::{Condition, Step};
 use crate::words::Words;
 use query_csv::{Result, Source};
 use std::alloc::Global;
 
-/// How deep parentheses and `not` may be nested.
+/// The greatest nesting depth of parentheses and `not`.
 const DEEPEST: usize = 200;
 
 /// Returns the condition of a text.
 ///
-/// Fails at the first word that isn't wanted where it is.
+/// Fails at the first unexpected word.
 pub fn parse_condition(alloc: Global, source: Source<'_>) -> Result<Condition> {
     let mut parser = Conditions::new(alloc, source)?;
     let mut next = Next::Condition;
@@ -33,7 +33,7 @@ pub fn parse_condition(alloc: Global, source: Source<'_>) -> Result<Condition> {
     Ok(Condition { steps })
 }
 
-/// What is read next.
+/// The kind of word that is expected next.
 #[derive(Clone, Copy, PartialEq, Eq)]
 enum Next {
     /// A condition, or a part of one.
@@ -58,7 +58,7 @@ struct Conditions<'a> {
     words: Words<'a>,
     steps: Vec<Step>,
     waiting: Vec<Waiting>,
-    /// How many parentheses and `not` are waiting.
+    /// The number of parentheses and `not` that are waiting.
     depth: usize,
 }
 
@@ -107,7 +107,7 @@ impl<'a> Conditions<'a> {
         Ok(Next::Joint)
     }
 
-    /// Reads what follows a condition.
+    /// Reads the word after a condition.
     fn join(&mut self) -> Result<Next> {
         if self.words.keyword("and") {
             self.joined(false)?;
@@ -143,8 +143,8 @@ impl<'a> Conditions<'a> {
         )
     }
 
-    /// Joins the conditions before the last one to it, by the words `and` that wait behind the last
-    /// opening parenthesis; by those words `or` too, if `all`.
+    /// Adds the steps of the last waiting words, as long as they are `and`; if `all` is true, also
+    /// those of `or`.
     fn joined(&mut self, all: bool) -> Result<()> {
         for _ in 0..self.waiting.len() {
             let step = match self.waiting.last() {

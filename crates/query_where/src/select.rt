@@ -13,7 +13,7 @@ pub enum Answer {
     Of(Aggregate, Name),
 }
 
-/// What is answered about a column, of the rows where it isn't null.
+/// An answer about a column, over the rows in which it isn't null.
 #[derive(Clone, Copy, PartialEq, Eq)]
 pub enum Aggregate {
     /// The number of values.
@@ -37,7 +37,7 @@ const AGGREGATES: &[(&str, Aggregate)] = &[
 ];
 
 impl Aggregate {
-    /// Returns the aggregate of a name, in any case of its letters.
+    /// Returns the aggregate with a name, in upper or lower case.
     pub fn named(name: &str) -> Option<Aggregate> {
         for (own, aggregate) in AGGREGATES {
             if own.eq_ignore_ascii_case(name) {
@@ -73,7 +73,7 @@ impl Answer {
 
 /// Returns the answers of a list, such as `count(*), sum(size)`.
 ///
-/// Fails at the first word that isn't wanted where it is.
+/// Fails at the first unexpected word.
 pub fn selection(alloc: Global, source: Source<'_>) -> Result<Vec<Answer>> {
     let mut words = Words::new(alloc, source)?;
     let mut answers = Vec::new(alloc);
@@ -93,7 +93,7 @@ pub fn selection(alloc: Global, source: Source<'_>) -> Result<Vec<Answer>> {
 
 /// Returns the names of a list of columns, such as `size, "the note"`.
 ///
-/// Fails at the first word that isn't wanted where it is.
+/// Fails at the first unexpected word.
 pub fn column_names(alloc: Global, source: Source<'_>) -> Result<Vec<Name>> {
     let mut words = Words::new(alloc, source)?;
     let mut names = Vec::new(alloc);

@@ -4,7 +4,7 @@ use query_csv::{Failure, Source};
 use std::alloc::{AllocError, Global};
 use std::test::Fail;
 
-/// The steps of a condition, a character for each.
+/// Returns the steps of a condition, as a character for each.
 fn described(alloc: Global, condition: &Condition) -> Result<String, AllocError> {
     let mut steps = String::new(alloc);
     for step in condition.steps.iter() {
@@ -19,7 +19,7 @@ fn described(alloc: Global, condition: &Condition) -> Result<String, AllocError>
     Ok(steps)
 }
 
-/// The steps of a text, or what the user is told; None if memory runs out.
+/// Returns the steps of a text, or the error for the user; None if memory runs out.
 fn told(alloc: Global, text: &str) -> Option<String> {
     let source = Source { option: "w", text };
     match parse_condition(alloc, source) {
@@ -33,7 +33,7 @@ fn told(alloc: Global, text: &str) -> Option<String> {
     }
 }
 
-/// Conditions, with their steps or what the user is told.
+/// Conditions, with their steps or the error for the user.
 const CONDITIONS: &[(&str, &str)] = &[
     ("a = 1", "c"),
     ("a = 1 or b = 2 and c = 3", "ccc&|"),

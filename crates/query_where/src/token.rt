@@ -40,7 +40,7 @@ pub enum Word {
 }
 
 impl Word {
-    /// Returns whether the word is a keyword, in any case of its letters.
+    /// Returns whether the word is a keyword, in upper or lower case.
     pub fn is(&self, keyword: &str) -> bool {
         match self {
             Word::Plain(word) => word.as_str().eq_ignore_ascii_case(keyword),
@@ -54,10 +54,10 @@ impl Word {
     }
 }
 
-/// Returns the words of a text; the last one is its end, behind the last character that isn't a
+/// Returns the words of a text. The last word is `End`, after the last character that isn't a
 /// space.
 ///
-/// Fails at the first character that begins no word, and at a quote that isn't closed.
+/// Fails at the first character that begins no word, and at an unclosed quote.
 pub fn tokens(alloc: Global, source: Source<'_>) -> Result<Vec<Token>> {
     let mut reader = Letters::new(alloc, source)?;
     let mut tokens = Vec::new(alloc);
@@ -80,7 +80,7 @@ struct Letters<'a> {
     source: Source<'a>,
     /// The characters, each with the byte where it begins.
     characters: Vec<(usize, char)>,
-    /// How many characters are read.
+    /// The number of characters that are read.
     read: usize,
     /// The byte behind the last character that isn't a space.
     end: usize,
@@ -105,7 +105,7 @@ impl<'a> Letters<'a> {
         })
     }
 
-    /// The character that is so many behind the next one.
+    /// Returns the character `ahead` positions after the next one.
     fn peek(&self, ahead: usize) -> Option<char> {
         let (_, character) = self.characters.get(self.read.saturating_add(ahead))?;
         Some(*character)
@@ -115,7 +115,7 @@ impl<'a> Letters<'a> {
         self.read = self.read.saturating_add(count);
     }
 
-    /// Where the next character begins.
+    /// Returns the byte at which the next character begins.
     fn at(&self) -> usize {
         match self.characters.get(self.read) {
             Some((place, _)) => *place,
@@ -123,7 +123,7 @@ impl<'a> Letters<'a> {
         }
     }
 
-    /// The characters that aren't read.
+    /// Returns the characters that aren't read.
     fn rest(&self) -> &[(usize, char)] {
         self.characters.as_slice().get(self.read..).unwrap_or(&[])
     }
@@ -176,7 +176,7 @@ impl<'a> Letters<'a> {
         Ok(Word::Plain(name))
     }
 
-    /// Reads a name or a text between quotes, of which two are one within.
+    /// Reads a name or a text between quotes. Two quotes inside it are one.
     fn quoted(&mut self, at: usize, quote: char) -> Result<Word> {
         let mut content = String::new(self.alloc);
         self.skip(1);
@@ -215,7 +215,7 @@ impl<'a> Letters<'a> {
         }
     }
 
-    /// The error of a number of which `count` characters are read.
+    /// Returns the error of a malformed number, of which `count` characters are read.
     fn no_number(&mut self, at: usize, count: usize) -> Result<Word> {
         self.read = self.read.saturating_sub(count);
         let hint = if self.is_dashed_name() {
@@ -230,7 +230,7 @@ impl<'a> Letters<'a> {
         Err(self.wrong(at, message?))
     }
 
-    /// Whether a minus is next, and a character of a name behind it.
+    /// Returns whether a minus is next, with a character of a name after it.
     fn is_dashed_name(&self) -> bool {
         match (self.peek(0), self.peek(1)) {
             (Some('-'), Some(character)) => is_of_name(character),
@@ -238,7 +238,7 @@ impl<'a> Letters<'a> {
         }
     }
 
-    /// Takes the next characters.
+    /// Removes the next characters, and returns them.
     fn take(&mut self, count: usize) -> std::result::Result<String, AllocError> {
         let mut text = String::new(self.alloc);
         for (_, character) in self.rest().get(..count).unwrap_or(&[]) {
@@ -255,8 +255,8 @@ impl<'a> Letters<'a> {
     }
 }
 
-/// The comparison of a sign that begins with these characters, and how many belong to it: of two
-/// signs that begin alike the longer one.
+/// Returns the comparison whose sign begins with these characters, and the length of the sign. If
+/// two signs match, it is the longer one.
 fn compared_by(first: char, second: Option<char>) -> Option<(Sign, usize)> {
     match (first, second) {
         ('<', Some('=')) => Some((Sign::LessOrEqual, 2)),
@@ -289,7 +289,7 @@ fn is_of_name(character: char) -> bool {
     character.is_alphanumeric() || character == '_'
 }
 
-/// How many characters of a name are at the beginning.
+/// Returns the number of characters of a name at the beginning.
 fn names(characters: &[(usize, char)]) -> usize {
     let mut count = 0usize;
     for (_, character) in characters {
@@ -301,7 +301,7 @@ fn names(characters: &[(usize, char)]) -> usize {
     count
 }
 
-/// How many spaces are at the beginning.
+/// Returns the number of spaces at the beginning.
 fn spaces(characters: &[(usize, char)]) -> usize {
     let mut count = 0usize;
     for (_, character) in characters {
@@ -313,7 +313,7 @@ fn spaces(characters: &[(usize, char)]) -> usize {
     count
 }
 
-/// How many characters are before the first space.
+/// Returns the number of characters before the first space.
 fn inks(characters: &[(usize, char)]) -> usize {
     let mut count = 0usize;
     for (_, character) in characters {
@@ -325,7 +325,7 @@ fn inks(characters: &[(usize, char)]) -> usize {
     count
 }
 
-/// How many characters belong to a number: a sign counts in front and behind an `e`.
+/// Returns the number of characters of a number. A sign may be at its front and after an `e`.
 fn number_length(characters: &[(usize, char)]) -> usize {
     let mut count = 0usize;
     let mut may_sign = true;

@@ -1,10 +1,10 @@
-//! The words of a text, taken one by one.
+//! The words of a text, read one by one.
 use crate::condition::{Literal, Name, Operand, Sign, Step};
 use crate::token::{Token, Word, tokens};
 use query_csv::{Failure, Result, Source};
 use std::alloc::Global;
 
-/// Words that are no column names unless they are quoted.
+/// Words that must be quoted to be column names.
 const KEYWORDS: &[&str] = &["and", "or", "not", "is", "null"];
 
 const TOO_DEEP: &str = "a condition is nested at most 200 deep";
@@ -37,7 +37,7 @@ impl<'a> Words<'a> {
         })
     }
 
-    /// The byte where the next word begins.
+    /// Returns the byte at which the next word begins.
     pub fn at(&self) -> usize {
         match self.left.last() {
             Some(token) => token.at,
@@ -45,7 +45,7 @@ impl<'a> Words<'a> {
         }
     }
 
-    /// The next word; None behind the end.
+    /// Returns the next word; None after the end.
     fn peek(&self) -> Option<&Word> {
         match self.left.last() {
             Some(token) => Some(&token.word),
@@ -53,7 +53,7 @@ impl<'a> Words<'a> {
         }
     }
 
-    /// Whether the next word is this keyword.
+    /// Returns whether the next word is this keyword.
     fn is_next(&self, keyword: &str) -> bool {
         match self.peek() {
             Some(word) => word.is(keyword),
@@ -178,7 +178,8 @@ impl<'a> Words<'a> {
         Ok(())
     }
 
-    /// Reads a list of operands, one of which a column equals; none of them after `not`.
+    /// Reads `in` or `not in` with its operands, and adds the steps that test whether a column
+    /// equals one of them, or none of them.
     fn among(&mut self, name: Name, steps: &mut Vec<Step>) -> Result<()> {
         let is_negated = self.keyword("not");
         if !self.keyword("in") {
@@ -244,7 +245,7 @@ impl<'a> Words<'a> {
         }
     }
 
-    /// Reads a name, which is an error if it is a keyword without quotes.
+    /// Reads a name. Fails if it is a keyword without quotes.
     pub fn name(&mut self, what: &str) -> Result<Name> {
         let token = self.take();
         self.name_of(token, what)

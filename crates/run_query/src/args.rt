@@ -5,7 +5,7 @@ use query_table::{Format, Kind};
 use std::alloc::{AllocError, Global};
 use std::mem;
 
-/// What `--help` prints.
+/// The text that `--help` prints.
 pub const HELP: &str = "\
 Answers a query over a CSV file by the calls of vortex_buffer, and draws it.
 
@@ -30,16 +30,16 @@ Without --select, --rows and --nth it prints a table of the columns, which rows 
 histogram. An empty field is null. Status 2 is an error.
 ";
 
-/// What is printed on standard output.
+/// The text on standard output.
 #[derive(Drop)]
 pub enum Print {
     /// The table of columns, the kept rows as a strip, and a histogram.
     Report,
-    /// Answers, by their list.
+    /// The answers of this list.
     Answers(String),
     /// All kept rows.
     Rows,
-    /// The kept row that so many come before.
+    /// The kept row that has this number of kept rows before it.
     Nth(u64),
 }
 
@@ -48,13 +48,13 @@ pub enum Print {
 pub struct Options {
     /// The CSV file.
     pub file: String,
-    /// The condition, as it is written.
+    /// The text of the condition.
     pub condition: Option<String>,
-    /// What is printed.
+    /// The text on standard output.
     pub print: Print,
     /// The file for kept rows.
     pub out: Option<String>,
-    /// The columns of kept rows, as they are written.
+    /// The text of the list of columns.
     pub columns: Option<String>,
     /// The file for the picture.
     pub svg: Option<String>,
@@ -69,8 +69,8 @@ pub struct Options {
 impl Options {
     /// Returns the options of a command line without the program's name; None for `--help`.
     ///
-    /// Fails if there is no file or more than one, and at an option that isn't known, has no value,
-    /// or has one that it can't have.
+    /// Fails if there is no file or more than one, and if an option is unknown or lacks a value or
+    /// has an invalid one.
     pub fn parse(alloc: Global, words: &[String]) -> Result<Option<Options>> {
         let mut parser = Parser::new(alloc);
         for word in words {
@@ -116,7 +116,7 @@ impl Parser {
         }
     }
 
-    /// Reads a word. Returns whether it asks for help.
+    /// Reads a word. Returns whether it requests the help.
     fn word(&mut self, word: &str) -> Result<bool> {
         if let Some(name) = self.awaited.take() {
             let valued = self.value(name.as_str(), word);
@@ -254,7 +254,7 @@ impl Parser {
         Ok(())
     }
 
-    /// The options, once all words are read.
+    /// Returns the options, once all words are read.
     fn options(self) -> Result<Options> {
         let Parser {
             alloc,
@@ -298,7 +298,7 @@ const VALUED: &[&str] = &[
     "--type",
 ];
 
-/// Whether an option has no value.
+/// Returns whether an option has no value.
 fn is_flag(name: &str) -> bool {
     matches!(
         name,
@@ -306,7 +306,7 @@ fn is_flag(name: &str) -> bool {
     )
 }
 
-/// The failure of a command line.
+/// Returns the failure of a command line.
 fn usage(alloc: Global, wrong: std::result::Result<String, AllocError>) -> Failure {
     match wrong {
         Ok(wrong) => {

@@ -1,7 +1,7 @@
 //! Answers a query over a CSV file by the calls of `vortex_buffer`, and draws it: see `--help`.
 //!
-//! The exit status is 0 where all was answered, 1 where the row of `--nth` isn't there, and 2 after
-//! an error, which standard error tells.
+//! The exit status is 0 if the run succeeded, 1 if the row of `--nth` doesn't exist, and 2 after an
+//! error, which is on standard error.
 #![tactic(auto)]
 
 mod args;
@@ -18,10 +18,10 @@ use std::process::ExitCode;
 use std::rt::{Env, Files};
 use texts::print;
 
-/// The status when the row that is looked for isn't there.
+/// The exit status if the row of `--nth` doesn't exist.
 const NO_ROW: u8 = 1;
 
-/// The status of an error.
+/// The exit status after an error.
 const FAILED: u8 = 2;
 
 fn main(rt: HostRuntime) -> ExitCode {
@@ -48,7 +48,7 @@ fn answer<R: Files + Print + Eprint + Env + AllocGlobal + Drop>(rt: &R) -> Resul
     outcome
 }
 
-/// The words of the command line.
+/// Returns the words of the command line.
 fn arguments<R: Env + AllocGlobal>(rt: &R) -> Result<Vec<String>> {
     match env::args(rt) {
         Ok(words) => Ok(words.collect(rt.alloc())?),
@@ -59,7 +59,7 @@ fn arguments<R: Env + AllocGlobal>(rt: &R) -> Result<Vec<String>> {
     }
 }
 
-/// Tells a failure on standard error.
+/// Prints a failure to standard error.
 fn tell<R: Eprint>(rt: &R, failure: Failure) {
     // Nobody reads it if standard error is closed.
     let _ = match failure {

@@ -1,4 +1,4 @@
-//! What is made of the rows that are kept.
+//! The outputs for the kept rows.
 use crate::texts::print;
 use query_csv::{Dialect, Result, Rows, write_row};
 use query_draw::{Histogram, Row, Strip};
@@ -17,21 +17,21 @@ pub struct Written<'a> {
     pub columns: &'a [usize],
 }
 
-/// What is made of the rows that are kept, of each batch in turn.
+/// The outputs for the kept rows. They take one batch after the other.
 #[derive(Drop)]
 pub struct Outputs<F: Write + Drop> {
     /// The number of rows that are kept.
     pub count: u64,
     /// Which rows are kept, in the terminal and in a picture.
     pub strips: Vec<Strip>,
-    /// What is answered about columns.
+    /// The answers about columns.
     pub summaries: Vec<Summary>,
-    /// How the values of a column are spread.
+    /// The distribution of a column's values.
     pub histogram: Option<Histogram>,
-    /// How many of the kept rows come before the one that is looked for; None once it is found, and
-    /// if none is looked for.
+    /// The number of kept rows that come before the requested one in the next batches; None once
+    /// that is found, or if none is requested.
     pub before: Option<u64>,
-    /// The row that was looked for.
+    /// The requested row, once it is found.
     pub found: Option<Row>,
     /// Whether the rows are printed.
     pub prints: bool,
@@ -40,7 +40,7 @@ pub struct Outputs<F: Write + Drop> {
 }
 
 impl<F: Write + Drop> Outputs<F> {
-    /// Returns outputs of which none is wanted.
+    /// Returns no outputs.
     pub fn none(alloc: Global) -> Outputs<F> {
         Outputs {
             count: 0,
@@ -89,7 +89,7 @@ impl<F: Write + Drop> Outputs<F> {
         self.write(rt, batch.rows, kept, written)
     }
 
-    /// Looks for the row that so many kept ones come before.
+    /// Looks for the requested row in a batch.
     fn find(&mut self, alloc: Global, batch: &Batch<'_>, kept: &BitBuffer) -> Result<()> {
         let Some(before) = self.before else {
             return Ok(());
@@ -122,7 +122,7 @@ impl<F: Write + Drop> Outputs<F> {
         written
     }
 
-    /// Prints a text, and writes it to the file, as far as these are wanted.
+    /// Prints a text if rows are printed, and writes it to the file if there is one.
     pub fn write_text<R: Print + AllocGlobal>(&mut self, rt: &R, text: &[u8]) -> Result<()> {
         if self.prints {
             print(rt, text)?;
@@ -156,7 +156,7 @@ fn found(alloc: Global, batch: &Batch<'_>, row: usize) -> std::result::Result<Ro
     })
 }
 
-/// The rows that are kept, as CSV.
+/// Returns the kept rows as CSV.
 fn rows_text(
     alloc: Global,
     rows: &Rows,
@@ -170,7 +170,7 @@ fn rows_text(
     Ok(text)
 }
 
-/// Adds the columns of one row that are written.
+/// Adds the written columns of one row.
 fn add_columns(
     alloc: Global,
     text: &mut Vec<u8>,
@@ -187,7 +187,7 @@ fn add_columns(
     Ok(())
 }
 
-/// Adds a row of fields as CSV to a text, whose memory alone can fail.
+/// Adds a row of fields as CSV to a text. Fails only if memory runs out.
 pub fn add_row(text: &mut Vec<u8>, dialect: Dialect, fields: &[&[u8]]) -> Result<()> {
     match write_row(text, dialect, fields) {
         Ok(()) => Ok(()),

@@ -1,4 +1,4 @@
-//! The condition and the list of answers of a run, and its options as they fit the file.
+//! The condition and the list of answers of a run, and its options for the columns of the file.
 use crate::args::{Options, Print};
 use query_csv::{Result, Source, told};
 use query_engine::RowFilter;
@@ -10,7 +10,7 @@ use std::alloc::Global;
 use std::fs;
 use std::rt::Files;
 
-/// The condition and the lists of answers and columns, as they are written.
+/// The parsed condition and the parsed lists of answers and columns.
 #[derive(Drop)]
 pub struct Query<'a> {
     options: &'a Options,
@@ -43,7 +43,7 @@ impl<'a> Query<'a> {
         })
     }
 
-    /// The text of the condition.
+    /// Returns the text of the condition.
     fn source(&self) -> Source<'a> {
         match &self.options.condition {
             Some(text) => of_where(text.as_str()),
@@ -51,7 +51,7 @@ impl<'a> Query<'a> {
         }
     }
 
-    /// Looks for the columns of the condition, before the file is read.
+    /// Tests that the table has the columns of the condition, before the file is read.
     pub fn check_names(&self, table: &Table) -> Result<()> {
         let Some(condition) = &self.condition else {
             return Ok(());
@@ -81,7 +81,7 @@ impl<'a> Query<'a> {
         Ok(())
     }
 
-    /// Returns what the condition means for the columns of the table.
+    /// Returns the condition for the columns of the table.
     pub fn filter(
         &self,
         alloc: Global,
@@ -186,7 +186,7 @@ pub fn histogram_column(options: &Options, table: &Table) -> Result<Option<usize
     Ok(Some(table.find(name.as_str(), source, 0)?))
 }
 
-/// Refuses to write over the CSV file while it is read.
+/// Fails if an output would overwrite the CSV file.
 pub fn check_outputs<R: Files + AllocGlobal>(rt: &R, options: &Options) -> Result<()> {
     for path in [&options.out, &options.svg] {
         if let Some(path) = path {
@@ -202,7 +202,7 @@ pub fn check_outputs<R: Files + AllocGlobal>(rt: &R, options: &Options) -> Resul
     check_apart(rt, options)
 }
 
-/// Refuses two outputs in one file.
+/// Fails if two outputs have the same file.
 fn check_apart<R: Files + AllocGlobal>(rt: &R, options: &Options) -> Result<()> {
     let (Some(out), Some(svg)) = (&options.out, &options.svg) else {
         return Ok(());
@@ -215,7 +215,7 @@ fn check_apart<R: Files + AllocGlobal>(rt: &R, options: &Options) -> Result<()> 
     Ok(())
 }
 
-/// Whether two paths lead to one file. A file with two names counts as two.
+/// Returns whether two paths lead to the same file. A file with two names counts as two files.
 fn is_same<R: Files + AllocGlobal>(rt: &R, left: &str, right: &str) -> bool {
     match (fs::canonicalize(rt, left), fs::canonicalize(rt, right)) {
         (Ok(left), Ok(right)) => {

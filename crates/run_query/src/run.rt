@@ -1,4 +1,4 @@
-//! A run of the program, from its options to what it prints.
+//! A run of the program, from its options to its output.
 use crate::args::{Options, Print as Wanted};
 use crate::outputs::{Outputs, Written, add_row};
 use crate::query::{Query, check_outputs, histogram_column, kinds};
@@ -13,13 +13,13 @@ use std::rt::Files;
 use std::{fs, mem};
 use vortex_buffer::BitBuffer;
 
-/// How many cells the strip in a terminal has.
+/// The greatest number of cells of the strip in a terminal.
 const STRIP: u64 = 72;
 
-/// How many cells the strip of a picture has.
+/// The greatest number of cells of the strip in a picture.
 const SVG_STRIP: u64 = 340;
 
-/// A histogram of fewer bins is made once more, of the kept values' own range.
+/// A histogram with values in fewer bins is built again, over the range of the kept values.
 const FEW_BINS: usize = 4;
 
 /// The error of a histogram of a text column.
@@ -29,9 +29,9 @@ const TEXT_COLUMN: &str = "this column is text; one of numbers is wanted; --type
 /// How a run that didn't fail has ended.
 #[derive(Clone, Copy, PartialEq, Eq)]
 pub enum Outcome {
-    /// All was answered.
+    /// The run printed all that was requested.
     Done,
-    /// The row that was looked for isn't there.
+    /// The row of `--nth` doesn't exist.
     NoRow,
 }
 
@@ -74,7 +74,7 @@ pub fn run_with<'a, R: Files + Print + Eprint + AllocGlobal + Drop>(
     outcome
 }
 
-/// What a run knows once the file was read for the first time.
+/// The state of a run after the first pass over the file.
 #[derive(Drop)]
 struct Run<'a, R: Files + Print + Eprint + AllocGlobal + Drop> {
     rt: &'a R,
@@ -82,14 +82,14 @@ struct Run<'a, R: Files + Print + Eprint + AllocGlobal + Drop> {
     table: &'a Table,
     survey: &'a Survey,
     filter: &'a Option<RowFilter>,
-    /// The columns that are written of the kept rows.
+    /// The columns of the kept rows that are written.
     columns: &'a [usize],
     /// The column of `--histogram`.
     histogram: Option<usize>,
 }
 
 impl<'a, R: Files + Print + Eprint + AllocGlobal + Drop> Run<'a, R> {
-    /// What every run makes of the rows: the histogram, the strips, and the file of `--out`.
+    /// Returns the outputs of every run: the histogram and the strips.
     fn outputs(&self) -> Result<Outputs<R::File>> {
         let alloc = self.rt.alloc();
         let mut outputs = Outputs::none(alloc);
@@ -107,8 +107,8 @@ impl<'a, R: Files + Print + Eprint + AllocGlobal + Drop> Run<'a, R> {
         Ok(outputs)
     }
 
-    /// The histogram of the column of `--histogram`, or of the first one with numbers; None if it
-    /// isn't shown or the column has no number.
+    /// Returns the histogram of the column of `--histogram`, or of the first column with numbers.
+    /// Returns None if no histogram is shown or the column has no number.
     fn histogram(&self) -> Result<Option<Histogram>> {
         if !matches!(self.options.print, Wanted::Report) && self.options.svg.is_none() {
             return Ok(None);
@@ -126,7 +126,7 @@ impl<'a, R: Files + Print + Eprint + AllocGlobal + Drop> Run<'a, R> {
         }
     }
 
-    /// The column, which is an error if it has texts.
+    /// Returns the column, or an error if it has texts.
     fn of_numbers(&self, column: usize) -> Result<usize> {
         if self.survey.kind(column) != Kind::Text {
             return Ok(column);
@@ -138,7 +138,7 @@ impl<'a, R: Files + Print + Eprint + AllocGlobal + Drop> Run<'a, R> {
         Err(source.wrong(self.rt.alloc(), 0, TEXT_COLUMN))
     }
 
-    /// Reads the file once for what is printed, and for the files of `--out` and `--svg`.
+    /// Reads the file once for standard output and for the files of `--out` and `--svg`.
     fn pass(&self, outputs: &mut Outputs<R::File>) -> Result<()> {
         self.add_values(outputs)?;
         self.open_out(outputs)?;
@@ -149,7 +149,7 @@ impl<'a, R: Files + Print + Eprint + AllocGlobal + Drop> Run<'a, R> {
         self.draw(outputs)
     }
 
-    /// Sees to it that the column of the histogram has a summary.
+    /// Adds a summary of the histogram's column if there is none.
     fn add_values(&self, outputs: &mut Outputs<R::File>) -> Result<()> {
         let Some(histogram) = &outputs.histogram else {
             return Ok(());
@@ -214,7 +214,7 @@ impl<'a, R: Files + Print + Eprint + AllocGlobal + Drop> Run<'a, R> {
         Ok(())
     }
 
-    /// Which columns are read as values.
+    /// Returns which columns are read as values.
     fn uses(&self, outputs: &Outputs<R::File>) -> std::result::Result<Vec<bool>, AllocError> {
         let mut uses = Vec::from_elem(self.rt.alloc(), false, self.table.width())?;
         outputs.mark(uses.as_mut_slice());
@@ -243,7 +243,7 @@ impl<'a, R: Files + Print + Eprint + AllocGlobal + Drop> Run<'a, R> {
         taken
     }
 
-    /// Which rows of a batch are kept.
+    /// Returns which rows of a batch are kept.
     fn kept(&self, batch: &Batch<'_>) -> Result<BitBuffer> {
         let alloc = self.rt.alloc();
         match self.filter {
@@ -255,8 +255,8 @@ impl<'a, R: Files + Print + Eprint + AllocGlobal + Drop> Run<'a, R> {
         }
     }
 
-    /// Makes the histogram of the kept values' own range, for which the file is read once more, if
-    /// these fill few bins of the whole column's range.
+    /// Builds the histogram again over the range of the kept values, if these fill few bins of the
+    /// whole column's range. Reads the file once more for this.
     fn look_closer(&self, outputs: &mut Outputs<R::File>) -> Result<()> {
         let alloc = self.rt.alloc();
         let Some(histogram) = &outputs.histogram else {
@@ -389,7 +389,7 @@ impl<'a, R: Files + Print + Eprint + AllocGlobal + Drop> Run<'a, R> {
         Ok(Outcome::Done)
     }
 
-    /// The answers as CSV, with their names as the header line.
+    /// Returns the answers as CSV, with their names as the header line.
     fn answers_text(
         &self,
         names: &[Answer],
@@ -447,7 +447,7 @@ impl<'a, R: Files + Print + Eprint + AllocGlobal + Drop> Run<'a, R> {
         outcome
     }
 
-    /// Tells that fewer rows are kept.
+    /// Reports on standard error that fewer rows are kept.
     fn no_row(&self, kept: u64) -> Result<Outcome> {
         let rt = self.rt;
         let kept = grouped(rt.alloc(), kept)?;
@@ -458,7 +458,7 @@ impl<'a, R: Files + Print + Eprint + AllocGlobal + Drop> Run<'a, R> {
     }
 }
 
-/// The summary of a column, if there is one.
+/// Returns the summary of a column, if there is one.
 fn summary_of(summaries: &[Summary], column: usize) -> Option<&Summary> {
     for summary in summaries {
         if summary.column() == column {
@@ -468,7 +468,7 @@ fn summary_of(summaries: &[Summary], column: usize) -> Option<&Summary> {
     None
 }
 
-/// An answer about the rows that are kept.
+/// Returns an answer about the kept rows.
 fn value(
     alloc: Global,
     answer: Option<(Aggregate, usize)>,

@@ -13,7 +13,7 @@ pub fn print<R: Print + AllocGlobal>(rt: &R, bytes: &[u8]) -> Result<()> {
     }
 }
 
-/// Returns what is before the first `=` of a text and what is behind it; None if it has none.
+/// Returns the texts before and after the first `=` of a text; None if it has none.
 pub fn split_first(
     alloc: Global,
     text: &str,
@@ -26,7 +26,7 @@ pub fn split_first(
     Ok(None)
 }
 
-/// Returns what is before the last `=` of a text and what is behind it; None if it has none.
+/// Returns the texts before and after the last `=` of a text; None if it has none.
 pub fn split_last(
     alloc: Global,
     text: &str,
@@ -43,7 +43,7 @@ pub fn split_last(
     }
 }
 
-/// What is before the character at a byte of a text, and what is behind it.
+/// Returns the texts before and after the character at byte `at`.
 fn split_at(
     alloc: Global,
     text: &str,

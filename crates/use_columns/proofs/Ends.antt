@@ -9,7 +9,7 @@ use Rattle.std.proofs.lemmas.List.Elements.{All-push, All-weaker}
 use Rattle.std.proofs.lemmas.List.Elements.{Contains-append_left, Contains-push}
 use Rattle.use_columns.specs.Columns.{AreEnds}
 
--- all lie between ends that are as far apart
+-- all elements are between wider ends too
 wider : (xs : List ℕ) (a b v c d : ℕ) → c ≤ a → b ≤ d → c ≤ v → v ≤ d
     → All (λ x. (a ≤ x) × (x ≤ b)) xs → All (λ x. (c ≤ x) × (x ≤ d)) (xs ++ v ∷ [])
 wider xs a b v c d low high left right all =

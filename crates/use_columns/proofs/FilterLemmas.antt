@@ -1,4 +1,4 @@
--- Masks of conditions, and what they keep.
+-- Masks of conditions, and the values that they select.
 use Rattle.std.proofs.Common.{◌≡◌, ℕ, Bool, true, false, ◌&&◌, cond, List, [], ◌∷◌, length, map}
 use Rattle.std.proofs.Common.{Option, Some, None, is_some, not, filter, slice_index}
 use Rattle.std.proofs.Common.{refl, sym, ap, ◌∙◌, arith, pos, int_eq, nat_eq}
@@ -23,7 +23,7 @@ merged_matches_of test (bit ∷ bits) [] same = absurd (omega arith)
 merged_matches_of test (bit ∷ bits) (value ∷ values) same =
     ap (λ l. (test value && bit) ∷ l) (merged_matches_of test bits values (omega arith))
 
--- as many rows
+-- the mask has one bit per row
 pub length-matches_of : (test : ℕ → Bool) (bits : List Bool) (values : List ℕ)
     → length bits ≡ length values → length (matches_of test bits values) ≡ length values
 length-matches_of test [] [] same = refl
@@ -32,7 +32,7 @@ length-matches_of test (bit ∷ bits) [] same = absurd (omega arith)
 length-matches_of test (bit ∷ bits) (value ∷ values) same =
     omega (arith, length-matches_of test bits values (omega arith))
 
--- to keep what matches is to filter what is valid
+-- selecting the matching rows gives the same as filtering the valid values
 pub kept_by_matches_of : (test : ℕ → Bool) (bits : List Bool) (values : List ℕ)
     → kept_by (matches_of test bits values) values ≡ filter test (kept_by bits values)
 kept_by_matches_of test [] values = refl
@@ -51,7 +51,7 @@ kept_by_matches_of test (false ∷ bits) (value ∷ values) =
       | false ↦ kept_by_matches_of test bits values
     ]
 
--- a test of the value at each place
+-- a test of the value at each index
 pub map_of_span : (test : ℕ → Bool) (values : List ℕ)
     → map (λ k. test (slice_index values k)) (span 0 (length values)) ≡ map test values
 map_of_span test values =
@@ -59,7 +59,7 @@ map_of_span test values =
     (length values) (sym (length-map values test))
     (λ k h. sym (get_or-map test values k 0 false h))
 
--- a comparison that says what the test says
+-- a comparison with the same results as the test
 pub tested : (answer test : ℕ → Bool) (values : List ℕ)
     → ((value : ℕ) → answer value ≡ test value) → map answer values ≡ map test values
 tested answer test [] same = refl
@@ -71,7 +71,7 @@ tested answer test (value ∷ values) same =
 pub nat_equal : (x y : ℕ) → int_eq (pos x) (pos y) ≡ nat_eq x y
 nat_equal x y = grind (arith, ints, nat_tests)
 
--- what is valid and isn't true
+-- the rows that are valid and not true
 pub known_false : (t : List (Option Bool))
     → merged_by (λ a b. a && not b) (map is_some t) (map (is_truth true) t) ≡ map (is_truth false) t
 unfolding merged_by

@@ -2,7 +2,7 @@
 use Rattle.std.proofs.Common.{◌≡◌, ℕ, List, [], ◌∷◌, map, max, refl, ap}
 use Rattle.use_columns.specs.Sequences.{greater_of}
 
--- the greater values of two columns that are read of one list
+-- the greater values of two columns that come from one list of pairs
 pub greater_of-map : {T : Type 0} (one other : T → ℕ) (pairs : List T)
     → greater_of (map one pairs) (map other pairs) ≡ map (λ p. max (one p) (other p)) pairs
 greater_of-map one other [] = refl

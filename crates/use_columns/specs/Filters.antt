@@ -1,4 +1,4 @@
--- What a filter asks of a column.
+-- The conditions of a filter on a column.
 use Rattle.std.specs.Prelude.{ℕ, Bool, ◌&&◌, ◌==◌, nat_lt, nat_le, List, [], ◌∷◌}
 use Rattle.use_columns.specs.declared.condition.Condition.{Condition}
 use Rattle.use_columns.specs.declared.condition.Condition.TheVariants.{Below, AtLeast, Equals}

@@ -8,11 +8,11 @@ use Rattle.use_columns.specs.Rows.{Rows}
 use Rattle.use_columns.specs.declared.page.PageError.{PageError}
 use Rattle.use_columns.specs.declared.page.PageError.TheVariants.{Length, Buffer}
 
--- how many rows a page has, by its first byte
+-- the number of rows of a page: its first byte
 abbrev pub rows_of : List ℕ → ℕ
 rows_of page = slice_index page 0
 
--- the values stand behind that byte and a mask of whole bytes
+-- the index of the values, after that byte and a mask of whole bytes
 abbrev pub values_at : List ℕ → ℕ
 values_at page = 1 + div_ceil (rows_of page) 8
 
@@ -27,7 +27,7 @@ pub record IsPage (page : List ℕ) (column : Rows) : Type 0 where
   pub valid : column.valid ≡ bits page 8 (rows_of page)
   pub values : byteform (to_le_bytes w32) column.values ≡ drop (values_at page) page
 
--- the bytes are no page, or memory was refused
+-- the bytes are not a page, or memory ran out
 abbrev pub IsNoPageOrMemory : List ℕ → PageError → Type 0
 IsNoPageOrMemory page error = ((error ≡ Length) × (HasAll page → ⊥))
     ⊎ (HasAll page × (error ≡ Buffer OutOfMemory))

@@ -1,4 +1,4 @@
--- What contracts see of a column.
+-- The view of a column in contracts.
 use Rattle.std.specs.Prelude.{ℕ, Bool, List}
 
 -- a column: its values, and which of them are valid

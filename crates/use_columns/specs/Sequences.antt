@@ -1,7 +1,7 @@
--- Columns, place by place.
+-- Columns, index by index.
 use Rattle.std.specs.Prelude.{ℕ, List, [], ◌∷◌, max}
 
--- the greater of the two values at each place, as far as both lists go
+-- the greater of the two values at each index of both lists
 abbrev pub greater_of : List ℕ → List ℕ → List ℕ
 greater_of [] others = []
 greater_of (value ∷ values) [] = []

@@ -1,7 +1,7 @@
--- Sources that meter what is read of them.
+-- Sources that count the bytes that are read from them.
 use Rattle.std.specs.Prelude.{ℕ, List}
 
--- bytes, how many looks they have had, and how many of them were read
+-- bytes, the number of looks at them, and the number of bytes read
 pub record MeteredBytes : Type 0 where
   pub bytes : List ℕ
   pub looks : ℕ

@@ -4,8 +4,8 @@ ghost use Rattle.std.specs.Prelude.{◌≡◌, ◌*◌, IfOk, length};
 use std::alloc::Allocator;
 use vortex_buffer::{Buffer, ByteBuffer, Result};
 
-/// The values, written as bytes and read from them. Refused by `TooManyBytes` where the bytes
-/// pass `usize`, and else by `OutOfMemory`.
+/// Returns the values after writing them as bytes and reading them back. Returns `TooManyBytes` if
+/// the number of bytes exceeds `usize::MAX`, and `OutOfMemory` if memory runs out.
 pub fn through_bytes<A: Allocator + Clone>(alloc: A, values: &[u32]) -> Result<Buffer<u32, A>>
     ensures { IfOk result (λ b. b.list ≡ values.now) }
 {
@@ -13,8 +13,8 @@ pub fn through_bytes<A: Allocator + Clone>(alloc: A, values: &[u32]) -> Result<B
     Buffer::from_byte_buffer(bytes)
 }
 
-/// The values that the bytes of a file are, one for each four. Refused by `ByteLength` where four
-/// doesn't divide their number, and else by `OutOfMemory`.
+/// Returns the bytes of a file as values of four bytes. Returns `ByteLength` if their number is not
+/// a multiple of four, and `OutOfMemory` if memory runs out.
 pub fn values_of<A: Allocator + Clone>(file: ByteBuffer<A>) -> Result<Buffer<u32, A>>
     ensures { IfOk result (λ b. length b.list * 4 ≡ length file.list) }
 {

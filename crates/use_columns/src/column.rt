@@ -1,4 +1,4 @@
-//! A column of numbers of which some are null.
+//! A column of numbers, some of which may be null.
 ghost use Rattle.std.specs.Prelude.{◌≡◌, ◌^◌, ◌<◌, length, sum};
 ghost use Rattle.use_columns.specs.Columns.{AreEnds};
 ghost use Rattle.vortex_buffer.specs.Bits.{count, complement};
@@ -9,8 +9,8 @@ use std::alloc::{Allocator, Global};
 use std::marker::Model;
 use vortex_buffer::{BitBuffer, Buffer};
 
-/// A column of numbers of which some are null: values, and a mask whose bit is true where the value
-/// counts. A contract sees both as lists.
+/// A column of numbers, some of which may be null: values, and a mask with a true bit for each
+/// value that isn't null. Contracts see both as lists.
 #[derive(Drop)]
 pub struct Column<A: Allocator + Clone = Global> {
     values: Buffer<u32, A>,
@@ -32,7 +32,8 @@ impl<A: Allocator + Clone> Model for Column<A> {
 }
 
 impl<A: Allocator + Clone> Column<A> {
-    /// The column of these values and this mask, which are as long. It takes no memory.
+    /// Returns the column of these values and this mask, which must have the same length. Does not
+    /// allocate.
     pub fn new(values: Buffer<u32, A>, valid: BitBuffer<A>) -> Self
         requires same_len { length valid.bits ≡ length values.list }
         ensures values { result.values ≡ values.list }
@@ -41,7 +42,7 @@ impl<A: Allocator + Clone> Column<A> {
         Column { values, valid }
     }
 
-    /// How many rows there are, nulls included.
+    /// Returns the number of rows, including nulls.
     pub fn len(&self) -> usize
         ensures values { result ≡ length self.now.values }
         ensures valid { result ≡ length self.now.valid }
@@ -49,14 +50,14 @@ impl<A: Allocator + Clone> Column<A> {
         self.values.len()
     }
 
-    /// The values of all rows. What stands where a row is null says nothing.
+    /// Returns the values of all rows. The value of a null row is arbitrary.
     pub fn values(&self) -> &Buffer<u32, A>
         ensures { result.now.list ≡ self.now.values }
     {
         &self.values
     }
 
-    /// Which rows aren't null, for each value one bit.
+    /// Returns which rows aren't null: one bit per value.
     pub fn valid(&self) -> &BitBuffer<A>
         ensures bits { result.now.bits ≡ self.now.valid }
         ensures len { length result.now.bits ≡ length self.now.values }
@@ -64,14 +65,14 @@ impl<A: Allocator + Clone> Column<A> {
         &self.valid
     }
 
-    /// How many values are null.
+    /// Returns the number of null values.
     pub fn null_count(&self) -> usize
         ensures { result ≡ count (complement self.now.valid) }
     {
         self.valid.false_count()
     }
 
-    /// The sum of the values that aren't null. The column has fewer than `2^32` rows.
+    /// Returns the sum of the values that aren't null. The column must have fewer than `2^32` rows.
     pub fn sum(&self) -> u64
         requires few { length self.now.values < 2 ^ 32 }
         ensures { result ≡ sum (kept_by self.now.valid self.now.values) }
@@ -79,7 +80,7 @@ impl<A: Allocator + Clone> Column<A> {
         masked_sum(&self.values, &self.valid)
     }
 
-    /// The least and the greatest value that isn't null; `None` where all are.
+    /// Returns the least and the greatest value that isn't null; `None` if all are null.
     pub fn min_max(&self) -> Option<(u32, u32)>
         ensures { AreEnds (kept_by self.now.valid self.now.values) result }
     {

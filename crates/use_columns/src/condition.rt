@@ -1,9 +1,9 @@
-//! What a filter asks of a value.
+//! The condition of a filter on a value.
 ghost use Rattle.std.specs.Prelude.{◌≡◌, ℕ, pos};
 
 use vortex_buffer::Comparison;
 
-/// What a filter asks of a value.
+/// The condition of a filter on a value.
 #[derive(Clone, Copy, Debug, PartialEq, Eq)]
 pub enum Condition {
     /// It is below this number.
@@ -18,7 +18,7 @@ impl Condition {
     ghost use Rattle.use_columns.specs.Filters.{is_met};
     ghost use Rattle.vortex_buffer.specs.Compares.{compares};
 
-    /// Whether a value meets it.
+    /// Returns whether a value meets the condition.
     pub fn is_met_by(self, value: u32) -> bool
         ensures { result ≡ is_met self value }
     {
@@ -29,7 +29,7 @@ impl Condition {
         }
     }
 
-    /// How a value that meets it compares, and with which number.
+    /// Returns the comparison and the number that a value meeting the condition satisfies.
     pub fn comparison(self) -> (Comparison, u32)
         ensures { (value : ℕ) → compares result.0 (pos value) (pos result.1) ≡ is_met self value }
     {

@@ -1,13 +1,13 @@
-//! A column that is stored as places in a dictionary.
+//! A column that is stored as indices into a dictionary.
 ghost use Rattle.std.specs.Prelude.{◌≡◌, length, map, slice_index, IfOk, IfErr};
 ghost use Rattle.use_columns.specs.Columns.{AreKnown, IsUnknownOrMemory};
 
 use std::alloc::Allocator;
 use vortex_buffer::{Buffer, BufferError, BufferMut, Result};
 
-/// The column whose values stand in the dictionary at the places that the codes are. Refused by
-/// `IndexOutOfRange` of the first code that is no place of the dictionary, or by `OutOfMemory`,
-/// which may come first.
+/// Returns the column of the dictionary's values at the codes. Returns `IndexOutOfRange` with the
+/// first code that is not an index of the dictionary, or `OutOfMemory` if memory runs out before
+/// that.
 pub fn decode_dictionary<A: Allocator + Clone>(
     alloc: A,
     dictionary: &[u32],

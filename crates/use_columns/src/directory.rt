@@ -22,7 +22,7 @@ impl<'a> Model for Narrow<'a> {
 }
 
 impl<'a> Narrow<'a> {
-    /// The counts of `counts`, with no probe so far.
+    /// Returns the table of these counts, without probes so far.
     pub fn new(counts: &'a [u32]) -> Self
         ensures entries { result.entries ≡ counts.now }
         ensures unread { result.probes ≡ 0 }
@@ -47,8 +47,8 @@ impl Probe for Narrow<'_> {
     }
 }
 
-/// The place of the `n`-th true bit of the first `len` bits, counted from 0, by a table of their
-/// counts before each block of 512 bits; `None` where there are at most `n`.
+/// Returns the index of the `n`-th set bit of the first `len` bits, counted from 0; `None` if at
+/// most `n` are set. `counts` must be the numbers of set bits before each block of 512 bits.
 pub fn select_narrow(bytes: &[u8], len: usize, counts: &[u32], n: usize) -> Option<usize>
     requires inside { len ≤ 8 * length bytes.now }
     requires size { length counts.now ≡ blocks len }

@@ -1,15 +1,15 @@
-//! Why a file can't be read.
+//! The errors of reading a file.
 ghost use Rattle.std.specs.Prelude.{◌≡◌};
 
 use vortex_buffer::BufferError;
 
-/// Why a name can't be read.
+/// The reason why a name can't be read.
 #[derive(Clone, Copy, Debug, PartialEq, Eq, thiserror::Error)]
 pub enum ReadError {
     /// The file ends before the name does.
     #[error("file ends before a name does")]
     CutShort,
-    /// The name isn't UTF-8, or memory was refused.
+    /// The name isn't UTF-8, or memory ran out.
     #[error("{0}")]
     Buffer(BufferError),
 }

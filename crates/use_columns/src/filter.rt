@@ -10,7 +10,7 @@ use crate::condition::Condition;
 use std::alloc::Allocator;
 use vortex_buffer::{BitBuffer, Buffer, Filter, Result, and_kleene, compared};
 
-/// The mask of the rows whose value meets the condition. Refused by `OutOfMemory` alone.
+/// Returns the mask of the rows whose value meets the condition. The only error is `OutOfMemory`.
 pub fn rows_where<A: Allocator + Clone>(
     alloc: A,
     values: &Buffer<u32, A>,
@@ -25,10 +25,10 @@ pub fn rows_where<A: Allocator + Clone>(
     compared(alloc, values.as_slice(), op, number, None)
 }
 
-/// Fewer rows than that are tested sooner one by one than by vectors.
+/// The number of rows from which on vectors are faster than a test of each row.
 const FEW: usize = 512;
 
-/// [`rows_where`], row by row.
+/// Does [`rows_where`] row by row.
 fn few_rows_where<A: Allocator + Clone>(
     alloc: A,
     values: &Buffer<u32, A>,
@@ -44,8 +44,8 @@ fn few_rows_where<A: Allocator + Clone>(
     )
 }
 
-/// The mask of the rows that are valid and whose value meets the condition. Refused by
-/// `OutOfMemory` alone.
+/// Returns the mask of the rows that are valid and whose value meets the condition. The only error
+/// is `OutOfMemory`.
 pub fn matching_rows<A: Allocator + Clone>(
     alloc: A,
     values: &Buffer<u32, A>,
@@ -59,9 +59,9 @@ pub fn matching_rows<A: Allocator + Clone>(
     rows_where(alloc, values, condition)? & valid
 }
 
-/// The rows that `where not (a and b)` of SQL keeps, of two masks of conditions and which rows of
-/// each are valid: those of which one mask is valid and false, whatever the other one is. All four
-/// are as long. Refused by `OutOfMemory` alone.
+/// Returns the rows that SQL's `where not (a and b)` selects, for the masks of two conditions and
+/// their validities: the rows where one mask is valid and false, whatever the other one is. All
+/// four must have the same length. The only error is `OutOfMemory`.
 pub fn rows_failing<A: Allocator + Clone>(
     alloc: A,
     left: &BitBuffer<A>,
@@ -84,7 +84,8 @@ pub fn rows_failing<A: Allocator + Clone>(
     rows
 }
 
-/// The values that are valid and meet the condition, in order. Refused by `OutOfMemory` alone.
+/// Returns the values that are valid and meet the condition, in order. The only error is
+/// `OutOfMemory`.
 pub fn filtered<A: Allocator + Clone>(
     alloc: A,
     values: &Buffer<u32, A>,

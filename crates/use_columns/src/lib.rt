@@ -1,9 +1,8 @@
-//! What users of `vortex_buffer` write: a column with nulls, read from a page and asked for what it
-//! holds; decoders of runs and of a dictionary; a filter, whose condition makes a mask; names of a
-//! little file format, each behind its length in one byte; and what an engine has of its own, a
-//! source of bits and a directory of counts for the counted kernels, a loop over the words of bits,
-//! sequences whose length is known, and values by way of their bytes. It names no other crate of
-//! the library.
+//! Code as users of `vortex_buffer` write it: a column with nulls, read from a page; decoders of
+//! runs and of a dictionary; a filter by a condition; names of a small file format, each after its
+//! length in one byte; and parts of an engine: a source of bits and a directory of counts for the
+//! counted kernels, a loop over the words of bits, sequences of known length, and conversions of
+//! values through bytes. It uses no other crate of the library.
 #![tactic(auto)]
 
 mod bytes;

@@ -1,4 +1,4 @@
-//! The values of a column that a mask keeps: their sum, the least and the greatest of them.
+//! The values of a column that a mask selects: their sum, minimum and maximum.
 ghost use Rattle.std.specs.Prelude.{◌≡◌, ◌^◌, ◌<◌, ℕ, List, [], ◌∷◌, ◌++◌, Some, sum, length};
 ghost use Rattle.use_columns.specs.Columns.{AreEnds};
 ghost use Rattle.vortex_buffer.specs.Kept.{kept_by};
@@ -6,8 +6,8 @@ ghost use Rattle.vortex_buffer.specs.Kept.{kept_by};
 use std::alloc::Allocator;
 use vortex_buffer::{BitBuffer, Buffer};
 
-/// The sum of the values that are valid: those whose bit is true. The column has fewer than `2^32`
-/// values.
+/// Returns the sum of the values that are valid: those whose bit is true. The column must have
+/// fewer than `2^32` values.
 pub fn masked_sum<A: Allocator + Clone>(values: &Buffer<u32, A>, valid: &BitBuffer<A>) -> u64
     requires same_len { length valid.now.bits ≡ length values.now.list }
     requires few { length values.now.list < 2 ^ 32 }
@@ -21,7 +21,7 @@ pub fn masked_sum<A: Allocator + Clone>(values: &Buffer<u32, A>, valid: &BitBuff
     sum
 }
 
-/// The least and the greatest of the values that are valid; `None` where none is.
+/// Returns the least and the greatest of the valid values; `None` if there are none.
 pub fn masked_min_max<A: Allocator + Clone>(
     values: &Buffer<u32, A>,
     valid: &BitBuffer<A>,
@@ -37,7 +37,7 @@ pub fn masked_min_max<A: Allocator + Clone>(
     ends
 }
 
-/// The ends of the numbers of which these are the ends, and of one more.
+/// Returns the least and the greatest of the numbers with these ends and of one more number.
 fn widened(ends: Option<(u32, u32)>, value: u32) -> (u32, u32)
     ensures { (xs : List ℕ) → AreEnds xs ends → AreEnds (xs ++ value ∷ []) (Some result) }
 {

@@ -6,13 +6,13 @@ use crate::column::Column;
 use std::alloc::Allocator;
 use vortex_buffer::{Alignment, BitBuffer, Buffer, BufferError, ByteBuffer};
 
-/// Why a page can't be read.
+/// The reason why a page can't be read.
 #[derive(Clone, Copy, Debug, PartialEq, Eq, thiserror::Error)]
 pub enum PageError {
-    /// The page hasn't the bytes that its number of rows asks for.
+    /// The page doesn't have the number of bytes that its number of rows requires.
     #[error("page is cut short or too long")]
     Length,
-    /// Memory was refused.
+    /// Memory ran out.
     #[error("{0}")]
     Buffer(BufferError),
 }
@@ -27,10 +27,10 @@ impl From<BufferError> for PageError {
     }
 }
 
-/// The column of a page: the number of rows in one byte, then the mask, then the values in four
-/// bytes each. The mask shares the page's storage, and the values are read into storage of their
-/// own. Refused by `Length` exactly where the page has too few or too many bytes, and else by
-/// `Buffer` of `OutOfMemory`.
+/// Returns the column of a page: the number of rows in one byte, then the mask, then the values in
+/// four bytes each. The mask shares the page's storage, and the values are copied into new storage.
+/// Returns `Length` exactly if the page has too few or too many bytes, and otherwise
+/// `Buffer(OutOfMemory)` if memory runs out.
 pub fn read_page<A: Allocator + Clone>(page: &ByteBuffer<A>) -> Result<Column<A>, PageError>
     ensures ok { IfOk result (IsPage page.now.list) }
     ensures err { IfErr result (IsNoPageOrMemory page.now.list) }

@@ -6,9 +6,9 @@ use crate::error::ReadError;
 use std::alloc::Allocator;
 use vortex_buffer::{AlignedBuf, BufferString};
 
-/// The next name, which is passed over. Refused by `CutShort` where the file ends before the name
-/// does, or where it can't be passed over, and by `Buffer` where it is no text or memory is
-/// refused. Refused, it leaves the file as it was.
+/// Returns the next name, and advances past it. Returns `CutShort` if the file ends before the name
+/// does, or if it can't advance past the name, and `Buffer` if the name isn't UTF-8 or memory runs
+/// out. The file is unchanged on error.
 pub fn read_name<B: AlignedBuf, A: Allocator + Clone>(
     alloc: A,
     file: &mut B,

@@ -6,16 +6,16 @@ ghost use Rattle.use_columns.specs.Decoded.{run_values};
 use std::alloc::Allocator;
 use vortex_buffer::{Buffer, BufferMut, Result};
 
-/// A value, and how often it stands in a row.
+/// A value, and the number of its repetitions.
 #[derive(Clone, Copy, Debug, PartialEq, Eq)]
 pub struct Run {
     /// The value.
     pub value: u32,
-    /// How often.
+    /// The number of repetitions.
     pub len: usize,
 }
 
-/// The column of these runs, one after the other. Refused by `OutOfMemory`.
+/// Returns the column of these runs, one after the other, or `OutOfMemory`.
 pub fn decode_runs<A: Allocator + Clone>(alloc: A, runs: &[Run]) -> Result<Buffer<u32, A>>
     ensures { Makes (λ column. column.list ≡ run_values runs.now) result }
 {

@@ -1,4 +1,4 @@
-//! Buffers of what adapters of iterators give, whose length is known.
+//! Buffers from iterator adapters of known length.
 ghost use Rattle.std.specs.Prelude.{◌≡◌, ◌/◌, length, map, drop};
 ghost use Rattle.vortex_buffer.specs.Makes.{Makes};
 ghost use Rattle.use_columns.specs.Sequences.{greater_of};
@@ -6,7 +6,7 @@ ghost use Rattle.use_columns.specs.Sequences.{greater_of};
 use std::alloc::Allocator;
 use vortex_buffer::{Buffer, Result, trusted_len};
 
-/// Half of each value. Refused by `OutOfMemory`, before the first value is looked at.
+/// Returns half of each value. Returns `OutOfMemory` before it reads a value if memory runs out.
 pub fn halved<A: Allocator + Clone>(alloc: A, values: &[u32]) -> Result<Buffer<u32, A>>
     ensures { Makes (λ b. b.list ≡ map (λ value. value / 2) values.now) result }
 {
@@ -14,8 +14,8 @@ pub fn halved<A: Allocator + Clone>(alloc: A, values: &[u32]) -> Result<Buffer<u
     Buffer::from_trusted_len_iter(alloc, halves)
 }
 
-/// Half of each value behind the first `n`, of which there may be none. Refused by `OutOfMemory`,
-/// before the first value is looked at.
+/// Returns half of each value after the first `n`; there may be none. Returns `OutOfMemory` before
+/// it reads a value if memory runs out.
 pub fn rest_halved<A: Allocator + Clone>(
     alloc: A,
     values: &[u32],
@@ -28,8 +28,8 @@ pub fn rest_halved<A: Allocator + Clone>(
     Buffer::from_trusted_len_iter(alloc, halves)
 }
 
-/// The greater of the two values at each place of two columns of one length. Refused by
-/// `OutOfMemory`, before the first value is looked at.
+/// Returns the greater of the two values at each index of two columns of the same length. Returns
+/// `OutOfMemory` before it reads a value if memory runs out.
 pub fn greater<A: Allocator + Clone>(
     alloc: A,
     left: &[u32],

@@ -1,4 +1,4 @@
-//! A source of bits that adds up what is read of it.
+//! A source of bits that counts the bytes that are read from it.
 ghost use Rattle.std.specs.Prelude.{◌≡◌, ◌+◌, ◌*◌, ◌^◌, ◌<◌, ◌≤◌, length, min, slice_range};
 ghost use Rattle.std.below.core.specs.declared.int.u64.TheConstants.{MAX};
 ghost use Rattle.vortex_buffer.specs.Bits.{bits, count};
@@ -8,7 +8,7 @@ ghost use Rattle.vortex_buffer.specs.Looks.{looks};
 use std::marker::Model;
 use vortex_buffer::{GhostCount, Glance, count_ones_by};
 
-/// The bytes of a slice, and how many of them were read.
+/// The bytes of a slice, and the number of bytes read.
 #[derive(Drop)]
 pub struct Metered<'a> {
     data: &'a [u8],
@@ -28,7 +28,7 @@ impl<'a> Model for Metered<'a> {
 }
 
 impl<'a> Metered<'a> {
-    /// The bytes of `bytes`, of which nothing has been read.
+    /// Returns the source of these bytes, of which none has been read.
     pub fn new(bytes: &'a [u8]) -> Self
         ensures bytes { result.bytes ≡ bytes.now }
         ensures unseen { result.looks ≡ 0 }
@@ -41,8 +41,8 @@ impl<'a> Metered<'a> {
         }
     }
 
-    /// How many bytes were read, those read twice counted twice, and `u64::MAX` where that passes
-    /// it.
+    /// Returns the number of bytes read; bytes that are read twice count twice. It is `u64::MAX` if
+    /// there are more.
     pub fn bytes_read(&self) -> u64
         ensures value { result ≡ self.now.read }
         ensures most { result ≤ 64 * self.now.looks }
@@ -50,7 +50,7 @@ impl<'a> Metered<'a> {
         self.read
     }
 
-    // The `N` bytes from byte `at` on, at most 64, by one look.
+    // Returns the `N` bytes from byte `at` on, at most 64, by one look.
     fn look<const N: usize>(&mut self, at: usize) -> [u8; N]
         requires few { N ≤ 64 }
         requires inside { at + N ≤ length self.old.bytes }
@@ -87,7 +87,8 @@ impl Glance for Metered<'_> {
     }
 }
 
-/// How many bits of a window are true, and how many bytes were read for it: at most 64 a look.
+/// Returns the number of set bits of a window, and the number of bytes read for it: at most 64 per
+/// look.
 pub fn count_metered(bytes: &[u8], offset: usize, len: usize) -> (usize, u64)
     requires window { InBytes bytes.now offset len }
     ensures count { result.0 ≡ count (bits bytes.now offset len) }

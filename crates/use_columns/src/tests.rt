@@ -1,4 +1,4 @@
-//! Answers known from outside, with ample memory and with each request refused in turn.
+//! Known results, with ample memory and with each allocation failing in turn.
 mod columns;
 mod filters;
 mod first;
@@ -8,7 +8,7 @@ mod records;
 use std::fmt::Debug;
 use std::process::Abort;
 
-/// The two values are equal: what the tests compare by, which is proved once.
+/// Asserts that two values are equal. The tests call it so that this is proved once.
 fn equal<T: Copy + PartialEq + Debug>(rt: &impl Abort, given: T, wanted: T) {
     assert_eq!(rt; given, wanted);
 }

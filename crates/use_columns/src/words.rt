@@ -1,11 +1,11 @@
-//! Bits by way of their words.
+//! Bits, read word by word.
 ghost use Rattle.std.specs.Prelude.{◌≡◌};
 ghost use Rattle.vortex_buffer.specs.Bits.{bits, count};
 ghost use Rattle.vortex_buffer.specs.InBytes.{InBytes};
 
 use vortex_buffer::BitChunks;
 
-/// How many bits of the window are true, counted word by word.
+/// Returns the number of set bits of the window, counted word by word.
 pub fn count_words(bytes: &[u8], offset: usize, len: usize) -> usize
     requires window { InBytes bytes.now offset len }
     ensures { result ≡ count (bits bytes.now offset len) }

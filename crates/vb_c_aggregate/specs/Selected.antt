@@ -16,12 +16,12 @@ selected values mask m = kept_by (bits mask m (length values)) values
 abbrev pub sum_of : {T : Type 0} → (T → ℤ) → List T → List ℕ → ℕ → ℤ
 sum_of number values mask m = int_sum (map number (selected values mask m))
 
--- the least of them; None where there are none
+-- the least of them; None if there are none
 abbrev pub LeastOf : {T : Type 0} → (T → ℤ) → List T → List ℕ → ℕ → Option T → Type 0
 LeastOf number values mask m least =
     MatchOption least (selected values mask m ≡ []) (IsLeast number (selected values mask m))
 
--- the greatest of them; None where there are none
+-- the greatest of them; None if there are none
 abbrev pub GreatestOf : {T : Type 0} → (T → ℤ) → List T → List ℕ → ℕ → Option T → Type 0
 GreatestOf number values mask m greatest =
     MatchOption greatest (selected values mask m ≡ [])
@@ -31,7 +31,7 @@ GreatestOf number values mask m greatest =
 abbrev pub float_sum_of : {T : Type 0} → Format → (T → Float) → List T → List ℕ → ℕ → Float
 float_sum_of format float values mask m = float_sum format (map float (selected values mask m))
 
--- the first number among them, in an order; None where there are only NaNs
+-- the first number among them, in an order; None if there are only NaNs
 abbrev pub FirstOf : {T : Type 0} → (Float → Float → Ordering) → (T → Float) → List T → List ℕ
     → ℕ → Option T → Type 0
 FirstOf order float values mask m first =

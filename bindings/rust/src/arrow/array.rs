@@ -164,9 +164,9 @@ impl Array {
         Ok(Validity::new(bits, self.len))
     }
 
-    /// Returns the number of null rows: all rows of an array of the null type. Of other types it is
-    /// the array's own number if that is 0 or these are all of its rows; otherwise this counts the
-    /// bits. Rows that name a null item of a dictionary are not counted.
+    /// Returns the number of null rows: all rows of an array of the null type. For other types it
+    /// is the array's own count if that is 0 or if these are all of its rows; otherwise the call
+    /// counts the validity bits. Rows that name a null item of a dictionary are not counted.
     ///
     /// # Errors
     ///
@@ -334,8 +334,8 @@ impl Array {
         }
     }
 
-    /// Returns the children: of a struct or a sparse union with these rows only, of other types
-    /// whole.
+    /// Returns the children. Those of a struct or a sparse union have only these rows; those of
+    /// other types are whole.
     pub(super) fn parts(&self) -> impl ExactSizeIterator<Item = Array> + '_ {
         let has_rows = self.children_have_rows();
         let children = self.node.children.iter();

@@ -86,7 +86,7 @@ pub enum ArrowError {
         /// The names of the columns from the outermost one on, with a point between two; empty for
         /// the array itself. A child without a name has its index instead.
         column: String,
-        /// What is wrong with it.
+        /// The fault of the struct.
         fault: Fault,
     },
     /// The array has another type than the call needs.
@@ -164,10 +164,11 @@ pub enum ArrowError {
     TooLong {
         /// The name of the column.
         column: String,
-        /// What they count: rows, rows of runs, bytes of texts, buffers of views, or items of
-        /// lists, of a union or of a dictionary.
+        /// The kind of things that they count: rows, rows of runs, bytes of texts, buffers of
+        /// views, or items of lists, of a union or of a dictionary.
         what: &'static str,
-        /// Their number. For offsets it ends with the first row that ends too far.
+        /// Their number. For offsets it counts up to the end of the first row that an offset can't
+        /// represent.
         number: usize,
         /// The greatest number that the type can represent.
         most: i64,
@@ -181,7 +182,7 @@ pub enum ArrowError {
     },
 }
 
-/// What is wrong with a struct of the interface.
+/// The fault of a struct of the interface.
 #[derive(Clone, Debug, PartialEq, Eq)]
 #[non_exhaustive]
 pub enum Fault {
@@ -207,7 +208,7 @@ pub enum Fault {
     },
     /// The struct has another number of these than its type.
     Number {
-        /// What they are: buffers or children.
+        /// The kind of them: buffers or children.
         of: &'static str,
         /// The number that the type has.
         wanted: i64,

@@ -171,8 +171,8 @@ impl Field {
         self.children.iter().map(AsRef::as_ref)
     }
 
-    /// Returns the child with this name, the first one if several have it. An operator can so look
-    /// up a column in the type of a stream, and pass its field on.
+    /// Returns the child with this name, the first one if several have it. With this call an
+    /// operator can look up a column in the type of a stream and forward its field.
     ///
     /// ```
     /// use vortex_bits::arrow::Field;

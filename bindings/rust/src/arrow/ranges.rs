@@ -79,7 +79,7 @@ impl<'a> Ranges<'a> {
     }
 
     /// Writes the spans of up to 64 rows, and returns the start of the first. It returns None if a
-    /// row doesn't exist, or the rows have more bytes or items than an `i32` can tell.
+    /// row doesn't exist, or the rows have more bytes or items than an `i32` can represent.
     #[inline]
     pub(super) fn write_spans(&self, rows: Range<usize>, out: &mut Spans) -> Option<usize> {
         let all = self.span(rows.clone())?;

@@ -116,7 +116,7 @@ impl<B: Grow> Bitmap<B> {
     pub fn append(&mut self, value: bool) {
         let (bytes, offset, len) = self.owned();
         let end = offset + *len;
-        // No memory has as many bits as an address of 64 bits counts.
+        // With 64-bit addresses no memory has `usize::MAX` bits.
         assert!(usize::BITS == 64 || end < usize::MAX, "an end is a usize");
         match bytes.byte_mut(end / 8) {
             Some(byte) => *byte = *byte & !(1 << (end % 8)) | u8::from(value) << (end % 8),

@@ -9,7 +9,7 @@ const ROOM: usize = 64;
 pub trait Find: Clone {
     type Item: Copy + Default;
 
-    /// Writes the first items of the window to `out`, as many as fit, and returns their number.
+    /// Writes the first items of the window to `out`, up to its length, and returns their number.
     fn find(bits: Bits<'_>, out: &mut [Self::Item]) -> usize;
 
     /// Returns the index after an item.

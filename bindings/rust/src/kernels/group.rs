@@ -43,7 +43,7 @@ pub fn group_counts<I: BitIndex>(
 }
 
 /// Adds the selected values to the sums of their groups. There is one value per code. Returns the
-/// same.
+/// first selected row whose code has no sum, with the sums unchanged; None if there is none.
 #[inline]
 pub fn group_sums<V: GroupSummand, I: BitIndex>(
     sums: &mut [V::Sum],

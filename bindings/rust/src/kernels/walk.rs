@@ -1,5 +1,5 @@
 //! Writes the indices and runs of set bits into a slice. The C functions skip four words of zeros
-//! at once, and these words may lie on two pages of memory. So the calls here pass a window page by
+//! at once, and these words may be on two pages of memory. So the calls here pass a window page by
 //! page, and pass no further page once the slice is full.
 
 use super::Run;
@@ -55,9 +55,8 @@ indices! {
     u32, set_indices_u32;
 }
 
-/// Writes the indices of the set bits to the front of `out`, as many as fit, and returns their
-/// number.
-/// The type can represent each index of the window.
+/// Writes the indices of the set bits to the front of `out`, up to its length, and returns their
+/// number. The type can represent each index of the window.
 #[inline]
 pub fn set_indices<I: Index>(bits: Bits<'_>, out: &mut [I]) -> usize {
     #[cfg(vortex_bits_native)]
@@ -67,7 +66,7 @@ pub fn set_indices<I: Index>(bits: Bits<'_>, out: &mut [I]) -> usize {
     portable::set_indices(bits, out)
 }
 
-/// Writes the runs of set bits to the front of `out`, as many as fit, and returns their number.
+/// Writes the runs of set bits to the front of `out`, up to its length, and returns their number.
 #[inline]
 pub fn set_slices(bits: Bits<'_>, out: &mut [Run]) -> usize {
     #[cfg(vortex_bits_native)]

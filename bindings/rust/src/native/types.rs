@@ -59,7 +59,7 @@ impl From<SignedWide> for i128 {
     }
 }
 
-/// A value, or none: `value` says something only where `has_value` is true.
+/// A value, or none: `value` is meaningful only if `has_value` is true.
 #[repr(C)]
 pub struct Optional<T> {
     has_value: bool,

@@ -60,8 +60,8 @@ fn extreme<T: Float>(
     (best != worst || is_there(worst)).then_some(best)
 }
 
-/// Returns the same as [`all`] if `add` may be called in any order, and with `start` more often.
-/// There are eight results until the end, so that no value waits for the last one's.
+/// Returns the same as [`all`] if `add` may be called in any order, and with `start` more often. It
+/// keeps eight partial results until the end, so that no addition waits for the one before it.
 #[inline]
 fn in_lanes<T: Copy>(values: &[T], start: T, add: impl Fn(T, T) -> T + Copy) -> T {
     let mut lanes = [start; 8];

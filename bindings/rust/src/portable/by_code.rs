@@ -51,7 +51,8 @@ struct Bitmaps<'a> {
 
 impl Bitmaps<'_> {
     /// Sets the bits of up to 64 rows, of which the first is bit 0 of byte `at` of each bitmap.
-    /// Returns the first selected row whose code has no bitmap. Behind its eight it sets none.
+    /// Returns the first selected row whose code has no bitmap. It sets no bits after the group of
+    /// eight that has that row.
     #[inline]
     fn set_many<I: BitIndex>(&mut self, at: usize, codes: &[I], selected: u64) -> Option<usize> {
         let mut eights = codes.chunks(8).zip(selected.to_le_bytes()).enumerate();

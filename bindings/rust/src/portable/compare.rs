@@ -41,7 +41,7 @@ fn pack_one<T: Compare>(out: &mut Written<'_>, values: &[T], is_true: impl Fn(T)
 /// Packs whether each value of the type `i64` is below `end`, with the bits of `flip` negated. All
 /// values are below None.
 ///
-/// The sign of the difference tells it, unless the two numbers have different signs. For `<` and
+/// The sign of the difference shows it, unless the two numbers have different signs. For `<` and
 /// `>` this takes half the instructions; for `<=` and `>=` the compiler's own code takes fewer.
 fn below<T: Compare>(out: &mut Written<'_>, values: &[T], end: Option<i64>, flip: u64) {
     let number = |value: T| signed(&value).unwrap_or_default();
@@ -96,7 +96,7 @@ fn word_of<T: Copy>(values: &[T; 64], others: &[T; 64], hold: impl Fn(T, T) -> b
     super::write::word_of(&answers, |answer| answer)
 }
 
-/// The same for fewer than 64 values.
+/// Does the same for fewer than 64 values.
 fn few<T: Copy>(values: &[T], others: &[T], hold: impl Fn(T, T) -> bool) -> u64 {
     let digits = values.iter().zip(others).enumerate();
     digits.fold(0, |word, (at, (&value, &other))| {

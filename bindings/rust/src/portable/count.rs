@@ -15,19 +15,20 @@ const ADDS_UP: bool = cfg!(all(
     not(target_feature = "popcnt")
 ));
 
-/// The number of bytes of a block, which has eight pairs of words. The compiler makes a vector of
-/// each pair.
+/// The number of bytes of a block, which has eight pairs of words. The compiler keeps each pair in
+/// a vector.
 const SIZE: usize = 8 * size_of::<[u64; 2]>();
 
-/// The number of set bits of blocks. It adds up words digit by digit, so that it counts the bits of
-/// one word in eight: without an instruction for that, the bits of a word take a dozen.
+/// The number of set bits of blocks. It adds up words digit by digit, and then counts the bits of
+/// only one word in eight. Without an instruction for it, counting the bits of a word takes a dozen
+/// instructions.
 #[derive(Default)]
 struct Tally {
     /// For each bit of a pair the lowest three digits of the number of pairs in which it is set.
     ones: [u64; 2],
     twos: [u64; 2],
     fours: [u64; 2],
-    /// The rest of these numbers, in sum, by eights.
+    /// The sum of these numbers without those digits, in units of eight.
     eights: [u64; 2],
 }
 
@@ -70,8 +71,8 @@ fn word_of(block: &[u8], at: usize) -> u64 {
     eight_of(&block[8 * at..][..8])
 }
 
-/// Calls `add` for each pair of blocks of two windows of bytes. In a separate function, with the
-/// tallies in memory, the compiler finds the vectors.
+/// Calls `add` for each pair of blocks of two windows of bytes. It is a separate function, with the
+/// tallies in memory, so that the compiler vectorizes it.
 #[inline(never)]
 fn add_blocks<T>(
     tallies: &mut T,
@@ -159,7 +160,7 @@ fn nth(
     None
 }
 
-/// The same word by word. If there are too few bits, the error is `n` minus their number.
+/// Does the same word by word. If there are too few bits, the error is `n` minus their number.
 #[inline]
 fn nth_by_words(bits: Bits<'_>, n: usize, seen: impl Fn(u64) -> u64) -> Result<usize, usize> {
     let mut left = n;
@@ -306,10 +307,10 @@ fn after_blocks<'a, T>(
     (rest(left), rest(right))
 }
 
-/// Folds the words of two windows of one length, in their order. Where both begin at the same bit
-/// of a byte, it folds the bits up to the next byte first, so that it then reads whole words of
-/// bytes; otherwise whole words by [`quick_words`]. The rest is the last word. Zeros fill up words
-/// of fewer bits.
+/// Folds the words of two windows of one length, in their order. If both begin at the same bit of a
+/// byte, it first folds the bits up to the next byte, and then reads whole words of bytes;
+/// otherwise it reads whole words by [`quick_words`]. The remaining bits are the last word. Zeros
+/// fill up words of fewer bits.
 #[inline]
 fn fold<A>(left: Bits<'_>, right: Bits<'_>, first: A, f: impl Fn(A, u64, u64) -> A) -> A {
     let (digit, len) = (left.offset() % 8, left.len());

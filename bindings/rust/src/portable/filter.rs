@@ -22,7 +22,7 @@ pub fn filter(out: &mut Written<'_>, source: Bits<'_>, mask: Bits<'_>) {
             out.write(at, 64, pending);
             at += 64;
             full -= 64;
-            // Of this word's bits the highest `full` are left.
+            // The highest `full` bits of this word are left.
             pending = word.checked_shr(kept - full).unwrap_or(0);
         }
     }

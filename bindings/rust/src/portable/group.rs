@@ -17,7 +17,7 @@ pub fn group_counts<I: BitIndex>(
 }
 
 /// Adds the selected values to the sums of their groups. There is one value per code. Returns the
-/// same.
+/// first selected row whose code has no sum, with the sums unchanged; None if there is none.
 pub fn group_sums<V: GroupSummand, I: BitIndex>(
     sums: &mut [V::Sum],
     codes: &[I],
@@ -34,9 +34,10 @@ pub fn group_sums<V: GroupSummand, I: BitIndex>(
     past
 }
 
-/// Replaces the best value of each group by the selected ones of it that are better. There is one
-/// value per code. A value that doesn't equal itself, such as a NaN, isn't better than any, and each
-/// other one is better than it. Returns the same.
+/// Replaces the best value of each group by each selected value of the group that is better. There
+/// is one value per code. A value that doesn't equal itself, such as a NaN, isn't better than any,
+/// and each other one is better than it. Returns the first selected row whose code has no best
+/// value, with these unchanged; None if there is none.
 pub fn group_best<V: PartialOrd + Copy, I: BitIndex>(
     best: &mut [Option<V>],
     codes: &[I],
@@ -59,8 +60,8 @@ pub fn group_best<V: PartialOrd + Copy, I: BitIndex>(
     past
 }
 
-/// Adds as [`add`] does. If a code has no total, `minus` then takes away what the rows before it
-/// have added.
+/// Adds as [`add`] does. If a code has no total, it calls `minus` to subtract the values that the
+/// rows before it have added.
 #[inline]
 fn add_or_undo<I: BitIndex, V: Copy, S: Copy>(
     totals: &mut [S],

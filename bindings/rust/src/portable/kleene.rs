@@ -45,7 +45,7 @@ fn write_where(out: &mut Written<'_>, (bits, valid): Column<'_>, which: bool) {
     }
 }
 
-/// The same for at most 64 truth values.
+/// Does the same for at most 64 truth values.
 #[inline]
 pub fn combine_truth_word(
     trues: &mut Written<'_>,

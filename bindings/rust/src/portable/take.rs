@@ -41,8 +41,8 @@ fn none_past<I: BitIndex>(bits: Bits<'_>, indices: &[I]) -> u64 {
     word >> (64 - indices.len())
 }
 
-/// The same, with a second word of the indices that are out of bounds, whose bits in the first word
-/// are arbitrary. It has no branch.
+/// Returns the same, and a second word with the indices that are out of bounds. Their bits in the
+/// first word are arbitrary. It has no branch.
 fn some_past<I: BitIndex>(bits: Bits<'_>, indices: &[I]) -> (u64, u64) {
     let (mut word, mut past) = (0, 0);
     for index in indices {
@@ -79,8 +79,8 @@ pub fn and_is_in<I: BitIndex>(out: &mut Written<'_>, bits: Bits<'_>, indices: &[
     members(out, bits, indices, own);
 }
 
-/// Writes whether the bits at the indices are set, of those that `selected` returns for a window,
-/// the index of a word, and the number of its bits.
+/// Writes a bit per index: whether it is selected and names a set bit. `selected` gets the window,
+/// the index of a word and the number of its bits, and returns the bits of the selected indices.
 #[inline]
 fn members<I: BitIndex>(
     out: &mut Written<'_>,
@@ -99,7 +99,7 @@ fn members<I: BitIndex>(
     }
 }
 
-/// The same for the selected indices of a block, one by one.
+/// Returns the same for the selected indices of a block, one by one.
 #[inline]
 fn some_among<I: BitIndex>(bits: Bits<'_>, indices: &[I], selected: u64) -> u64 {
     let (mut word, mut left) = (0, selected);
@@ -125,8 +125,8 @@ fn among<I: BitIndex>(bits: Bits<'_>, indices: &[I]) -> u64 {
     })
 }
 
-/// The same for up to eight indices. An index that is out of bounds reads the last byte, and its
-/// bit is then discarded: whether it is often can't be predicted, and so isn't a branch.
+/// Returns the same for up to eight indices. For an index that is out of bounds it reads the last
+/// byte, and discards the bit. It doesn't branch on that, since it often can't be predicted.
 #[inline]
 fn few_among<I: BitIndex>(bits: Bits<'_>, indices: &[I]) -> u64 {
     let (bytes, offset, len) = (bits.bytes(), bits.offset(), bits.len());

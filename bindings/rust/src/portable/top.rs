@@ -51,12 +51,12 @@ pub fn keep_best<T: PartialOrd + Copy>(
 }
 
 /// The greatest number of new values that are inserted. A sort of all values would compare each of
-/// them and allocate memory for half of them; so few need no memory but the stack, to be sorted
-/// and to be moved.
+/// them and allocate memory for half of them. The sort and the moves of so few values need only the
+/// stack.
 const FEW: usize = 16;
 
-/// Inserts the values from `sorted` on among those before, each one behind its equals. It doesn't
-/// allocate.
+/// Inserts the values from index `sorted` on among those before, each one after its equals. It
+/// doesn't allocate.
 fn insert<T: Copy>(
     best: &mut [(T, usize)],
     sorted: usize,
@@ -74,8 +74,8 @@ fn insert<T: Copy>(
     }
 }
 
-/// Returns which of up to 64 values pass the test. In most blocks none does, which a loop without a
-/// branch finds.
+/// Returns which of up to 64 values pass the test. In most blocks none does; a loop without
+/// branches tests that first.
 #[inline]
 fn better<T: Copy>(values: &[T], is_better: impl Fn(T) -> bool + Copy) -> u64 {
     if !values

@@ -97,7 +97,7 @@ pub fn byte_words(bits: Bits<'_>) -> impl ExactSizeIterator<Item = u64> {
 }
 
 /// Returns eight bytes as a little-endian number. It doesn't branch for fewer bytes, so that the
-/// compiler makes vectors of a loop.
+/// compiler vectorizes loops over it.
 #[inline]
 pub fn eight_of(bytes: &[u8]) -> u64 {
     bytes
@@ -123,8 +123,8 @@ pub fn write(bytes: &mut [u8], offset: usize, len: usize, word: u64) {
     }
 }
 
-/// The same from bit `shift` of the first byte on. It is a separate function, so that loops over
-/// whole words stay small.
+/// Does the same from bit `shift` of the first byte on. It is a separate function, so that loops
+/// over whole words stay small.
 #[inline(never)]
 fn merge(bytes: &mut [u8], shift: usize, len: usize, word: u64) {
     let (mask, word) = (low(len), word & low(len));

@@ -154,8 +154,8 @@ fn merged(own: u64, mask: u64, right: u64, of: impl Fn(u64, u64) -> u64) -> [u8;
     (own & !mask | of(own, right) & mask).to_le_bytes()
 }
 
-/// The same as [`each`] for more than 64 bits: first the rest of the first byte, then whole words
-/// of bytes, then the last bits, which are among the last eight bytes.
+/// Does [`each`] for more than 64 bits: first the rest of the first byte, then whole words of
+/// bytes, then the last bits, which are among the last eight bytes.
 #[inline]
 fn each_of_many(out: &mut Written<'_>, source: impl Source, of: impl Fn(u64, u64) -> u64 + Copy) {
     let (digit, len) = (out.offset(), out.len());
@@ -180,8 +180,8 @@ fn each_of_many(out: &mut Written<'_>, source: impl Source, of: impl Fn(u64, u64
     }
 }
 
-/// The same for the whole words of some bytes. In a separate function the compiler sees that the
-/// written bytes overlap none that are read, and that each word has eight bytes.
+/// Does the same for the whole words of some bytes. It is a separate function, so that the compiler
+/// knows that the bytes it writes don't overlap those it reads, and that each word has eight bytes.
 #[inline(never)]
 fn each_whole<W: Iterator<Item = u64>>(
     bytes: &mut [u8],
@@ -279,8 +279,8 @@ pub(super) fn pack_wide<T: Copy>(
     }
 }
 
-/// Each lane collects every eighth value, so that the compiler shifts and adds vectors of results
-/// as wide as the values. To narrow them to bytes takes twice the instructions.
+/// Packs 64 values. Each lane collects every eighth value, so that the compiler shifts and adds
+/// vectors of results as wide as the values. Narrowing them to bytes takes twice the instructions.
 #[inline]
 fn lanes_of<T: Copy>(values: &[T; 64], is_true: impl Fn(T) -> bool) -> u64 {
     let mut lanes = [0; 8];
@@ -293,8 +293,8 @@ fn lanes_of<T: Copy>(values: &[T; 64], is_true: impl Fn(T) -> bool) -> u64 {
     digits.fold(0, |word, (at, lane)| word | lane << at)
 }
 
-/// It multiplies eight bytes of 0 or 1 by a number that moves each of them to its bit of the
-/// highest byte.
+/// Packs 64 values. It multiplies eight bytes of 0 or 1 by a number that moves each of them to its
+/// bit of the highest byte.
 #[inline]
 pub fn word_of<T: Copy>(values: &[T; 64], is_true: impl Fn(T) -> bool) -> u64 {
     let bytes = values.map(|value| u8::from(is_true(value)));
@@ -307,7 +307,7 @@ pub fn word_of<T: Copy>(values: &[T; 64], is_true: impl Fn(T) -> bool) -> u64 {
     u64::from_le_bytes(packed)
 }
 
-/// The same for fewer than 64 values.
+/// Does the same for fewer than 64 values.
 pub(super) fn few<T: Copy>(values: &[T], is_true: impl Fn(T) -> bool) -> u64 {
     let digits = values.iter().enumerate();
     digits.fold(0, |word, (at, &value)| {

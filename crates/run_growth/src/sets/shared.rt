@@ -35,7 +35,7 @@ fn thaw_and_freeze(set: BitBuffer) -> Result<BitBuffer> {
         Ok(open) => Ok(open.freeze()?),
         Err(set) => {
             drop(set);
-            bail!("the set has one owner")
+            bail!("the set has another owner")
         }
     }
 }

@@ -54,7 +54,7 @@ fn thaw_and_freeze(buffer: Buffer<u64>) -> Result<Buffer<u64>> {
         Ok(open) => Ok(open.freeze()?),
         Err(buffer) => {
             drop(buffer);
-            bail!("the buffer has one owner")
+            bail!("the buffer has another owner")
         }
     }
 }

@@ -1,4 +1,4 @@
-//! Answers known from outside, with ample memory and with each request refused in turn.
+//! Known results, with ample memory and with each allocation failing in turn.
 use crate::tests::equal;
 use crate::{Column, PageError, Run, decode_dictionary, decode_runs, masked_sum, read_page};
 use std::alloc::Allocator;
@@ -17,7 +17,7 @@ fn a_null_is_not_summed(rt: HostRuntime) {
 /// A column that is decoded.
 const COLUMN: &[u32] = &[40, 40, 50];
 
-/// What was decoded is [`COLUMN`].
+/// Asserts that the decoded column is [`COLUMN`].
 fn is_decoded<A: Allocator>(rt: &impl Abort, made: Result<Buffer<u32, A>>) -> Result<()> {
     let column = made?;
     assert_eq!(rt; column.as_slice(), COLUMN);
@@ -25,14 +25,14 @@ fn is_decoded<A: Allocator>(rt: &impl Abort, made: Result<Buffer<u32, A>>) -> Re
     Ok(())
 }
 
-/// The runs of [`COLUMN`], of which one is empty.
+/// The runs of [`COLUMN`], one of which is empty.
 const RUNS: &[Run] = &[
     Run { value: 40, len: 2 },
     Run { value: 9, len: 0 },
     Run { value: 50, len: 1 },
 ];
 
-/// Decodes the column of its runs and of codes.
+/// Decodes the column from its runs and from codes.
 fn decoded<A: Allocator + Clone>(rt: &impl Abort, alloc: A) -> Result<()> {
     is_decoded(rt, decode_runs(alloc.clone()?, RUNS))?;
     is_decoded(rt, decode_dictionary(alloc, &[50, 40], &[1, 1, 0]))
@@ -59,7 +59,7 @@ fn the_first_unknown_code_is_told(rt: HostRuntime) {
 /// A page of three rows, of which the second is null.
 const PAGE: &[u8] = b"\x03\xFD\x09\0\0\0\x07\0\0\0\0\x01\0\0";
 
-/// The column is that of the page, by its nulls, its sum and its ends.
+/// Asserts that the column is that of the page, by its nulls, sum, minimum and maximum.
 fn is_of_page<A: Allocator + Clone>(rt: &impl Abort, column: &Column<A>) {
     equal(rt, (column.len(), column.null_count()), (3, 1));
     let few = column.len() < 4_294_967_296;

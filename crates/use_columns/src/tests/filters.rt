@@ -1,4 +1,4 @@
-//! Answers known from outside, with ample memory and with each request refused in turn.
+//! Known results, with ample memory and with each allocation failing in turn.
 use crate::tests::equal;
 use crate::{Condition, filtered, rows_failing, rows_where};
 use std::alloc::Global;
@@ -8,11 +8,11 @@ use vortex_buffer::{BitBuffer, Buffer, BufferError, Filter, Result};
 
 type Heap<'a> = &'a Refusing<Global>;
 
-/// Five ages, of which the third is null.
+/// Five ages, the third of which is null.
 const AGES: &[u32] = &[31, 17, 0, 54, 18];
 
-/// A condition, the valid ages that meet it, which of all that meet it are of members, and how many
-/// requests are made.
+/// A condition, the valid ages that meet it, which of all ages that meet it are those of members,
+/// and the number of allocations.
 type Row = (Condition, &'static [u32], &'static [bool], u64);
 
 const ROWS: &[Row] = &[
@@ -24,7 +24,7 @@ const ROWS: &[Row] = &[
         17,
     ),
     (Condition::Equals(54), &[54], &[false], 17),
-    // No age is kept: there are no bytes to ask for.
+    // No age is selected, so nothing is allocated for the values.
     (Condition::Equals(0), &[], &[true], 16),
 ];
 
@@ -71,7 +71,7 @@ fn filters_are_answered_or_refused(rt: HostRuntime) {
 }
 
 /// The masks of two conditions and which rows of each are valid, for each of the nine pairs of
-/// true, false and null: what stands at a null is true on the left and false on the right.
+/// true, false and null. The bit of a null is true on the left and false on the right.
 const MASKS: [&[bool]; 4] = [
     &[true, true, true, false, false, false, true, true, true],
     &[true, true, true, true, true, true, false, false, false],
@@ -79,7 +79,7 @@ const MASKS: [&[bool]; 4] = [
     &[true, true, false, true, true, false, true, true, false],
 ];
 
-/// The rows of which one side is known to be false.
+/// The rows where one side is known to be false.
 const FAILING: &[bool] = &[false, true, false, true, true, true, false, true, false];
 
 fn failing<'a>(heap: Heap<'a>) -> Result<BitBuffer<Heap<'a>>> {

@@ -1,4 +1,4 @@
-//! The examples of docstrings: what the calls that a user tries first return.
+//! The examples of docstrings: the results of the calls that a user tries first.
 use std::alloc::Global;
 use std::process::Abort;
 use vortex_buffer::{

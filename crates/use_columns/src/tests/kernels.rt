@@ -1,4 +1,4 @@
-//! Answers known from outside, with ample memory and with each request refused in turn.
+//! Known results, with ample memory and with each allocation failing in turn.
 use crate::tests::equal;
 use crate::{
     count_metered, count_words, greater, halved, rest_halved, select_narrow, through_bytes,
@@ -11,7 +11,7 @@ use vortex_buffer::{Buffer, BufferError, Result, trusted_len};
 
 type Heap<'a> = &'a Refusing<Global>;
 
-/// One chunk of 64 bytes and one byte behind it.
+/// One chunk of 64 bytes and one byte after it.
 #[test]
 fn what_is_read_is_metered(rt: HostRuntime) {
     let ones = [0xFFu8; 65];
@@ -22,8 +22,8 @@ fn what_is_read_is_metered(rt: HostRuntime) {
     equal(&rt, count_metered(&[], 0, 0), (0, 0));
 }
 
-/// A window that ends within a byte behind a word, one of a whole word, one within a byte, and one
-/// of no bits.
+/// A window of a word and bits within a byte after it, one of a whole word, one within a byte, and
+/// one of no bits.
 #[test]
 fn words_are_counted_to_the_end_of_their_window(rt: HostRuntime) {
     let bytes = [0b0011_0101u8; 9];
@@ -65,7 +65,7 @@ impl Call {
     }
 }
 
-/// The calls, what they make, and how many requests each makes.
+/// The calls, their columns, and the number of allocations of each.
 const ROWS: &[(Call, &[u32], u64)] = &[
     (Call::Halved, &[3, 0, 2_147_483_647], 2),
     (Call::RestHalved(0), &[3, 0, 2_147_483_647], 2),
@@ -75,7 +75,7 @@ const ROWS: &[(Call, &[u32], u64)] = &[
     (Call::ValuesOf, &[513, 16_777_471], 4),
 ];
 
-/// What was made has these values.
+/// Asserts that the column has these values.
 fn shows<A: Allocator>(
     rt: &impl Abort,
     made: Result<Buffer<u32, A>>,
@@ -102,7 +102,7 @@ fn columns_are_made_or_refused(rt: HostRuntime) {
     equal(&rt, shows(&rt, none, &[]), Ok(()));
 }
 
-/// That a range counts its numbers is a fact that a proof names.
+/// The proof names the lemma that a range counts its numbers.
 #[test]
 #[tactic(auto, using(vortex_buffer::proofs::Hints::unsigned_range_counts))]
 fn numbers_of_a_range_are_mapped(rt: HostRuntime) {

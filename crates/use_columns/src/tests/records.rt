@@ -1,4 +1,4 @@
-//! Files with known names, with ample memory and with each request refused in turn.
+//! Files with known names, with ample memory and with each allocation failing in turn.
 use crate::tests::equal;
 use crate::{ReadError, read_name};
 use std::alloc::Allocator;
@@ -9,10 +9,10 @@ use vortex_buffer::{AlignedBuf, Buffer, BufferError};
 /// The names "ab" and "", and a third that is cut short.
 const FILE: &[u8] = b"\x02ab\x00\x05c";
 
-/// The names of the file, each with how many bytes are left behind it.
+/// The names of the file, each with the number of bytes after it.
 const NAMES: &[(&str, usize)] = &[("ab", 3), ("", 2)];
 
-/// Reads the next name. Where memory is refused, the file stays as it was.
+/// Reads the next name. If memory runs out, the file is unchanged.
 fn reads<B: AlignedBuf, A: Allocator + Clone>(
     rt: &impl Abort,
     alloc: &A,
@@ -29,7 +29,7 @@ fn reads<B: AlignedBuf, A: Allocator + Clone>(
     Ok(())
 }
 
-/// Reads the two names, and meets the third.
+/// Reads the two names, and expects that the third is cut short.
 fn two_names<B: AlignedBuf, A: Allocator + Clone>(
     rt: &impl Abort,
     alloc: A,

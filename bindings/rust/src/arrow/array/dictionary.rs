@@ -86,8 +86,9 @@ impl Array {
     ///
     /// # Errors
     ///
-    /// - Returns [`ArrowError::Type`] if the column has no dictionary, or the items, the innermost
-    ///   ones if they have a dictionary too, have no validity bits by their type.
+    /// - Returns [`ArrowError::Type`] if the column has no dictionary, or if the type of the items
+    ///   has no validity bits. If the items have a dictionary too, this is the type of the
+    ///   innermost ones.
     /// - Returns [`ArrowError::Unaligned`] if the buffer of the indices isn't aligned for them.
     /// - Returns [`ArrowError::Take`] with the first valid index that names no item. It tests the
     ///   indices of the items first, if they have a dictionary.
@@ -120,8 +121,8 @@ impl Array {
     /// - Returns the errors of [`Array::texts`] of the items.
     /// - Returns [`ArrowError::Take`] with the first valid index that names no item.
     /// - Returns [`ArrowError::LongTexts`] if the texts are longer together than 2^31 - 1 bytes and
-    ///   their offsets have 32 bits, and [`ArrowError::Memory`] if memory can't hold them. Few
-    ///   items may belong to many rows.
+    ///   their offsets have 32 bits, and [`ArrowError::Memory`] if memory can't hold them. A few
+    ///   long items can belong to many rows.
     pub fn dictionary_texts(&self) -> Result<Export, ArrowError> {
         let items = self.items_of_indices()?;
         let texts = by_index!(self.texts_taken::<_>(&items))?;

@@ -12,8 +12,8 @@ use crate::arrow::field::Field;
 use crate::arrow::layout::{self, Layout, Of};
 use crate::{Bitmap, BitmapMut, Mask};
 
-/// Texts in memory of their own that grow. It appends rows one by one, or those of a batch that a
-/// mask selects, as [`values::filter_onto`](crate::values::filter_onto) appends values.
+/// Texts in their own memory, which can grow. It appends rows one by one, or those of a batch that
+/// a mask selects, as [`values::filter_onto`](crate::values::filter_onto) appends values.
 /// [`Export::from`](Export) exports them as texts of the type `U`, without a copy.
 ///
 /// ```

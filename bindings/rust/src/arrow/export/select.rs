@@ -275,7 +275,8 @@ fn export(field: Field, of: &[Array], rows: Rows<'_>) -> Result<Export, ArrowErr
     })
 }
 
-/// Copies rows of arrays of one type. Rows that take no memory may be more than an array can have.
+/// Copies rows of arrays of one type. If rows take no memory, there may be more of them than an
+/// array can have.
 fn selected(field: &Field, of: &[Array], rows: Rows<'_>) -> Result<Owned<ArrowArray>, ArrowError> {
     if i64::try_from(rows.len()).is_err() {
         return Err(too_long(field, "rows", rows.len(), i64::MAX));

@@ -106,8 +106,7 @@ offsets! {
     i64, u64;
 }
 
-/// Returns the offsets of a range. The compiler makes vectors of a loop over them that doesn't
-/// branch.
+/// Returns the offsets of a range. The compiler vectorizes a loop over them that doesn't branch.
 #[inline]
 fn numbers<T: Offset>(
     offsets: Unaligned<'_, T>,
@@ -162,7 +161,8 @@ pub(super) fn write_ends<T: Offset>(
 }
 
 /// The start of each of 64 rows, counted from the start of the first, and its length. Lengths are
-/// loaded as they were stored: from starts and ends, a processor would have to wait for two stores.
+/// stored too: to compute one from a start and an end, a processor would have to wait for two
+/// stores.
 pub(in crate::arrow) struct Spans {
     pub(in crate::arrow) starts: [u32; 64],
     pub(in crate::arrow) lens: [u32; 64],
@@ -175,8 +175,8 @@ impl Default for Spans {
     }
 }
 
-/// Writes the spans of these rows, at most 64. Those behind them are empty. In a separate function
-/// the compiler sees that the written numbers overlap none that are read.
+/// Writes the spans of these rows, at most 64. Those behind them are empty. It is a separate
+/// function, so that the compiler knows that the numbers it writes don't overlap those it reads.
 #[inline(never)]
 pub(super) fn write_spans<T: Offset>(
     offsets: Unaligned<'_, T>,

@@ -7,8 +7,8 @@ use crate::arrow::ranges::{Ranges, Spans};
 use crate::portable::word_of;
 
 /// The bytes of up to 64 rows, and where the rows are in them. There are always 64: those behind
-/// the last one are empty. So loops over them have a known length, and the compiler makes vectors
-/// of them.
+/// the last one are empty. So loops over them have a known length, and the compiler vectorizes
+/// them.
 #[derive(Clone, Copy)]
 pub(super) struct Block<'a> {
     /// From the start of the first row to the end of the buffer.
@@ -57,21 +57,21 @@ impl<'a> Block<'a> {
         u64::from(low) | u64::from(high) << 32
     }
 
-    /// Returns eight bytes of a row from `behind` on as a little-endian number, with others behind
-    /// those that the row has.
+    /// Returns eight bytes from index `behind` of a row on, as a little-endian number. Bytes after
+    /// the end of the row are arbitrary.
     #[inline]
     pub(super) fn eight(self, row: usize, behind: usize) -> u64 {
         eight_at(self.bytes, self.spans.starts[row] as usize + behind)
     }
 
-    /// Returns which of `rows` pass a test of eight bytes as a little-endian number: those that the
-    /// row begins with, with others behind those that it has.
+    /// Returns which of `rows` pass a test of their first eight bytes as a little-endian number.
+    /// Bytes after the end of the row are arbitrary.
     #[inline]
     pub(super) fn starts_that(self, rows: u64, test: impl Fn(u64) -> bool) -> u64 {
         eights_that(self.bytes, &self.spans.starts, rows, test)
     }
 
-    /// The same for eight bytes from `back` bytes before the end of the row on.
+    /// Does the same for the eight bytes that begin `back` bytes before the end of the row.
     #[inline]
     pub(super) fn ends_that(self, back: u32, rows: u64, test: impl Fn(u64) -> bool) -> u64 {
         let mut places = self.spans.starts;
@@ -81,7 +81,7 @@ impl<'a> Block<'a> {
         eights_that(self.bytes, &places, rows, test)
     }
 
-    /// Returns the row of 64 that has the byte at a place.
+    /// Returns which of the 64 rows has the byte at an index.
     #[inline]
     pub(super) fn row_of(self, place: usize) -> usize {
         let starts = &self.spans.starts;
@@ -89,8 +89,9 @@ impl<'a> Block<'a> {
     }
 }
 
-/// Returns which of 32 numbers pass the test. It is a separate function, so that the compiler makes
-/// vectors of 32 bits for each number: for those of a word it takes twice as many instructions.
+/// Returns which of 32 numbers pass the test. It is a separate function with a result of 32 bits,
+/// so that the compiler uses vectors with 32 bits per number: a result of 64 bits takes twice as
+/// many instructions.
 #[inline(never)]
 fn half(numbers: &[u32; 32], test: impl Fn(u32) -> bool) -> u32 {
     let numbers = DIGITS.iter().zip(numbers);
@@ -110,13 +111,14 @@ const DIGITS: [u32; 32] = {
     digits
 };
 
-/// Returns for which of 64 places in some bytes the eight bytes from there on pass the test, as a
-/// little-endian number, of those that `wanted` has.
+/// Returns which of 64 indices pass the test, among those whose bit of `wanted` is set. The test
+/// gets the eight bytes from an index on, as a little-endian number.
 #[inline]
 fn eights_that(bytes: &[u8], places: &[u32; 64], wanted: u64, test: impl Fn(u64) -> bool) -> u64 {
     let (mut passed, end) = ([false; 64], 64 - wanted.leading_zeros() as usize);
-    // Eight at once, so that the compiler unrolls the inner loop. No place behind the last wanted
-    // one is read: it may be that of an empty row at the end of the bytes, which takes longer.
+    // Eight at once, so that the compiler unrolls the inner loop. It reads no group of eight after
+    // that of the last wanted index: later indices may be those of empty rows at the end of the
+    // bytes, which are slower to read.
     let eights = passed.chunks_exact_mut(8).zip(places.chunks_exact(8));
     for (passed, places) in eights.take(end.div_ceil(8)) {
         for (passed, place) in passed.iter_mut().zip(places) {

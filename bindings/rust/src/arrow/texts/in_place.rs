@@ -8,9 +8,10 @@ use crate::bits_mut::alike;
 use crate::portable::only_word;
 use crate::written::Written;
 
-/// Predicates that unset the bits of rows in a mask: `&=` with the bitmap of the predicate of the
-/// same name, which isn't made. So the terms of an `and` write one mask. Of 64 rows without a set
-/// bit none is read. A null row passes no predicate, so that its bit is unset.
+/// Predicates that unset the bits of the rows in a mask that fail them. The result is that of `&=`
+/// with the bitmap of the predicate with the same name, but no bitmap is allocated: all terms of an
+/// `and` write one mask. They don't read a group of 64 rows without a set bit. A null row passes no
+/// predicate, so its bit is unset.
 ///
 /// # Panics
 ///

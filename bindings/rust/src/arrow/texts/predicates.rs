@@ -85,8 +85,8 @@ impl Texts<'_> {
         self.test(&EndsWith::new(end.as_ref()))
     }
 
-    /// Returns a bitmap of the rows that contain these bytes, as `like '%b%'`. For each row it
-    /// takes at most the length of the row times the length of the bytes.
+    /// Returns a bitmap of the rows that contain these bytes, as `like '%b%'`. The time for each
+    /// row is at most proportional to the length of the row times the length of the bytes.
     ///
     /// ```
     /// use vortex_bits::Bitmap;
@@ -126,8 +126,9 @@ impl Texts<'_> {
         })
     }
 
-    /// Writes which rows pass the test, of the valid rows of each word of bits that `selected`
-    /// returns for a window, the index of its first row, and the number of its rows.
+    /// Writes a bit per row: whether it is selected, valid and passes the test. `selected` gets the
+    /// window, the index of a first row and a number of rows up to 64, and returns the bits of the
+    /// selected ones.
     #[inline]
     pub(super) fn write(
         &self,
@@ -156,8 +157,8 @@ impl Texts<'_> {
     }
 }
 
-/// Returns which rows of a buffer pass the test, of those of a range that `wanted` has. Other bits
-/// are arbitrary.
+/// Returns which rows of a range pass the test, among those whose bit of `wanted` is set. Other
+/// bits are arbitrary.
 #[inline]
 fn joined<T: Test>(
     ranges: Ranges<'_>,

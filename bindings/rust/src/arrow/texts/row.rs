@@ -4,8 +4,8 @@ use core::ops::Range;
 
 use crate::portable::first_eight;
 
-/// A row: a range of the bytes of a buffer. Most tests fail by its length, so nothing is read
-/// before that. Eight bytes are read at once, even behind the row, unless the buffer ends.
+/// A row: a range of the bytes of a buffer. Most rows fail a test by their length, so tests read no
+/// byte before that. They read eight bytes at once, even past the row, unless the buffer ends.
 #[derive(Clone, Copy)]
 pub(super) struct Row<'a> {
     buffer: &'a [u8],
@@ -39,8 +39,8 @@ impl<'a> Row<'a> {
         self.buffer.get(self.start..self.end)
     }
 
-    /// Returns the first eight bytes as a little-endian number, with others behind those that the
-    /// row has.
+    /// Returns the first eight bytes as a little-endian number. Bytes after the end of the row are
+    /// arbitrary.
     #[inline]
     pub(super) fn any_eight(self) -> u64 {
         eight_at(self.buffer, self.start)
@@ -105,8 +105,8 @@ fn equal_to(word: u64, byte: u8) -> u64 {
     other.wrapping_sub(ONES) & !other & ONES << 7
 }
 
-/// Returns eight bytes from a place on as a little-endian number. Missing bytes are 0. It tests
-/// only the end of the eight, but for those at the end of the bytes.
+/// Returns eight bytes from an index on as a little-endian number. Missing bytes are 0. It tests
+/// only whether the eight bytes end in bounds; the slow path is for the last ones.
 #[inline]
 pub(super) fn eight_at(bytes: &[u8], place: usize) -> u64 {
     let eight = bytes.get(place..place.wrapping_add(8));
@@ -116,7 +116,7 @@ pub(super) fn eight_at(bytes: &[u8], place: usize) -> u64 {
     }
 }
 
-/// Returns the bytes from a place on, fewer than eight, as a number.
+/// Returns the bytes from an index on, fewer than eight, as a number.
 #[cold]
 fn last_of(bytes: &[u8], place: usize) -> u64 {
     first_eight(bytes.get(place..).unwrap_or_default())

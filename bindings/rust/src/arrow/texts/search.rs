@@ -1,5 +1,5 @@
-//! A search for some bytes in many rows at once: for its first and its last byte, at 64 places by
-//! vectors, and then for all bytes where both are.
+//! Searches for some bytes in many rows at once. It compares the first and the last byte at 64
+//! indices by vectors, and then all bytes where both match.
 
 use core::ops::Range;
 
@@ -29,15 +29,15 @@ impl<'a> Part<'a> {
         self.text.bytes.len()
     }
 
-    /// Returns whether the part is at a place of some bytes.
+    /// Returns whether the part is at an index of some bytes.
     #[inline]
     fn is_at(&self, bytes: &[u8], place: usize) -> bool {
         self.text.begins(eight_at(bytes, place))
             && (self.len() <= 8 || bytes[place..].starts_with(self.text.bytes))
     }
 
-    /// Returns which of 64 places of some bytes, from `place` on, have the first byte of the part,
-    /// and its last byte as far behind as in the part.
+    /// Returns which of the 64 indices from `place` on have the first byte of the part, with its
+    /// last byte at the same distance as in the part.
     #[inline]
     fn candidates(&self, bytes: &[u8], place: usize) -> u64 {
         let firsts = sixty_four(bytes, place);
@@ -46,7 +46,7 @@ impl<'a> Part<'a> {
         for ((both, first), last) in both.iter_mut().zip(&firsts).zip(&lasts) {
             *both = u8::from(*first == self.first) & u8::from(*last == self.last);
         }
-        // Most places have none: it is faster to know that before the bits are packed.
+        // Most groups of 64 have no candidate. It is faster to test that before packing the bits.
         match both.iter().fold(0, |any, both| any | both) {
             0 => 0,
             _ => word_of(&both, |both| both == 1),
@@ -67,9 +67,9 @@ impl<'a> Part<'a> {
         passed
     }
 
-    /// Returns the rows of a block that contain the part at a candidate, one of 64 places from
-    /// `start` on, and the place from which on the search continues: no other place of a row is
-    /// tested.
+    /// Returns the rows of a block that contain the part at one of the candidates, which are among
+    /// the 64 indices from `start` on, and the index at which the search continues. After a match
+    /// it skips the rest of the row.
     #[inline]
     fn found(&self, block: Block<'_>, start: usize, candidates: u64) -> (u64, usize) {
         let (mut passed, mut left) = (0, candidates);
@@ -91,7 +91,7 @@ impl<'a> Part<'a> {
     }
 }
 
-/// Returns 64 bytes from a place on. Missing bytes are 0.
+/// Returns 64 bytes from an index on. Missing bytes are 0.
 #[inline]
 fn sixty_four(bytes: &[u8], place: usize) -> [u8; 64] {
     let all = bytes.get(place..place.wrapping_add(64));
@@ -101,7 +101,7 @@ fn sixty_four(bytes: &[u8], place: usize) -> [u8; 64] {
     }
 }
 
-/// Returns the bytes from a place on, fewer than 64, with zeros behind them.
+/// Returns the bytes from an index on, fewer than 64, with zeros after them.
 #[cold]
 fn last_of(bytes: &[u8], place: usize) -> [u8; 64] {
     let (mut all, bytes) = ([0; 64], bytes.get(place..).unwrap_or_default());

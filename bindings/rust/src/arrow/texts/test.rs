@@ -15,8 +15,8 @@ pub(super) trait Test {
     /// Tests a row.
     fn of_row(&self, row: Row<'_>) -> bool;
 
-    /// Returns which rows pass the test, of the rows of a block that `rows` has. Other bits are
-    /// arbitrary.
+    /// Returns which rows of a block pass the test, among those whose bit of `rows` is set. Other
+    /// bits are arbitrary.
     fn of_block(&self, block: Block<'_>, rows: u64) -> u64;
 }
 
@@ -27,7 +27,7 @@ pub(super) struct Text<'a> {
     /// The number of bytes. No row of a block has `u32::MAX`.
     len: u32,
     first: u64,
-    /// The bits of those of the first eight bytes that there are.
+    /// A mask of the first eight bytes that the text has.
     digits: u64,
 }
 
@@ -47,7 +47,8 @@ impl<'a> Text<'a> {
         (eight ^ self.first) & self.digits == 0
     }
 
-    /// Returns the rows that pass a test of all bytes, of those whose first eight match.
+    /// Returns the rows that match, among those whose first eight bytes match. Calls `test` only if
+    /// the text is longer.
     #[inline]
     fn all(&self, rows: u64, test: impl Fn(usize) -> bool) -> u64 {
         if self.bytes.len() <= 8 {
@@ -80,7 +81,8 @@ impl Test for Equals<'_> {
         let fit = rows & block.lens_that(|len| len == text.len);
         match text.bytes.len() {
             0..=8 => each_set(fit, |row| text.begins(block.eight(row, 0))),
-            // The last eight bytes and the first are all. Both are compared without a branch.
+            // The first eight bytes and the last eight are the whole text. It compares both without
+            // a branch.
             9..=16 => {
                 let behind = text.bytes.len() - 8;
                 let last = first_eight(&text.bytes[behind..]);

@@ -15,13 +15,13 @@ pub(super) struct Wanted<T> {
     texts: Vec<(u64, T)>,
     /// The bits of the texts' lengths.
     lengths: u64,
-    /// The bits of the high ends of their keys, and of those that more than one text has.
+    /// The bits of the high ends of their keys; `crowded` has those that more than one text has.
     highs: u64,
     crowded: u64,
     /// The index of the first text with each high end that a key has, if it is a `u8`. If not, all
     /// bits of `crowded` are set.
     places: [u8; 64],
-    /// The length of the shortest, and how much longer the longest is.
+    /// The length of the shortest; `longer` is the length of the longest minus that.
     shortest: u32,
     longer: u32,
 }
@@ -47,7 +47,7 @@ impl<T: AsRef<[u8]>> Wanted<T> {
         wanted
     }
 
-    /// Sets what is known of all texts.
+    /// Sets the fields that summarize the texts.
     fn note(&mut self) {
         let mut longest = 0;
         for (place, (key, text)) in self.texts.iter().enumerate().rev() {
@@ -72,8 +72,8 @@ impl<T: AsRef<[u8]>> Wanted<T> {
         self.highs >> high(key) & 1 == 1
     }
 
-    /// Returns the same as [`finds`](Wanted::finds), in fewer instructions where the key has a high
-    /// end that one text has.
+    /// Returns the same as [`finds`](Wanted::finds), in fewer instructions if only one text has the
+    /// high end of the key.
     #[inline]
     fn finds_most(&self, key: u64, row: &[u8]) -> bool {
         if self.crowded >> high(key) & 1 == 1 {
@@ -83,8 +83,8 @@ impl<T: AsRef<[u8]>> Wanted<T> {
         one.is_some_and(|(own, text)| *own == key && is(text.as_ref(), row))
     }
 
-    /// Returns whether a row with this key is one of the texts, at least one of which has its high
-    /// end. It is a separate function, so that loops over rows that it isn't called for stay small.
+    /// Returns whether a row with this key is one of the texts. At least one text must have the
+    /// high end of the key. It is a separate function, so that loops over other rows stay small.
     #[inline(never)]
     fn finds(&self, key: u64, row: &[u8]) -> bool {
         if self.texts.len() <= FEW {
@@ -134,8 +134,8 @@ fn order<T: AsRef<[u8]>>((own, text): &(u64, T), key: u64, row: &[u8]) -> Orderi
     own.cmp(&key).then_with(|| text.as_ref().cmp(row))
 }
 
-/// Returns a number that only texts with the same first eight bytes have, from these as a number.
-/// Its high end depends on all of them.
+/// Returns the key of the first eight bytes as a number. Different bytes have different keys, and
+/// the high end of a key depends on all bytes.
 #[inline]
 fn key(first: u64) -> u64 {
     first.wrapping_mul(0x9E37_79B9_7F4A_7C15)

@@ -1,4 +1,4 @@
--- The closure answers at each row whether its value meets the condition.
+-- The closure returns for each row whether its value meets the condition.
 use Rattle.std.proofs.Common.{rules, arith, ◌≡◌, ◌<◌, length, map, slice_index, refl, ap, ◌∙◌}
 use Rattle.std.proofs.lemmas.Result.{IfOk-weaker}
 use Rattle.vortex_buffer.proofs.AnswersLemmas.{CanAsk-from, Answers-from}

@@ -1,4 +1,4 @@
--- The rows that are valid and not true, of which it is known that they fail.
+-- The rows that are valid and not true: those that are known to fail.
 use Rattle.std.proofs.Common.{◌≡◌, ◌&&◌, not, true, Bool, List, Option, Some, length, map}
 use Rattle.std.proofs.Common.{is_some, sym, ap, ◌∙◌}
 use Rattle.std.proofs.lemmas.List.{length-map}

@@ -1,4 +1,4 @@
--- The comparison answers at each row whether its value meets the condition.
+-- The comparison returns for each row whether its value meets the condition.
 use Rattle.std.proofs.Common.{ℕ, Bool, pos, map, ap, ◌∙◌}
 use Rattle.std.proofs.lemmas.Result.{IfOk-weaker}
 use Rattle.use_columns.specs.Filters.{is_met}

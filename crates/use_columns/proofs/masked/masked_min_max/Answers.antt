@@ -1,4 +1,4 @@
--- The values so far and those that are still to come are those that the mask keeps.
+-- The values so far and the remaining ones are those that the mask selects.
 use Rattle.std.proofs.Common.{◌≡◌, ℕ, ◌<◌, List, [], ◌∷◌, ◌++◌, length, map, slice_index, sym, ap}
 use Rattle.std.proofs.Common.{subst, refl, ◌∙◌, arith}
 use Rattle.std.specs.List.{All}

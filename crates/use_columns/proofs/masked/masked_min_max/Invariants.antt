@@ -4,7 +4,7 @@ use Rattle.vortex_buffer.specs.Kept.{kept_by}
 use Rattle.use_columns.specs.Columns.{AreEnds}
 use Rattle.use_columns.proofs.masked.masked_min_max.Given as goal
 
--- the values so far have these ends, and those at the places that are still to come complete them
+-- the values so far have these ends, and the values at the remaining indices complete them
 abbrev pub invariant-loop-place : goal.invariant-loop-place
 invariant-loop-place g l = record {
   ends : (before : List ℕ)

@@ -1,4 +1,4 @@
--- The sum so far and the values that are still to come are those that the mask keeps.
+-- The sum so far and the remaining values are those that the mask selects.
 use Rattle.std.proofs.Common.{◌≡◌, ℕ, ◌<◌, ◌≤◌, List, length, slice_index, sym, ap, subst, ◌∙◌}
 use Rattle.std.proofs.Common.{arith}
 use Rattle.std.specs.List.{All, sum_by}

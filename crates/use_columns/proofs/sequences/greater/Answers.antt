@@ -1,4 +1,4 @@
--- What the closure made of each pair, in order.
+-- The results of the closure for the pairs, in order.
 use Rattle.std.proofs.Common.{rules, ◌≡◌, length, map, max, sym, ap, subst, ◌∙◌}
 use Rattle.std.proofs.lemmas.Result.{IfOk-weaker}
 use Rattle.std.proofs.lemmas.Simd.{map-map}

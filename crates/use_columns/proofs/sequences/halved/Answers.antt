@@ -1,4 +1,4 @@
--- What the closure made of each value, in order.
+-- The results of the closure for the values, in order.
 use Rattle.std.proofs.Common.{rules, ◌/◌, ℕ, map, sym, ap, subst, ◌∙◌}
 use Rattle.std.proofs.lemmas.Result.{IfOk-weaker}
 use Rattle.std.proofs.lemmas.Simd.{map-map}

@@ -4,7 +4,7 @@ use Rattle.std.specs.Prelude.{count_ones}
 use Rattle.vortex_buffer.specs.Bits.{bits, count}
 use Rattle.use_columns.proofs.words.count_words.Given as goal
 
--- the ones of the words that are still to come complete the count
+-- the ones of the remaining words complete the count
 abbrev pub invariant-loop-word : goal.invariant-loop-word
 invariant-loop-word l =
     l.ones + sum_by count_ones l.word-iterator ≡ count (bits l.bytes l.offset l.len)

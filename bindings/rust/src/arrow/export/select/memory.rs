@@ -48,7 +48,7 @@ pub(super) fn copied<T: Copy>(field: &Field, items: &[T]) -> Result<Vec<T>, Arro
 #[inline]
 pub(super) fn push<T>(field: &Field, items: &mut Vec<T>, item: T) -> Result<(), ArrowError> {
     if items.try_reserve(1).is_err() {
-        // It asks for twice the capacity, and for four items at first.
+        // It requests twice the capacity, at least four items.
         let wanted = items.capacity().saturating_mul(2).max(4);
         return Err(none_for(field, wanted.saturating_mul(size_of::<T>())));
     }

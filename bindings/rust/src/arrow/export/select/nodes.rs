@@ -1,4 +1,5 @@
-//! Which arrays are parts of one: what these share is neither copied nor moved.
+//! Finds arrays with the same node: the buffers and children that they share are neither copied nor
+//! moved.
 
 use alloc::collections::BTreeMap;
 use alloc::sync::Arc;
@@ -7,7 +8,8 @@ use alloc::vec::Vec;
 use crate::arrow::array::Array;
 use crate::arrow::node::Node;
 
-/// Returns the node that all of them are; None if there are several, or none. It does not allocate.
+/// Returns the node if all of them are the same one; None if there are several, or none. It does
+/// not allocate.
 pub(super) fn only<'a>(mut nodes: impl Iterator<Item = &'a Arc<Node>>) -> Option<&'a Arc<Node>> {
     let first = nodes.next()?;
     nodes.all(|it| Arc::ptr_eq(it, first)).then_some(first)
@@ -17,12 +19,12 @@ pub(super) fn only<'a>(mut nodes: impl Iterator<Item = &'a Arc<Node>>) -> Option
 pub(super) struct Nodes {
     /// Each node once, whole, in the order in which they first occur.
     pub each: Vec<Array>,
-    /// For each of the given nodes its place in `each`.
+    /// The index in `each` of each given node.
     places: Vec<usize>,
 }
 
 impl Nodes {
-    /// Searches each node among all before it, in a tree.
+    /// Returns these nodes. Looks up each one among those before it, in a tree.
     pub(super) fn of<'a>(nodes: impl Iterator<Item = &'a Arc<Node>>) -> Nodes {
         let (mut each, mut found) = (Vec::new(), BTreeMap::new());
         let place = |node: &'a Arc<Node>| {
@@ -35,8 +37,8 @@ impl Nodes {
         Nodes { each, places }
     }
 
-    /// Returns for each of the given nodes how many of some parts come before its own, if the parts
-    /// of each node come one after the other.
+    /// Returns for each given node the number of parts before its own ones, if the parts of all
+    /// nodes in `each` are joined in their order. `parts` returns the number of parts of a node.
     pub(super) fn before(&self, parts: impl Fn(&Array) -> usize) -> impl Iterator<Item = usize> {
         let mut all = 0_usize;
         let before = |node: &Array| {

@@ -145,7 +145,7 @@ pub(super) fn views(
         return Ok(made);
     }
     let nodes = Nodes::of(of.iter().map(|it| &it.node));
-    // Behind the buffers of texts come their sizes, before them the validity and the views.
+    // The sizes come after the buffers of texts, the validity and the views before them.
     let moved = of.iter().zip(nodes.before(|it| it.node.buffers.len() - 3));
     let moved = moved.map(|(one, before)| moved_views(field, one, before));
     let moved = moved.collect::<Result<Vec<_>, _>>()?;
