@@ -145,5 +145,6 @@ int main(void)
     }
     compares_bits_f32();
     compares_bits_f64();
+    check(sizeof(enum vb_comparison) == sizeof(unsigned int), "the enumeration of C and of C++");
     return failures == 0 ? 0 : 1;
 }

@@ -95,6 +95,7 @@ ACCEPTED = [
     "const bits_mut all(bytes, 0, 8); all.for_each_set([](std::size_t) {}); rows = all;",
     "std::optional<bits> valid = rows; (void)bits_mut(bytes, 0, 8).take_of(rows, fixed, valid);",
     "(void)rows.take_into(fixed, std::nullopt, bytes); (void)rows.take_into(fixed, rows, bytes);",
+    "const auto &table = ranks(rows).table(); (void)table[0];",
     "compare(std::vector<std::int8_t>(8), VB_LESS, 5, bits_mut(bytes, 0, 8));",
     "const vb_comparison op = VB_LESS; compare(vortex_bits::view(plain, 4), op, 5u, four);",
     "compare(std::vector<float>(8), VB_LESS, 0.5, {bytes, 0, 8});",

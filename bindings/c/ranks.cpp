@@ -14,6 +14,7 @@ using vortex_bits::ranks;
 static_assert(std::is_nothrow_move_constructible_v<ranks>);
 static_assert(std::is_nothrow_move_assignable_v<ranks>);
 static_assert(std::is_nothrow_swappable_v<ranks>);
+static_assert(!std::is_reference_v<decltype(std::declval<ranks>().table())>);
 
 /* Whether allocations succeed. */
 static bool has_memory = true;
@@ -97,6 +98,8 @@ static void moves(bits window, bits other)
     check(is_of(one, other) && is_of(two, window), "a swap");
     std::swap(one, const_cast<ranks &>(same));
     check(is_of(one, other), "a swap with itself");
+    const std::vector<std::size_t> table = std::move(two).table();
+    check(is_of(ranks(window, table), window) && is_of(two, bits()), "a table that is taken");
     const std::vector<ranks> many = {ranks(window), ranks(other), ranks(bits())};
     check(is_of(many[0], window) && is_of(many[1], other) && is_of(many[2], bits()), "a vector");
 }

@@ -9,11 +9,13 @@
  *     rows.count_ones();                                // 6
  *     rows.for_each_set([&](std::size_t row) { .. });
  *
- * A window is tested once, by its constructor. It owns no bytes, like a std::span, so over a
- * temporary container it does not compile. Calls test lengths, single indices and capacity, and
- * throw std::out_of_range before a write, or abort without exceptions. Takes and calls by group
- * return the first index out of range instead; set_indices_into and set_slices_into write items up
- * to the capacity of their output. No output may overlap an input.
+ * A window is tested once, by its constructor. It owns no bytes, so over a temporary container it
+ * does not compile. Calls test lengths, single indices and capacity, and throw std::out_of_range
+ * before a write, or abort without exceptions. Takes and calls by group return the first index out
+ * of range instead; set_indices_into and set_slices_into write items up to the capacity of their
+ * output. No output may overlap an input or another output. A call may read all bytes of its
+ * windows' containers: vortex_bits.h says what threads may do. All parts of a program need one
+ * version of C++, and exceptions in all or in none.
  */
 #ifndef VORTEX_BITS_HPP
 #define VORTEX_BITS_HPP
@@ -64,7 +66,6 @@ public:
 
     std::size_t size() const { return len_; }
     bool empty() const { return len_ == 0; }
-
     /* Returns the index of the first bit in the bytes. */
     std::size_t offset() const { return offset_; }
 

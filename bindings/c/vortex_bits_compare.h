@@ -11,9 +11,12 @@
 extern "C" {
 #endif
 
-/* The type of the enumeration below in C++, so that any byte can be cast to it. */
+/*
+ * The type of the enumeration below in C++, so that any byte can be cast to it. It is the type that
+ * compilers choose in C, so that a struct with an enumeration is the same in both.
+ */
 #if defined(__cplusplus) && __cplusplus >= 201103L
-#define VB_OF_BYTES : uint8_t
+#define VB_OF_BYTES : unsigned int
 #else
 #define VB_OF_BYTES
 #endif
@@ -21,7 +24,7 @@ extern "C" {
 /*
  * The comparison of a value with another one: the `op` of the calls below, which is less than 6.
  * With another number a plain form crashes with SIGILL (illegal instruction), and a checked form
- * returns false.
+ * returns false. C converts `op` to a byte before the call: 258 becomes 2, which is VB_LESS.
  *
  *     const uint8_t values[] = {7};
  *     uint8_t out[] = {0};

@@ -147,7 +147,7 @@ void compare(const Values &values, vb_comparison op, Number number, bits_mut out
         const std::uint8_t beside = is_less ? VB_LESS : VB_GREATER_OR_EQUAL;
         by::number(out.writable(), out.size_, out.offset_,
             reinterpret_cast<const as *>(values.data()), values.size(),
-            bound.is_number ? std::uint8_t{op} : beside, bound.value);
+            bound.is_number ? static_cast<std::uint8_t>(op) : beside, bound.value);
     }
 }
 
@@ -169,8 +169,9 @@ void compare_with(const Values &values, vb_comparison op, const Others &others, 
         using by = detail::compared_as<value>;
         using as = typename by::type;
         by::others(out.writable(), out.size_, out.offset_,
-            reinterpret_cast<const as *>(values.data()), values.size(), op,
-            reinterpret_cast<const as *>(others.data()), others.size());
+            reinterpret_cast<const as *>(values.data()), values.size(),
+            static_cast<std::uint8_t>(op), reinterpret_cast<const as *>(others.data()),
+            others.size());
     }
 }
 

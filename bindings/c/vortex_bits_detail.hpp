@@ -30,6 +30,10 @@
 #ifdef __cpp_lib_span
 #include <span>
 #endif
+/* libc++ 14 has borrowed ranges, but doesn't say so. */
+#if defined(__cpp_lib_ranges) || (defined(__cpp_lib_span) && _LIBCPP_VERSION >= 14000)
+#define VB_HAS_BORROWED_RANGES
+#endif
 
 namespace vortex_bits {
 
@@ -84,7 +88,7 @@ template <class Out> using lent_of = lent_t<std::remove_reference_t<Out>>;
 /* Returns whether such a container lends another's bytes, as far as its type shows. */
 template <class Container> constexpr bool refers()
 {
-#if defined(__cpp_lib_span) && defined(__cpp_lib_ranges)
+#ifdef VB_HAS_BORROWED_RANGES
     if constexpr (std::ranges::enable_borrowed_range<Container>) {
         return true;
     }

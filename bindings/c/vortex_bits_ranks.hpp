@@ -50,7 +50,14 @@ public:
         return *this;
     }
 
-    const std::vector<std::size_t> &table() const { return table_; }
+    const std::vector<std::size_t> &table() const & { return table_; }
+
+    /* Takes the table of a temporary object, which then has no bits. */
+    std::vector<std::size_t> table() &&
+    {
+        bits_ = bits();
+        return std::exchange(table_, {});
+    }
 
     std::size_t size() const { return bits_.len_; }
 

@@ -40,7 +40,10 @@ inline constexpr bool is_borrowed<std::basic_string_view<Byte, Traits>> = true;
 template <class Item> class view {
 public:
     view() = default;
-    view(Item *items, std::size_t count) : items_(items), count_(count) {}
+    view(Item *items, std::size_t count) : items_(items), count_(count)
+    {
+        detail::expect(items != nullptr || count == 0, "a view has a null pointer");
+    }
 
     Item *data() const { return items_; }
     std::size_t size() const { return count_; }

@@ -89,6 +89,9 @@ static void bounds()
     refused([] { bits(nullptr, 8, 0, 64); }, "no bytes to read");
     refused([] { bits_mut(nullptr, 8, 0, 64); }, "no bytes to write");
     check(bits(nullptr, 0, 0, 0).empty(), "no bits of no bytes");
+    refused([] { vortex_bits::view<const std::int64_t>(nullptr, 1); }, "no items to read");
+    refused([] { vortex_bits::view<std::uint8_t>(nullptr, SIZE_MAX); }, "no items to write");
+    check(vortex_bits::view<std::uint8_t>(nullptr, 0).empty(), "no items of none");
     buffer few = {0xFF}, more(100, 0xFF);
     bits_mut window(few, 0, 8);
     static_cast<bits &>(window) = bits(more, 0, 800);

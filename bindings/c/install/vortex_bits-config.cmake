@@ -1,14 +1,14 @@
 # vortex_bits::vortex_bits is the library that takes the processor level itself, linked into the
 # program, and vortex_bits::shared the same as a shared library; vortex_bits::x86-64-v2 and
 # vortex_bits::x86-64-v3 have one level, and are linked in.
-get_filename_component(prefix "${CMAKE_CURRENT_LIST_DIR}/../../.." ABSOLUTE)
+get_filename_component(_vortex_bits_prefix "${CMAKE_CURRENT_LIST_DIR}/../../.." ABSOLUTE)
 
 function(_vortex_bits_library target kind file)
   if(NOT TARGET "vortex_bits::${target}")
     add_library("vortex_bits::${target}" ${kind} IMPORTED)
     set_target_properties("vortex_bits::${target}" PROPERTIES
-      IMPORTED_LOCATION "${prefix}/lib/${file}"
-      INTERFACE_INCLUDE_DIRECTORIES "${prefix}/include")
+      IMPORTED_LOCATION "${_vortex_bits_prefix}/lib/${file}"
+      INTERFACE_INCLUDE_DIRECTORIES "${_vortex_bits_prefix}/include")
   endif()
 endfunction()
 
@@ -16,4 +16,4 @@ _vortex_bits_library(vortex_bits STATIC libvortex_bits.a)
 _vortex_bits_library(shared SHARED libvortex_bits.so)
 _vortex_bits_library(x86-64-v2 STATIC libvortex_bits_x86-64-v2.a)
 _vortex_bits_library(x86-64-v3 STATIC libvortex_bits_x86-64-v3.a)
-unset(prefix)
+unset(_vortex_bits_prefix)

@@ -56,20 +56,19 @@ pub(crate) fn within(
     len: usize,
 ) -> Result<(usize, usize), OutOfBounds> {
     let start = match range.start_bound() {
-        Bound::Included(&start) => start,
-        Bound::Excluded(&before) => before.saturating_add(1),
-        Bound::Unbounded => 0,
+        Bound::Included(&start) => Some(start),
+        Bound::Excluded(&before) => before.checked_add(1),
+        Bound::Unbounded => Some(0),
     };
     let end = match range.end_bound() {
-        Bound::Included(&last) => last.saturating_add(1),
-        Bound::Excluded(&end) => end,
-        Bound::Unbounded => len,
+        Bound::Included(&last) => last.checked_add(1),
+        Bound::Excluded(&end) => Some(end),
+        Bound::Unbounded => Some(len),
     };
-    if start <= end && end <= len {
-        Ok((start, end - start))
-    } else {
-        Err(OutOfBounds::new(start, end.saturating_sub(start), len))
-    }
+    let [from, to] = [start, end].map(|it| it.unwrap_or(usize::MAX));
+    let is_in = from <= to && to <= len && start.and(end).is_some();
+    let error = OutOfBounds::new(from, to.saturating_sub(from), len);
+    is_in.then(|| (from, to - from)).ok_or(error)
 }
 
 impl<'a> Bits<'a> {

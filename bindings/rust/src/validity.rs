@@ -291,7 +291,8 @@ impl Validity<'_> {
     ///
     /// # Panics
     ///
-    /// Panics if `mask` doesn't have one bit per row. `kept` is then unchanged.
+    /// Panics if `mask` doesn't have one bit per row, or if the end of the bits isn't a `usize`.
+    /// `kept` is then unchanged.
     #[track_caller]
     pub fn filter_onto<B: Grow>(self, mask: impl Mask, kept: &mut Bitmap<B>) {
         let rows = mask.of_len(self.len).map_or(self.len, Bits::count_ones);

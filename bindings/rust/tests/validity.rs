@@ -1,6 +1,8 @@
 //! Validities with bits and without, beside loops over rows.
 mod support;
 
+use std::ops::Bound;
+
 use support::panics;
 use vortex_bits::{Bitmap, BitmapMut, Bits, Mask, Validity};
 
@@ -125,6 +127,18 @@ fn operators_take_a_validity_on_both_sides() {
     assert_eq!(said.as_deref(), Some("windows of 8 and 7 bits"));
     let said = panics(|| drop(Validity::new(None, 8) | Bits::new(&[7], 0, 7)));
     assert_eq!(said.as_deref(), Some("windows of 8 and 7 bits"));
+}
+
+#[test]
+fn ranges_after_the_greatest_index_are_out_of_bounds() {
+    let all = Validity::new(None, usize::MAX);
+    assert_eq!(all.try_slice(..).map(Validity::len), Ok(usize::MAX));
+    assert!(all.try_slice(..=usize::MAX).is_err());
+    assert!(all.try_slice(usize::MAX..=usize::MAX).is_err());
+    let behind = (Bound::Excluded(usize::MAX), Bound::Unbounded);
+    assert!(all.try_slice(behind).is_err());
+    let last = (Bound::Excluded(usize::MAX - 1), Bound::Unbounded);
+    assert_eq!(all.try_slice(last).map(Validity::len), Ok(0));
 }
 
 #[test]

@@ -141,9 +141,7 @@ impl Layout {
     pub fn is_like(self, other: Layout) -> bool {
         match (self, other) {
             (Layout::Fixed(_, width), Layout::Fixed(_, same)) => width == same,
-            (Layout::Lists(_), Layout::Lists(_)) | (Layout::ListViews(_), Layout::ListViews(_)) => {
-                true
-            }
+            (Layout::Lists(_), Layout::Lists(_)) => true,
             (one, other) => one == other,
         }
     }

@@ -7,6 +7,10 @@ use alloc::sync::Arc;
 use core::ffi::{CStr, c_char, c_int};
 use core::fmt;
 use core::iter::FusedIterator;
+#[cfg(feature = "std")]
+use core::mem;
+#[cfg(feature = "std")]
+use core::panic::AssertUnwindSafe;
 use core::ptr;
 
 use super::array::Array;
@@ -282,9 +286,7 @@ const OF_BATCH: Between = Between {
 /// Returns the result of `make`, or an error if it panics: no caller in C can catch a panic.
 #[cfg(feature = "std")]
 fn caught<T>(make: impl FnOnce() -> T) -> Result<T, StreamError> {
-    use std::panic::{AssertUnwindSafe, catch_unwind};
-
-    catch_unwind(AssertUnwindSafe(make)).map_err(|panic| StreamError {
+    std::panic::catch_unwind(AssertUnwindSafe(make)).map_err(|panic| StreamError {
         errno: EIO,
         text: alloc::format!("panicked: {}", text_of(panic)),
     })
@@ -300,8 +302,9 @@ fn text_of(panic: Box<dyn core::any::Any + Send>) -> String {
     match other.downcast::<&str>() {
         Ok(text) => String::from(*text),
         Err(other) => {
-            // Dropping the panic's value may panic too.
-            drop(caught(|| drop(other)));
+            // Dropping the panic's value may panic too, and then the value of that panic may. Its
+            // memory leaks.
+            std::panic::catch_unwind(AssertUnwindSafe(|| drop(other))).unwrap_or_else(mem::forget);
             String::new()
         }
     }

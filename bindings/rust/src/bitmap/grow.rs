@@ -266,6 +266,10 @@ impl<'a, B: Grow> Extend<Bits<'a>> for Bitmap<B> {
 /// rows.extend([Validity::new(None, 2), Validity::from(Bits::new(&[0b10], 0, 2))]);
 /// assert_eq!(format!("{rows:?}"), "Bits(1101)");
 /// ```
+///
+/// # Panics
+///
+/// Panics if the end of the bits isn't a `usize`.
 impl<'a, B: Grow> Extend<Validity<'a>> for Bitmap<B> {
     fn extend<I: IntoIterator<Item = Validity<'a>>>(&mut self, validities: I) {
         for validity in validities {

@@ -2,6 +2,7 @@
 use std::fmt::{Debug, Write};
 use std::mem::transmute;
 use std::panic;
+use std::ptr;
 use std::slice;
 use std::sync::Arc;
 use std::thread;
@@ -435,11 +436,12 @@ fn metadata_and_flags_are_kept() {
         blob.extend(i32::try_from(text.len()).unwrap().to_ne_bytes());
         blob.extend(text.as_bytes());
     }
-    let import = |blob: &[u8]| {
+    let with = |metadata: *const u8| {
         let mut schema = raw::Schema::new("", "C", &Count::default());
-        (schema.metadata, schema.flags) = (blob.as_ptr().cast(), 4);
+        (schema.metadata, schema.flags) = (metadata.cast(), 4);
         raw::import(raw::Array::values(1, None, &[1], &Count::default()), schema)
     };
+    let import = |blob: &[u8]| with(blob.as_ptr());
     let array = import(&blob).unwrap();
     let pairs = [texts[..2].to_vec(), texts[2..].to_vec()];
     let got = |array: &Array| {
@@ -455,7 +457,9 @@ fn metadata_and_flags_are_kept() {
     assert_eq!(out.1.flags, 4);
     let again = raw::import(out.0, out.1).unwrap();
     assert_eq!(got(&again), pairs);
-    assert_eq!(import(&[0; 4]).unwrap().field().metadata().count(), 0);
+    let no_pairs = import(&[0; 4]).unwrap();
+    assert_eq!(no_pairs.field().metadata().count(), 0);
+    assert_eq!(no_pairs.field(), with(ptr::null()).unwrap().field());
     let none = Export::values([1u8], None).read_back();
     assert_eq!(none.field().metadata().count(), 0);
     for at in [0, 4, 28] {

@@ -207,8 +207,6 @@ fn formats_without_a_test_are_those_of_such_arrays() {
     let other = unsafe { list().with_format_unchecked("+w:3") };
     assert_eq!(other.unwrap().read_back().field().format(), "+w:3");
     let views = || Export::from(nested("+vl", 3, 1));
-    // SAFETY: all offsets and sizes are 0.
-    assert!(unsafe { views().with_format_unchecked("+vL") }.is_ok());
     let union = || Export::from(nested("+us:0,1", 1, 2));
     // SAFETY: all types are 0.
     assert!(unsafe { union().with_format_unchecked("+us:0,6") }.is_ok());
@@ -216,6 +214,7 @@ fn formats_without_a_test_are_those_of_such_arrays() {
         (list(), "+s"),
         (list(), "l"),
         (views(), "+l"),
+        (views(), "+vL"),
         (union(), "+us:0"),
         (union(), "+ud:0,1"),
         (Export::values([1i32], None), "l"),

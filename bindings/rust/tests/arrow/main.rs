@@ -31,4 +31,5 @@ mod sizes;
 mod stream;
 mod strict;
 mod texts;
+mod unseen;
 mod walks;

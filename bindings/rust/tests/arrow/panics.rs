@@ -185,3 +185,21 @@ fn an_iterator_that_panics_when_it_is_dropped_too_is_an_errno() {
         [Err("get_next: errno 5: panicked: broken".to_string())]
     );
 }
+
+/// The value of a panic whose drop panics with such a value again.
+struct WithoutEnd;
+
+impl Drop for WithoutEnd {
+    fn drop(&mut self) {
+        resume_unwind(Box::new(WithoutEnd));
+    }
+}
+
+#[test]
+fn a_panic_whose_value_panics_without_end_is_an_errno() {
+    let batches =
+        (0..1).map(|_| -> Result<Export, StreamError> { resume_unwind(Box::new(WithoutEnd)) });
+    let mut stream = ExportStream::new(field(), batches).into_stream().unwrap();
+    let error = stream.next().unwrap().unwrap_err();
+    assert_eq!(error.to_string(), "get_next: errno 5: panicked: ");
+}

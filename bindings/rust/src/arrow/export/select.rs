@@ -38,8 +38,8 @@ impl Array {
     ///
     /// It copies the selected rows into new memory: numbers, truth values and texts, the columns of
     /// structs, the items of lists and unions, and one value for each run that still has a row. It
-    /// shares the buffers of views, the items of list views and the dictionary. A batch without
-    /// columns keeps its number of rows.
+    /// shares the buffers of views, the items of list views and the dictionary; the whole array then
+    /// stays allocated as long as they are in use. A batch without columns keeps its number of rows.
     ///
     /// ```
     /// use vortex_bits::arrow::Export;
@@ -244,7 +244,8 @@ impl Export {
     /// # Errors
     ///
     /// - Returns [`ArrowError::Field`] if an array doesn't have the type of the field, or has a
-    ///   null and the field allows none.
+    ///   null and the field allows none. Null items of lists and dictionaries count even if no row
+    ///   names them.
     /// - Returns [`ArrowError::LongTexts`] or [`ArrowError::TooLong`] if offsets of 32 bits, the
     ///   ends of runs or the indices of a dictionary can't represent all rows.
     /// - Returns [`ArrowError::TooLong`] if there are 2^63 rows or items or more, and
@@ -281,6 +282,10 @@ fn selected(field: &Field, of: &[Array], rows: Rows<'_>) -> Result<Owned<ArrowAr
     if i64::try_from(rows.len()).is_err() {
         return Err(too_long(field, "rows", rows.len(), i64::MAX));
     }
+    if of.len() > 1 && of.iter().any(Array::is_empty) {
+        let (of, runs) = Runs::of_full(field, of, rows)?;
+        return selected(field, &of, runs.rows());
+    }
     let nulls = match field.layout {
         Layout::Nulls => Nulls::Unmarked(rows.len()),
         layout if layout.has_validity() => Nulls::Marked(fixed::validity(field, of, rows)?),
@@ -293,7 +298,9 @@ fn selected(field: &Field, of: &[Array], rows: Rows<'_>) -> Result<Owned<ArrowAr
         (Layout::Ranges(width, Of::Bytes), _) => {
             variable::texts(field, width, of, rows, nulls.valid(rows.len()))?
         }
-        (Layout::Ranges(width, Of::Items), _) => variable::lists(field, width, of, rows)?,
+        (Layout::Ranges(width, Of::Items), _) => {
+            variable::lists(field, width, of, rows, nulls.valid(rows.len()))?
+        }
         (Layout::Views, _) => variable::views(field, of, rows, nulls.valid(rows.len()))?,
         (Layout::Struct, _) => nested::structs(field, of, rows)?,
         (Layout::Lists(each), _) => nested::fixed_lists(field, each, of, rows)?,

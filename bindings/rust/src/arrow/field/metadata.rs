@@ -72,7 +72,7 @@ fn text_of<'a>(rest: &mut &'a [u8]) -> Option<&'a [u8]> {
     Some(text)
 }
 
-/// Returns a copy of the bytes of metadata.
+/// Returns a copy of the bytes of metadata; none if it has no pair.
 ///
 /// # Safety
 ///
@@ -87,8 +87,12 @@ pub(super) unsafe fn read(pointer: *const u8) -> Result<Vec<u8>, Fault> {
         let number = pointer.add(at).cast::<i32>().read_unaligned();
         count("a length in metadata", number.into(), None)
     };
+    let pairs = length(0)?;
+    if pairs == 0 {
+        return Ok(Vec::new());
+    }
     let mut size = INT;
-    for _ in 0..length(0)? {
+    for _ in 0..pairs {
         for _ in 0..2 {
             size += INT + length(size)?;
         }

@@ -5,8 +5,8 @@ use alloc::vec::Vec;
 use core::ffi::c_void;
 use core::ptr;
 
-use super::rows::Rows;
-use super::{below, selected};
+use super::rows::{Rows, Runs};
+use super::{below, selected, whole};
 use crate::Bits;
 use crate::arrow::array::Array;
 use crate::arrow::error::ArrowError;
@@ -86,6 +86,22 @@ impl Made {
             self.below
                 .push(made.map_err(|error| below(field, place, error))?);
         }
+        Ok(())
+    }
+
+    /// Adds the selected items of the child at `place` of each array.
+    pub(super) fn items(
+        &mut self,
+        field: &Field,
+        place: usize,
+        of: &[Array],
+        mut items: Runs,
+    ) -> Result<(), ArrowError> {
+        let mut of = whole(of, place);
+        items.cut(field, &mut of)?;
+        let made = selected(&field.children[place], &of, items.rows());
+        self.below
+            .push(made.map_err(|error| below(field, place, error))?);
         Ok(())
     }
 

@@ -6,7 +6,7 @@ use super::made::Made;
 use super::memory::{copied, too_many, zeroed};
 use super::nodes::{Nodes, only};
 use super::rows::{Rows, Run, Runs};
-use super::{fixed, put, selected, too_long, whole};
+use super::{fixed, put, selected, too_long};
 use crate::arrow::array::Array;
 use crate::arrow::error::{ArrowError, Fault};
 use crate::arrow::export::shared;
@@ -45,7 +45,7 @@ pub(super) fn fixed_lists(
         },
     )?;
     let mut made = Made::default();
-    made.children(field, |place| whole(of, place), |_| items.rows())?;
+    made.items(field, 0, of, items)?;
     Ok(made)
 }
 
@@ -129,36 +129,45 @@ pub(super) fn coded(
         return Ok(made);
     }
     let dictionaries = Nodes::of(dictionaries());
-    let moved = of.iter().zip(dictionaries.before(Array::len));
-    let moved = moved.map(|(one, before)| moved_indices(field, one, before));
-    let moved = moved.collect::<Result<Vec<_>, _>>()?;
-    let moved: Vec<&[u8]> = moved.iter().map(|it| &it[..]).collect();
-    let mut made = Made::of([fixed::values(field, width, &moved, rows)?]);
+    let before: Vec<usize> = dictionaries.before(Array::len).collect();
+    let mut made = Made::of([moved_indices(field, of, rows, &before)?]);
     let all = all_rows(field, &dictionaries.each)?;
     let items = selected(items, &dictionaries.each, all.rows());
     made.dictionary = Some(items.map_err(|error| error.under("dictionary"))?);
     Ok(made)
 }
 
-/// Returns the indices of an array, with `before` items in front of its own; 0 for null rows.
-fn moved_indices(field: &Field, of: &Array, before: usize) -> Result<AlignedBytes, ArrowError> {
-    let (width, valid) = (field.layout.widest().0, of.validity()?);
+/// Selects indices. `before` has for each array the number of items in front of its own. Null rows
+/// get 0.
+fn moved_indices(
+    field: &Field,
+    of: &[Array],
+    rows: Rows<'_>,
+    before: &[usize],
+) -> Result<AlignedBytes, ArrowError> {
+    let width = field.layout.widest().0;
     let is_signed = matches!(field.layout, Layout::Fixed(Kind::Signed, _));
     let most = u64::MAX >> (64 - 8 * width + usize::from(is_signed));
-    let mut moved = zeroed(field, of.len(), width)?;
-    of.each_index(|row, index| {
-        let index = if valid.get(row) == Some(true) {
-            index.saturating_add(before)
-        } else {
-            0
+    let mut moved = zeroed(field, rows.len(), width)?;
+    rows.each(|at, run| {
+        let Some(one) = run.of else {
+            return Ok(());
         };
-        if u64::try_from(index).is_ok_and(|it| it > most) {
-            let most = i64::try_from(most).unwrap_or(i64::MAX);
-            let items = index.saturating_add(1);
-            return Err(too_long(field, "items of a dictionary", items, most));
-        }
-        put(&mut moved, row, width, index);
-        Ok(())
+        let part = of[one].slice(run.start..run.start + run.len);
+        let valid = part.validity()?;
+        part.each_index(|row, index| {
+            if valid.get(row) == Some(false) {
+                return Ok(());
+            }
+            let index = index.saturating_add(before[one]);
+            if u64::try_from(index).is_ok_and(|it| it > most) {
+                let most = i64::try_from(most).unwrap_or(i64::MAX);
+                let items = index.saturating_add(1);
+                return Err(too_long(field, "items of a dictionary", items, most));
+            }
+            put(&mut moved, at + row, width, index);
+            Ok(())
+        })
     })?;
     Ok(moved)
 }

@@ -2,8 +2,9 @@
 
 use alloc::vec::Vec;
 
-use super::memory::{push, too_many};
+use super::memory::{push, reserved, too_many};
 use crate::Bits;
+use crate::arrow::array::Array;
 use crate::arrow::error::ArrowError;
 use crate::arrow::field::Field;
 
@@ -113,6 +114,55 @@ impl Runs {
 
     pub(super) fn rows(&self) -> Rows<'_> {
         Rows::Runs(&self.runs, self.len)
+    }
+
+    /// Cuts each of several arrays to its rows from the first to the last that a run has: the rows
+    /// outside are then neither copied nor tested.
+    pub(super) fn cut(&mut self, field: &Field, of: &mut [Array]) -> Result<(), ArrowError> {
+        if of.len() < 2 {
+            return Ok(());
+        }
+        let mut spans = reserved(field, of.len())?;
+        spans.resize(of.len(), None);
+        for run in &self.runs {
+            if let Some(one) = run.of {
+                let end = run.start + run.len;
+                let (first, last) = spans[one].get_or_insert((run.start, end));
+                (*first, *last) = (run.start.min(*first), end.max(*last));
+            }
+        }
+        for (one, span) in of.iter_mut().zip(&spans) {
+            let (start, end) = span.unwrap_or_default();
+            *one = one.slice(start..end);
+        }
+        for run in &mut self.runs {
+            let span = run.of.and_then(|one| spans[one]);
+            run.start -= span.map_or(0, |(start, _)| start);
+        }
+        Ok(())
+    }
+
+    /// Returns the arrays that have rows, and these runs of them; if none has rows, the first array.
+    /// So the dictionary of an array without rows isn't joined with others.
+    pub(super) fn of_full(
+        field: &Field,
+        of: &[Array],
+        rows: Rows<'_>,
+    ) -> Result<(Vec<Array>, Runs), ArrowError> {
+        let (mut full, mut places) = (reserved(field, of.len())?, reserved(field, of.len())?);
+        for one in of {
+            places.push(full.len());
+            full.extend((!one.is_empty()).then(|| one.clone()));
+        }
+        if full.is_empty() {
+            full.extend(of.first().cloned());
+        }
+        let mut runs = Runs::default();
+        rows.each(|_, run| {
+            let of = run.of.map(|one| places[one]);
+            runs.push(field, Run { of, ..run })
+        })?;
+        Ok((full, runs))
     }
 
     /// Adds a run. It returns an error if the number of rows isn't a `usize`, or if memory runs out.

@@ -5,7 +5,7 @@ use alloc::vec::Vec;
 use super::made::{Made, Nulls};
 use super::memory::{push, zeroed};
 use super::rows::{Rows, Run, Runs};
-use super::{below, put, selected, too_long, whole};
+use super::{put, too_long, whole};
 use crate::arrow::array::Array;
 use crate::arrow::error::{ArrowError, Fault};
 use crate::arrow::field::Field;
@@ -42,9 +42,9 @@ pub(super) fn runs(field: &Field, of: &[Array], rows: Rows<'_>) -> Result<Made, 
         put(&mut numbers, place, width, *end);
     }
     let ends = Made::of([numbers]).array(kept.ends.len(), Nulls::Marked(None));
-    let values = selected(&field.children[1], &whole(of, 1), kept.values.rows());
     let mut made = Made::default();
-    made.below = [ends, values.map_err(|error| below(field, 1, error))?].into();
+    made.below.push(ends);
+    made.items(field, 1, of, kept.values)?;
     Ok(made)
 }
 

@@ -5,7 +5,7 @@ use alloc::vec::Vec;
 use super::made::Made;
 use super::memory::zeroed;
 use super::rows::{Rows, Run, Runs};
-use super::{put, too_long, whole};
+use super::{put, too_long};
 use crate::arrow::array::Array;
 use crate::arrow::error::{ArrowError, Fault};
 use crate::arrow::field::Field;
@@ -103,7 +103,9 @@ pub(super) fn dense(field: &Field, of: &[Array], rows: Rows<'_>) -> Result<Made,
         items,
     } = kept;
     let mut made = Made::of([types, offsets]);
-    made.children(field, |place| whole(of, place), |place| items[place].rows())?;
+    for (place, items) in items.into_iter().enumerate() {
+        made.items(field, place, of, items)?;
+    }
     Ok(made)
 }
 

@@ -7,7 +7,7 @@ use super::made::Made;
 use super::memory::{copied, zeroed};
 use super::nodes::{Nodes, only};
 use super::rows::{Rows, Run, Runs};
-use super::{fixed, joined, put, too_long, whole};
+use super::{fixed, joined, put, too_long};
 use crate::Bits;
 use crate::arrow::array::Array;
 use crate::arrow::error::ArrowError;
@@ -33,67 +33,117 @@ pub(super) fn texts(
     let joined = of.iter().map(Array::joined);
     let (ranges, bytes): (Vec<_>, Vec<_>) =
         joined.collect::<Result<Vec<_>, _>>()?.into_iter().unzip();
-    let (offsets, parts) = offsets(field, width, &ranges, rows)?;
+    let (offsets, parts) = offsets(field, width, &ranges, rows, valid)?;
     let bytes = fixed::values(field, 1, &bytes, parts.rows())?;
     Ok(Made::of([offsets, bytes]))
 }
 
-/// Selects rows of lists: new offsets, and the items of the rows, including those of null rows.
+/// Selects rows of lists: new offsets, and the items of the rows. `valid` has a bit per row.
 pub(super) fn lists(
     field: &Field,
     width: usize,
     of: &[Array],
     rows: Rows<'_>,
+    valid: Option<Bits<'_>>,
 ) -> Result<Made, ArrowError> {
     let ranges = of
         .iter()
         .map(Array::ranges)
         .collect::<Result<Vec<_>, _>>()?;
-    let (offsets, parts) = offsets(field, width, &ranges, rows)?;
+    let (offsets, parts) = offsets(field, width, &ranges, rows, valid)?;
     let mut made = Made::of([offsets]);
-    made.children(field, |place| whole(of, place), |_| parts.rows())?;
+    made.items(field, 0, of, parts)?;
     Ok(made)
 }
 
 /// Returns the offsets of the rows one after the other, and the ranges of bytes or items that they
-/// have in the arrays.
+/// have in the arrays. Null rows have none, whatever their offsets are.
 fn offsets(
     field: &Field,
     width: usize,
     of: &[Ranges<'_>],
     rows: Rows<'_>,
+    valid: Option<Bits<'_>>,
 ) -> Result<(AlignedBytes, Runs), ArrowError> {
-    let mut offsets = zeroed(field, rows.len().saturating_add(1), width)?;
-    let (mut parts, most) = (Runs::default(), most(width));
+    let mut kept = Kept {
+        field,
+        width,
+        offsets: zeroed(field, rows.len().saturating_add(1), width)?,
+        parts: Runs::default(),
+    };
     rows.each(|before, run| {
-        let end = parts.len();
-        let Run {
-            of: one,
-            start,
-            len,
-        } = run;
-        let Some(ranges) = one.map(|one| of[one]).filter(|_| len > 0) else {
-            (before + 1..=before + len).for_each(|row| put(&mut offsets, row, width, end));
-            return Ok(());
-        };
-        let span = ranges.span(start..start + len).unwrap_or_default();
+        let valid = valid.map(|valid| valid.slice(before..before + run.len));
+        match (run.of.map(|one| of[one]), valid) {
+            (Some(ranges), Some(valid)) if has_items_of_nulls(ranges, run, valid) => {
+                kept.add_valid(ranges, before, run, valid)
+            }
+            (Some(ranges), _) if run.len > 0 => kept.add(ranges, before, run),
+            _ => {
+                kept.add_nulls(before, run.len);
+                Ok(())
+            }
+        }
+    })?;
+    Ok((kept.offsets, kept.parts))
+}
+
+/// Returns whether a null row of a run has bytes or items.
+fn has_items_of_nulls(ranges: Ranges<'_>, run: Run, valid: Bits<'_>) -> bool {
+    let mut nulls = valid.unset_indices();
+    nulls.any(|row| ranges.get(run.start + row).is_some_and(|it| !it.is_empty()))
+}
+
+/// The offsets of the rows so far, and their ranges of bytes or items.
+struct Kept<'a> {
+    field: &'a Field,
+    width: usize,
+    offsets: AlignedBytes,
+    parts: Runs,
+}
+
+impl Kept<'_> {
+    /// Adds a run after the first `before` rows.
+    fn add(&mut self, ranges: Ranges<'_>, before: usize, run: Run) -> Result<(), ArrowError> {
+        let (end, most) = (self.parts.len(), most(self.width));
+        let rows = run.start..run.start + run.len;
+        let span = ranges.span(rows.clone()).unwrap_or_default();
         let all = end.checked_add(span.len());
         if all.is_none_or(|all| is_beyond(all, most)) {
-            let ends = (start..start + len).filter_map(|row| ranges.get(row));
+            let ends = rows.filter_map(|row| ranges.get(row));
             let ends = ends.map(|it| end.saturating_add(it.end - span.start));
-            return Err(long(field, ends));
+            return Err(long(self.field, ends));
         }
-        let part = Run {
-            of: one,
-            start: span.start,
-            len: span.len(),
-        };
-        parts.push(field, part)?;
-        let out = &mut offsets[(before + 1) * width..][..len * width];
-        ranges.write_ends(start..start + len, end, out);
+        let (start, len) = (span.start, span.len());
+        self.parts.push(self.field, Run { start, len, ..run })?;
+        let out = &mut self.offsets[(before + 1) * self.width..][..run.len * self.width];
+        ranges.write_ends(rows, end, out);
         Ok(())
-    })?;
-    Ok((offsets, parts))
+    }
+
+    /// Adds the valid rows of a run, and null rows without bytes or items.
+    fn add_valid(
+        &mut self,
+        ranges: Ranges<'_>,
+        before: usize,
+        run: Run,
+        valid: Bits<'_>,
+    ) -> Result<(), ArrowError> {
+        let mut done = 0;
+        for rows in valid.set_slices() {
+            self.add_nulls(before + done, rows.start - done);
+            let (start, len) = (run.start + rows.start, rows.len());
+            self.add(ranges, before + rows.start, Run { start, len, ..run })?;
+            done = rows.end;
+        }
+        self.add_nulls(before + done, run.len - done);
+        Ok(())
+    }
+
+    /// Adds null rows after the first `before` rows.
+    fn add_nulls(&mut self, before: usize, len: usize) {
+        let (end, width) = (self.parts.len(), self.width);
+        (before + 1..=before + len).for_each(|row| put(&mut self.offsets, row, width, end));
+    }
 }
 
 /// Returns the greatest end that an offset of `width` bytes can represent.

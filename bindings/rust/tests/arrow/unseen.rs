@@ -1,0 +1,193 @@
+//! Items that no selected row has, such as those of null rows and those before and after a slice:
+//! neither a result nor an error depends on them.
+use vortex_bits::arrow::{Array, Export};
+
+use crate::raw::{self, Buffer, Count, Schema, import};
+
+/// Numbers of 32 bits as bytes.
+fn ints(numbers: &[i32]) -> Buffer {
+    let bytes: Vec<u8> = numbers.iter().flat_map(|it| it.to_ne_bytes()).collect();
+    Buffer::new(&bytes, 0)
+}
+
+/// Indices of 8 bits, with a dictionary of this number of bytes.
+fn indices(numbers: &[i8], items: i64) -> raw::Array {
+    let none = Count::default();
+    let items = raw::Array::values(items, None, &vec![7; 256], &none);
+    let bytes: Vec<u8> = numbers.iter().map(|it| it.to_ne_bytes()[0]).collect();
+    let buffers = vec![None, Some(Buffer::new(&bytes, 0))];
+    let len = i64::try_from(numbers.len()).unwrap();
+    raw::Array::of(len, buffers, vec![], Some(items), &none)
+}
+
+/// Rows of a format with such a child; before it come the buffers and the children.
+fn rows(
+    format: &str,
+    len: i64,
+    buffers: Vec<Option<Buffer>>,
+    mut before: Vec<(raw::Array, &str)>,
+    items: raw::Array,
+) -> Array {
+    let none = Count::default();
+    let mut fields: Vec<Schema> = before
+        .iter()
+        .map(|(_, format)| Schema::new("ends", format, &none))
+        .collect();
+    let dictionary = Schema::new("", "C", &none);
+    fields.push(Schema::of("item", "c", vec![], Some(dictionary), &none));
+    let mut children: Vec<raw::Array> = before.drain(..).map(|(array, _)| array).collect();
+    children.push(items);
+    let array = raw::Array::of(len, buffers, children, None, &none);
+    import(array, Schema::of("", format, fields, None, &none)).unwrap()
+}
+
+/// Two rows of each type with items, one item each: the first is index 0, the second is `last`.
+fn each_type(last: i8, items: i64) -> Vec<Array> {
+    let items = || indices(&[0, last], items);
+    let one_each = || Some(ints(&[0, 1, 2]));
+    let ends = raw::Array::values(2, None, &[1, 0, 0, 0, 2, 0, 0, 0], &Count::default());
+    let types = || Some(Buffer::new(&[0, 0], 0));
+    vec![
+        rows("+l", 2, vec![None, one_each()], vec![], items()),
+        rows("+w:1", 2, vec![None], vec![], items()),
+        rows("+r", 2, vec![], vec![(ends, "i")], items()),
+        rows("+ud:0", 2, vec![types(), one_each()], vec![], items()),
+        rows("+us:0", 2, vec![types()], vec![], items()),
+        rows("+s", 2, vec![None], vec![], items()),
+    ]
+}
+
+#[test]
+fn items_outside_of_the_slices_do_not_count() {
+    // Index 127 has no place after the 127 items of the others, and -1 is the index of no item.
+    for last in [127, -1] {
+        for (one, other) in each_type(0, 127).into_iter().zip(each_type(last, 128)) {
+            let joined = Export::concat(one.field(), &[one.slice(..1), other.slice(..1)]);
+            assert_eq!(joined.map(|it| it.len()), Ok(2), "{:?}", one.field());
+            let all = Export::concat(one.field(), &[one.clone(), other]);
+            assert!(all.is_err(), "{:?}", one.field());
+        }
+    }
+}
+
+#[test]
+fn items_between_the_rows_of_a_union_do_not_count() {
+    let union = |last, items| {
+        let (types, offsets) = (Buffer::new(&[0, 0], 0), ints(&[0, 2]));
+        let items = indices(&[0, last, 0], items);
+        rows("+ud:0", 2, vec![Some(types), Some(offsets)], vec![], items)
+    };
+    let both = [union(0, 127), union(-1, 1)];
+    let joined = Export::concat(both[0].field(), &both);
+    assert_eq!(joined.map(|it| it.len()), Ok(4));
+}
+
+#[test]
+fn arrays_without_rows_add_no_items() {
+    for (one, other) in each_type(0, 128).into_iter().zip(each_type(0, 128)) {
+        let parts = [
+            one.slice(..0),
+            other.slice(1..1),
+            other.clone(),
+            one.slice(2..),
+        ];
+        let joined = Export::concat(one.field(), &parts).unwrap().into_array();
+        assert_eq!(joined.len(), 2);
+        let none = Export::concat(one.field(), &[one.slice(..0), other.slice(1..1)]);
+        assert_eq!(none.map(|it| it.len()), Ok(0));
+    }
+}
+
+#[test]
+fn dictionaries_of_arrays_without_rows_are_left_out() {
+    let coded = |items: usize| {
+        let items = Export::values(vec![7u8; items], None);
+        let rows = Export::values(vec![0i8], None);
+        rows.with_dictionary(items).unwrap().into_array()
+    };
+    let (one, other) = (coded(128), coded(1));
+    let joined = Export::concat(one.field(), &[one.slice(..0), other]).unwrap();
+    assert_eq!(joined.into_array().dictionary().unwrap().len(), 1);
+    let none = Export::concat(one.field(), &[one.slice(..0)]).unwrap();
+    assert_eq!(none.into_array().dictionary().unwrap().len(), 128);
+}
+
+/// A null row that has this number of items, between two rows of one item.
+fn with_null_list(items: i32) -> Array {
+    let none = Count::default();
+    let child = raw::Array::new(i64::from(items) + 2, vec![], &none).nulls(-1);
+    let buffers = vec![
+        Some(Buffer::new(&[0b101], 0)),
+        Some(ints(&[0, 1, 1 + items, 2 + items])),
+    ];
+    let array = raw::Array::of(3, buffers, vec![child], None, &none);
+    let items = vec![Schema::new("item", "n", &none)];
+    import(array, Schema::of("", "+l", items, None, &none)).unwrap()
+}
+
+fn lens(lists: &Array) -> Vec<Option<usize>> {
+    let (ranges, valid) = (lists.ranges().unwrap(), lists.validity().unwrap());
+    let rows = ranges.iter().enumerate();
+    rows.map(|(row, it)| (valid.get(row) == Some(true)).then_some(it.len()))
+        .collect()
+}
+
+#[test]
+fn null_lists_have_no_items() {
+    let lists = with_null_list(1 << 30);
+    let taken = lists.take(&[1u8, 0, 1, 1, 2]).unwrap().into_array();
+    assert_eq!(lens(&taken), [None, Some(1), None, None, Some(1)]);
+    assert_eq!(taken.items().unwrap().len(), 2);
+    let joined = Export::concat(
+        lists.field(),
+        &[lists.clone(), lists.slice(1..), lists.clone()],
+    );
+    let joined = joined.unwrap().into_array();
+    assert_eq!(joined.items().unwrap().len(), 5);
+    let one = Some(1);
+    assert_eq!(lens(&joined), [one, None, one, None, one, one, None, one]);
+}
+
+#[test]
+fn null_lists_of_a_mask_have_no_items() {
+    let lists = with_null_list(7);
+    for mask in 0..8u8 {
+        let mask = vortex_bits::Bits::new(std::slice::from_ref(&mask), 0, 3);
+        let kept = lists.filter(mask).unwrap().into_array();
+        let wanted: Vec<_> = mask.set_indices().map(|row| lens(&lists)[row]).collect();
+        assert_eq!(lens(&kept), wanted);
+        assert_eq!(kept.items().unwrap().len(), wanted.iter().flatten().sum());
+    }
+}
+
+#[test]
+fn null_texts_have_no_bytes() {
+    let text = "x".repeat(70 << 20);
+    let texts = Export::texts([&text[..3], &text, "yz"], Some([true, false, true].into()));
+    let texts = texts.narrow().unwrap().into_array();
+    drop(text);
+    let parts = vec![texts.clone(); 32];
+    let joined = Export::concat(texts.field(), &parts).unwrap().into_array();
+    let rows = [Some(&b"xxx"[..]), None, Some(b"yz")];
+    let mut wanted = rows.iter().cycle().take(96);
+    assert!(
+        joined
+            .texts()
+            .unwrap()
+            .iter()
+            .all(|row| Some(&row) == wanted.next())
+    );
+    let all = texts
+        .filter(None::<vortex_bits::Bits>)
+        .unwrap()
+        .into_array();
+    assert!(all.texts().unwrap().iter().eq(rows));
+    assert_eq!(
+        all.ranges()
+            .unwrap()
+            .iter()
+            .map(|it| it.len())
+            .sum::<usize>(),
+        5
+    );
+}
