@@ -68,6 +68,7 @@ impl Array {
     /// - Returns [`ArrowError::Mask`] if the mask has another number of bits than there are rows.
     /// - Returns [`ArrowError::Malformed`] if offsets of texts or lists go back, runs end before
     ///   the rows do, or a row of a union names no child.
+    /// - Returns [`ArrowError::TooLong`] if more than 2^31 rows of a dense union have one child.
     /// - Returns [`ArrowError::Memory`] if memory runs out for the copies.
     #[doc(alias("where", "compress", "select"))]
     pub fn filter(&self, mask: impl Mask) -> Result<Export, ArrowError> {
