@@ -178,9 +178,9 @@ impl Export {
     /// # Errors
     ///
     /// Returns the errors of `with_format`. Returns [`ArrowError::Field`] if a child or the
-    /// dictionary has another type, if a row is null and the field allows no null (items of lists
-    /// and dictionaries count even if no row names them), or if the field
-    /// has any other flag that the rows don't have.
+    /// dictionary has another type, if a row is null and the field allows no null (nulls in
+    /// dictionaries and in the items of lists, runs and unions count even if no row has them), or if
+    /// the field has any other flag that the rows don't have.
     pub fn with_field(self, field: &Field) -> Result<Export, ArrowError> {
         let typed = self.with_format(field.format())?;
         match difference(&typed, field, &OF_ARRAY)? {

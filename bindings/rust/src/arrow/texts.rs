@@ -235,7 +235,7 @@ impl fmt::Debug for Texts<'_> {
 }
 
 /// Returns the bytes of a view; None if they aren't in any of the buffers.
-fn viewed<'a>(view: &'a View, buffers: &[&'a [u8]]) -> Option<&'a [u8]> {
+pub(super) fn viewed<'a>(view: &'a View, buffers: &[&'a [u8]]) -> Option<&'a [u8]> {
     let number = |at: usize| {
         let bytes = view[at..].first_chunk()?;
         usize::try_from(i32::from_ne_bytes(*bytes)).ok()

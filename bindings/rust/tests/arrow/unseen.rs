@@ -191,3 +191,134 @@ fn null_texts_have_no_bytes() {
         5
     );
 }
+
+/// Views of a, of a text in a buffer that isn't there, and of b.
+fn views() -> raw::Array {
+    let mut views = [0; 48];
+    (views[0], views[4], views[32], views[36]) = (1, b'a', 1, b'b');
+    (views[16], views[24]) = (99, 7);
+    let buffers = vec![
+        None,
+        Some(Buffer::new(&views, 0)),
+        Some(Buffer::new(&[], 0)),
+    ];
+    raw::Array::new(3, buffers, &Count::default())
+}
+
+#[test]
+fn views_that_no_row_has_do_not_count() {
+    let none = Count::default();
+    let valid = || Some(Buffer::new(&[0b101], 0));
+    let types = || Some(Buffer::new(&[0, 0], 0));
+    for (format, len, buffers) in [
+        (
+            "+l",
+            3,
+            (|| vec![None, Some(ints(&[0, 1, 2, 3]))]) as fn() -> Vec<_>,
+        ),
+        ("+ud:0", 2, || vec![None, Some(ints(&[0, 2]))]),
+    ] {
+        let both = [(); 2].map(|()| {
+            let mut buffers = buffers();
+            buffers[0] = if format == "+l" { valid() } else { types() };
+            let array = raw::Array::of(len, buffers, vec![views()], None, &none);
+            let items = vec![Schema::new("item", "vu", &none)];
+            import(array, Schema::of("", format, items, None, &none)).unwrap()
+        });
+        let joined = Export::concat(both[0].field(), &both).unwrap();
+        assert_eq!(joined.len(), 2 * usize::try_from(len).unwrap());
+    }
+}
+
+#[test]
+fn null_list_views_have_any_numbers() {
+    let none = Count::default();
+    let both = [(); 2].map(|()| {
+        let items = raw::Array::values(2, None, &[7; 8], &none);
+        let buffers = vec![
+            Some(Buffer::new(&[0b101], 0)),
+            Some(ints(&[0, 1 << 20, 1])),
+            Some(ints(&[1, -9, 1])),
+        ];
+        let array = raw::Array::of(3, buffers, vec![items], None, &none);
+        let items = vec![Schema::new("item", "C", &none)];
+        import(array, Schema::of("", "+vl", items, None, &none)).unwrap()
+    });
+    let joined = Export::concat(both[0].field(), &both).unwrap();
+    let joined = joined.into_array();
+    assert_eq!((joined.len(), joined.null_count()), (6, Ok(2)));
+}
+
+#[test]
+fn dictionaries_of_null_rows_are_left_out() {
+    let coded = |items: usize, valid: bool| {
+        let rows = Export::values(vec![0i8], Some([valid].into()));
+        let items = Export::values(vec![7u8; items], None);
+        rows.with_dictionary(items).unwrap().into_array()
+    };
+    let (null, one) = (coded(128, false), coded(1, true));
+    let joined = Export::concat(one.field(), &[null.clone(), one.clone(), null.clone()]);
+    let joined = joined.unwrap().into_array();
+    assert_eq!(joined.dictionary_indices(), Ok(vec![0, 0, 0]));
+    assert_eq!(
+        (joined.dictionary().unwrap().len(), joined.null_count()),
+        (1, Ok(2))
+    );
+    let nulls = Export::concat(one.field(), &[null.clone(), coded(1, false)]);
+    assert_eq!(nulls.unwrap().into_array().null_count(), Ok(2));
+}
+
+#[test]
+fn an_error_has_the_column_and_the_position_of_the_index() {
+    let lists = |valid: u8, last| {
+        let buffers = vec![Some(Buffer::new(&[valid], 0)), Some(ints(&[0, 1, 2, 3]))];
+        rows("+l", 3, buffers, vec![], indices(&[0, 0, last], 1))
+    };
+    for valid in [0b101, 0b111] {
+        let both = [lists(0b111, 0), lists(valid, 5)];
+        let error = Export::concat(both[0].field(), &both).unwrap_err();
+        let text = "column \"item\": index 5 at position 2 names none of 1 values";
+        assert_eq!(error.to_string(), text);
+    }
+    let none = Count::default();
+    let both = [(); 2].map(|()| {
+        let column = raw::Array::of(
+            1,
+            vec![None, Some(Buffer::new(&[0], 0))],
+            vec![],
+            Some(indices(&[5], 1)),
+            &none,
+        );
+        let items = Schema::of("", "c", vec![], Some(Schema::new("", "C", &none)), &none);
+        let field = Schema::of("a", "c", vec![], Some(items), &none);
+        let batch = raw::Array::of(1, vec![None], vec![column], None, &none);
+        import(batch, Schema::of("", "+s", vec![field], None, &none)).unwrap()
+    });
+    let column = both[0].column("a").unwrap();
+    let error = column.dictionary_validity().unwrap_err().to_string();
+    let joined = Export::concat(both[0].field(), &both).unwrap_err();
+    assert_eq!(joined.to_string(), error);
+}
+
+#[test]
+fn one_array_is_cut_as_several_are() {
+    let none = Count::default();
+    let bytes = Some(Buffer::new(b"abcdefgh", 0));
+    let texts = raw::Array::new(3, vec![None, Some(ints(&[0, 1, 5, 2])), bytes], &none);
+    let buffers = vec![None, Some(ints(&[0, 1, 3]))];
+    let lists = raw::Array::of(2, buffers, vec![texts], None, &none);
+    let items = vec![Schema::new("item", "u", &none)];
+    let lists = import(lists, Schema::of("", "+l", items, None, &none)).unwrap();
+    let (first, second) = (lists.slice(..1), lists.slice(1..));
+    for rows in [&first, &first.slice(..)] {
+        let kept = rows.filter(vortex_bits::Bitmap::new_set(1)).unwrap();
+        assert_eq!(kept.len(), 1);
+        assert_eq!(
+            Export::concat(lists.field(), std::slice::from_ref(rows))
+                .unwrap()
+                .len(),
+            1
+        );
+    }
+    assert!(second.filter(vortex_bits::Bitmap::new_set(1)).is_err());
+}

@@ -1,9 +1,10 @@
 //! Columns with a dictionary.
 
 use alloc::vec::Vec;
+use core::ops::Range;
 
 use super::Array;
-use crate::arrow::error::ArrowError;
+use crate::arrow::error::{ArrowError, Fault};
 use crate::arrow::export::Export;
 use crate::arrow::layout::{Kind, Layout};
 use crate::arrow::primitive::Primitive;
@@ -161,19 +162,33 @@ impl Array {
         &self,
         take: impl FnMut(usize, usize) -> Result<(), ArrowError>,
     ) -> Result<(), ArrowError> {
+        self.each_index_of(0..self.len, take)
+    }
+
+    /// Does the same for these rows only.
+    pub(in crate::arrow) fn each_index_of(
+        &self,
+        rows: Range<usize>,
+        take: impl FnMut(usize, usize) -> Result<(), ArrowError>,
+    ) -> Result<(), ArrowError> {
         let items = self.items_of_indices()?.len;
-        by_index!(self.each_place::<_>((items, take)))
+        by_index!(self.each_place::<_>((items, rows, take)))
     }
 
     fn each_place<I: Primitive + BitIndex>(
         &self,
-        (items, mut take): (usize, impl FnMut(usize, usize) -> Result<(), ArrowError>),
+        (items, mut rows, mut take): (
+            usize,
+            Range<usize>,
+            impl FnMut(usize, usize) -> Result<(), ArrowError>,
+        ),
     ) -> Result<(), ArrowError> {
         let (indices, valid) = (self.unaligned::<I>()?, self.validity()?);
-        indices.iter().enumerate().try_for_each(|(row, index)| {
+        rows.try_for_each(|row| {
             if valid.get(row) == Some(false) {
                 return take(row, 0);
             }
+            let index = indices.get(row).ok_or(Fault::Dictionary)?;
             let place = index.place().filter(|place| *place < items);
             let place = place.ok_or_else(|| self.lost(row, index.number(), items));
             take(row, place?)

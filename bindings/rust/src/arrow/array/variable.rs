@@ -97,7 +97,7 @@ impl Array {
     ///
     /// Returns [`ArrowError::Type`] if the array has another type. Returns
     /// [`ArrowError::Malformed`] if an offset is below the one before it, if a valid row isn't in a
-    /// buffer, or if a buffer that rows need is null.
+    /// buffer, or if a buffer with bytes is null.
     pub fn texts(&self) -> Result<Texts<'_>, ArrowError> {
         let Some(views) = self.views() else {
             let (ranges, bytes) = self.joined()?;

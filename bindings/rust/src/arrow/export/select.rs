@@ -26,7 +26,6 @@ use crate::arrow::layout::{Layout, Of};
 use crate::{BitIndex, Bits, Mask};
 pub(super) use made::Owners;
 use made::{Made, Nulls};
-pub(super) use memory::all_true;
 use memory::reserved;
 use rows::{Rows, Runs};
 
@@ -40,6 +39,8 @@ impl Array {
     /// structs, the items of lists and unions, and one value for each run that still has a row. It
     /// shares the buffers of views, the items of list views and the dictionary; the whole array then
     /// stays allocated as long as they are in use. A batch without columns keeps its number of rows.
+    /// Rows of the children of structs, fixed-size lists and sparse unions are copied, and may cause
+    /// errors, even if the row above them is null or belongs to another child.
     ///
     /// ```
     /// use vortex_bits::arrow::Export;
@@ -67,7 +68,8 @@ impl Array {
     ///
     /// - Returns [`ArrowError::Mask`] if the mask has another number of bits than there are rows.
     /// - Returns [`ArrowError::Malformed`] if offsets of texts or lists go back, runs end before
-    ///   the rows do, or a row of a union names no child.
+    ///   the rows do, a row of a union names no child or item, or a buffer that the rows need is
+    ///   null.
     /// - Returns [`ArrowError::TooLong`] if more than 2^31 rows of a dense union have one child.
     /// - Returns [`ArrowError::Memory`] if memory runs out for the copies.
     #[doc(alias("where", "compress", "select"))]
@@ -245,8 +247,8 @@ impl Export {
     /// # Errors
     ///
     /// - Returns [`ArrowError::Field`] if an array doesn't have the type of the field, or has a
-    ///   null and the field allows none. Null items of lists and dictionaries count even if no row
-    ///   names them.
+    ///   null and the field allows none. Nulls in dictionaries and in the items of lists, runs and
+    ///   unions count even if no row has them.
     /// - Returns [`ArrowError::LongTexts`] or [`ArrowError::TooLong`] if offsets of 32 bits, the
     ///   ends of runs or the indices of a dictionary can't represent all rows.
     /// - Returns [`ArrowError::TooLong`] if there are 2^63 rows or items or more, and
@@ -305,7 +307,9 @@ fn selected(field: &Field, of: &[Array], rows: Rows<'_>) -> Result<Owned<ArrowAr
         (Layout::Views, _) => variable::views(field, of, rows, nulls.valid(rows.len()))?,
         (Layout::Struct, _) => nested::structs(field, of, rows)?,
         (Layout::Lists(each), _) => nested::fixed_lists(field, each, of, rows)?,
-        (Layout::ListViews(width), _) => nested::list_views(field, width, of, rows)?,
+        (Layout::ListViews(width), _) => {
+            nested::list_views(field, width, of, rows, nulls.valid(rows.len()))?
+        }
         (Layout::Runs, _) => runs::runs(field, of, rows)?,
         (Layout::Nulls, _) => Made::default(),
         (Layout::Union { is_sparse, .. }, _) if is_sparse => unions::sparse(field, of, rows)?,

@@ -5,7 +5,6 @@ use alloc::vec::Vec;
 use core::ffi::c_void;
 
 use super::growing::TextsMut;
-use super::select::all_true;
 use super::{Export, number};
 use crate::arrow::array::Array;
 use crate::arrow::error::ArrowError;
@@ -83,12 +82,7 @@ impl Export {
     pub fn texts_kept(texts: &Array, mask: impl Mask) -> Result<Export, ArrowError> {
         let mask = mask.of_len(texts.len());
         texts.shows_texts()?;
-        if mask.is_some() || texts.validity()?.bits().is_none() {
-            return texts.filter(mask);
-        }
-        // Without a mask, `filter` would copy by runs, with the bytes of null rows.
-        let all = all_true(texts.field(), texts.len())?;
-        texts.filter(Bits::new(&all, 0, texts.len()))
+        texts.filter(mask)
     }
 
     /// Returns the rows of texts or binary values at indices, with their name, type and validity.
@@ -159,7 +153,8 @@ impl Export {
     /// # Errors
     ///
     /// - Returns [`ArrowError::Type`] if the array has another type, such as views.
-    /// - Returns [`ArrowError::LongTexts`] if the texts are longer together than 2^31 - 1 bytes.
+    /// - Returns [`ArrowError::LongTexts`] if the texts are longer together than 2^31 - 1 bytes,
+    ///   with the bytes of null rows.
     /// - For texts of another part of the program, returns the errors of [`Array::texts`].
     pub fn narrow(self) -> Result<Export, ArrowError> {
         let format = match (self.field.layout, self.field.format()) {

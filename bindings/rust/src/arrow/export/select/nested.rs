@@ -3,10 +3,11 @@
 use alloc::vec::Vec;
 
 use super::made::Made;
-use super::memory::{copied, too_many, zeroed};
+use super::memory::{reserved, too_many, zeroed};
 use super::nodes::{Nodes, only};
 use super::rows::{Rows, Run, Runs};
 use super::{fixed, put, selected, too_long};
+use crate::Bits;
 use crate::arrow::array::Array;
 use crate::arrow::error::{ArrowError, Fault};
 use crate::arrow::export::shared;
@@ -49,54 +50,79 @@ pub(super) fn fixed_lists(
     Ok(made)
 }
 
-/// Selects rows of list views: their offsets and sizes. The items are those of all arrays.
+/// Selects rows of list views: their offsets and sizes. The items are those of all arrays. `valid`
+/// has a bit per row.
 pub(super) fn list_views(
     field: &Field,
     width: usize,
     of: &[Array],
     rows: Rows<'_>,
+    valid: Option<Bits<'_>>,
 ) -> Result<Made, ArrowError> {
-    let numbers = of.iter().map(|it| it.list_view_numbers(width));
-    let (offsets, sizes): (Vec<&[u8]>, Vec<&[u8]>) = numbers.map(|[it, sizes]| (it, sizes)).unzip();
     let items = || of.iter().map(|it| &it.node.children[0]);
     if let Some(items) = only(items()) {
+        let numbers = of.iter().map(|it| it.list_view_numbers(width));
+        let numbers = numbers.map(|[offsets, sizes]| (offsets, sizes));
+        let (offsets, sizes): (Vec<&[u8]>, Vec<&[u8]>) = numbers.unzip();
         let offsets = fixed::values(field, width, &offsets, rows)?;
         let mut made = Made::of([offsets, fixed::values(field, width, &sizes, rows)?]);
         made.below.push(shared(items, items.offset, items.len));
         return Ok(made);
     }
     let items = Nodes::of(items());
-    let moved = of.iter().zip(items.before(Array::len));
-    let moved = moved.map(|(one, before)| moved_offsets(one, width, before));
-    let moved = moved.collect::<Result<Vec<_>, _>>()?;
+    let before: Vec<usize> = items.before(Array::len).collect();
     let number = items.each.iter().map(Array::len);
     let number = number.fold(0, usize::saturating_add);
     if width == 4 && i32::try_from(number).is_err() {
         return Err(too_long(field, "items of lists", number, i32::MAX.into()));
     }
-    let moved: Vec<&[u8]> = moved.iter().map(Vec::as_slice).collect();
-    let offsets = fixed::values(field, width, &moved, rows)?;
-    let mut made = Made::of([offsets, fixed::values(field, width, &sizes, rows)?]);
+    let mut moved = [(); 2].map(|()| zeroed(field, rows.len(), width));
+    if let [Ok(offsets), Ok(sizes)] = &mut moved {
+        move_lists(of, width, rows, valid, &before, [offsets, sizes])?;
+    }
+    let [offsets, sizes] = moved;
+    let mut made = Made::of([offsets?, sizes?]);
     let all = all_rows(field, &items.each)?;
     made.children(field, |_| &items.each[..], |_| all.rows())?;
     Ok(made)
 }
 
-/// Returns the offsets of list views, with `before` items in front of their own.
-fn moved_offsets(of: &Array, width: usize, before: usize) -> Result<Vec<u8>, ArrowError> {
-    let ([offsets, sizes], items) = (of.list_view_numbers(width), of.node.children[0].len);
-    let mut moved = copied(of.field(), offsets)?;
-    for row in 0..of.len() {
-        let (start, size) = (signed(offsets, row, width), signed(sizes, row, width));
-        let end = start.saturating_add(size);
-        let is_right = start >= 0 && size >= 0 && usize::try_from(end).is_ok_and(|it| it <= items);
-        if !is_right {
-            return Err(of.malformed(Fault::Range { row, start, end }));
+/// Writes the offsets and sizes of list views. `before` has for each array the number of items in
+/// front of its own. Null rows get 0, since theirs may be any numbers.
+fn move_lists(
+    of: &[Array],
+    width: usize,
+    rows: Rows<'_>,
+    valid: Option<Bits<'_>>,
+    before: &[usize],
+    [offsets, sizes]: [&mut [u8]; 2],
+) -> Result<(), ArrowError> {
+    rows.each(|at, run| {
+        let Some(one) = run.of else {
+            return Ok(());
+        };
+        for (at, row) in (at..).zip(run.start..run.start + run.len) {
+            if valid.is_none_or(|valid| valid[at]) {
+                let (start, len) = list_view(&of[one], width, row)?;
+                put(offsets, at, width, start.saturating_add(before[one]));
+                put(sizes, at, width, len);
+            }
         }
-        let start = usize::try_from(start).unwrap_or(usize::MAX);
-        put(&mut moved, row, width, start.saturating_add(before));
+        Ok(())
+    })
+}
+
+/// Returns the first item and the number of items of a list view.
+fn list_view(of: &Array, width: usize, row: usize) -> Result<(usize, usize), ArrowError> {
+    let ([offsets, sizes], items) = (of.list_view_numbers(width), of.node.children[0].len);
+    let (start, size) = (signed(offsets, row, width), signed(sizes, row, width));
+    let end = start.saturating_add(size);
+    match (usize::try_from(start), usize::try_from(size)) {
+        (Ok(first), Ok(len)) if usize::try_from(end).is_ok_and(|it| it <= items) => {
+            Ok((first, len))
+        }
+        _ => Err(of.malformed(Fault::Range { row, start, end })),
     }
-    Ok(moved)
 }
 
 /// Reads a signed number of four or eight bytes.
@@ -117,7 +143,11 @@ pub(super) fn coded(
     rows: Rows<'_>,
 ) -> Result<Made, ArrowError> {
     let width = field.layout.widest().0;
-    let dictionaries = || of.iter().filter_map(|it| it.node.dictionary.as_ref());
+    let used = with_valid_rows(field, of)?;
+    let dictionaries = || {
+        let used = of.iter().zip(&used).filter(|(_, is_used)| **is_used);
+        used.filter_map(|(it, _)| it.node.dictionary.as_ref())
+    };
     if let Some(one) = only(dictionaries()) {
         let mut made = Made::of([fixed::own_values(field, width, of, rows)?]);
         let Node { offset, len, .. } = **one;
@@ -129,12 +159,32 @@ pub(super) fn coded(
         return Ok(made);
     }
     let dictionaries = Nodes::of(dictionaries());
-    let before: Vec<usize> = dictionaries.before(Array::len).collect();
+    let mut before = dictionaries.before(Array::len);
+    let before = used
+        .iter()
+        .map(|is_used| if *is_used { before.next() } else { None });
+    let before: Vec<usize> = before.map(Option::unwrap_or_default).collect();
     let mut made = Made::of([moved_indices(field, of, rows, &before)?]);
     let all = all_rows(field, &dictionaries.each)?;
     let items = selected(items, &dictionaries.each, all.rows());
-    made.dictionary = Some(items.map_err(|error| error.under("dictionary"))?);
+    made.dictionary = Some(items.map_err(|error| match &field.name {
+        name if name.is_empty() => error.under("dictionary"),
+        name => error.under("dictionary").under(name),
+    })?);
     Ok(made)
+}
+
+/// Returns for each array whether its dictionary is needed: it has a valid row. If none has, the
+/// first array's dictionary is kept.
+fn with_valid_rows(field: &Field, of: &[Array]) -> Result<Vec<bool>, ArrowError> {
+    let mut used = reserved(field, of.len())?;
+    for one in of {
+        used.push(of.len() == 1 || one.null_count()? < one.len());
+    }
+    if let (false, Some(first)) = (used.contains(&true), used.first_mut()) {
+        *first = true;
+    }
+    Ok(used)
 }
 
 /// Selects indices. `before` has for each array the number of items in front of its own. Null rows
@@ -153,9 +203,8 @@ fn moved_indices(
         let Some(one) = run.of else {
             return Ok(());
         };
-        let part = of[one].slice(run.start..run.start + run.len);
-        let valid = part.validity()?;
-        part.each_index(|row, index| {
+        let (rows, valid) = (run.start..run.start + run.len, of[one].validity()?);
+        of[one].each_index_of(rows, |row, index| {
             if valid.get(row) == Some(false) {
                 return Ok(());
             }
@@ -165,7 +214,7 @@ fn moved_indices(
                 let items = index.saturating_add(1);
                 return Err(too_long(field, "items of a dictionary", items, most));
             }
-            put(&mut moved, at + row, width, index);
+            put(&mut moved, at + row - run.start, width, index);
             Ok(())
         })
     })?;

@@ -116,12 +116,9 @@ impl Runs {
         Rows::Runs(&self.runs, self.len)
     }
 
-    /// Cuts each of several arrays to its rows from the first to the last that a run has: the rows
-    /// outside are then neither copied nor tested.
+    /// Cuts each array to its rows from the first to the last that a run has: the rows outside are
+    /// then neither copied nor tested.
     pub(super) fn cut(&mut self, field: &Field, of: &mut [Array]) -> Result<(), ArrowError> {
-        if of.len() < 2 {
-            return Ok(());
-        }
         let mut spans = reserved(field, of.len())?;
         spans.resize(of.len(), None);
         for run in &self.runs {

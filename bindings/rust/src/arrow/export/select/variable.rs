@@ -4,17 +4,17 @@ use alloc::vec::Vec;
 use core::ffi::c_void;
 
 use super::made::Made;
-use super::memory::{copied, zeroed};
+use super::memory::zeroed;
 use super::nodes::{Nodes, only};
 use super::rows::{Rows, Run, Runs};
 use super::{fixed, joined, put, too_long};
 use crate::Bits;
 use crate::arrow::array::Array;
-use crate::arrow::error::ArrowError;
+use crate::arrow::error::{ArrowError, Fault};
 use crate::arrow::field::Field;
 use crate::arrow::layout::{Layout, Of};
 use crate::arrow::ranges::Ranges;
-use crate::arrow::texts::View;
+use crate::arrow::texts::{View, viewed};
 use crate::bytes::AlignedBytes;
 
 /// Selects rows of texts: new offsets, and the bytes of the rows. `valid` has a bit per row.
@@ -196,11 +196,8 @@ pub(super) fn views(
     }
     let nodes = Nodes::of(of.iter().map(|it| &it.node));
     // The sizes come after the buffers of texts, the validity and the views before them.
-    let moved = of.iter().zip(nodes.before(|it| it.node.buffers.len() - 3));
-    let moved = moved.map(|(one, before)| moved_views(field, one, before));
-    let moved = moved.collect::<Result<Vec<_>, _>>()?;
-    let moved: Vec<&[u8]> = moved.iter().map(Vec::as_slice).collect();
-    let mut made = Made::of([fixed::values(field, width, &moved, rows)?]);
+    let before: Vec<usize> = nodes.before(|it| it.node.buffers.len() - 3).collect();
+    let mut made = Made::of([moved_views(field, of, rows, valid, &before)?]);
     let buffers = nodes.each.iter().map(|it| {
         let buffers = it.view_buffers();
         buffers.map_err(|fault| it.malformed(fault))
@@ -217,25 +214,53 @@ pub(super) fn views(
     Ok(made)
 }
 
-/// Returns the views of an array, with `before` buffers in front of its own. Those of null rows are
-/// empty.
-fn moved_views(field: &Field, of: &Array, before: usize) -> Result<Vec<u8>, ArrowError> {
-    let texts = of.texts()?;
-    let mut views = copied(field, of.value_bytes())?;
-    for (row, view) in views.chunks_exact_mut(size_of::<View>()).enumerate() {
-        let Some(text) = texts.get(row) else {
-            view.fill(0);
-            continue;
+/// Selects views. `before` has for each array the number of buffers in front of its own. Those of
+/// null rows are empty.
+fn moved_views(
+    field: &Field,
+    of: &[Array],
+    rows: Rows<'_>,
+    valid: Option<Bits<'_>>,
+    before: &[usize],
+) -> Result<AlignedBytes, ArrowError> {
+    let buffers = of.iter().map(|one| {
+        let buffers = one.view_buffers();
+        buffers.map_err(|fault| one.malformed(fault))
+    });
+    let buffers = buffers.collect::<Result<Vec<_>, _>>()?;
+    let mut moved = zeroed(field, rows.len(), size_of::<View>())?;
+    rows.each(|at, run| -> Result<(), ArrowError> {
+        let Some(one) = run.of else {
+            return Ok(());
         };
-        if text.len() > 12 {
-            let buffer = u32::from_ne_bytes([view[8], view[9], view[10], view[11]]);
-            let moved = usize::try_from(buffer)
-                .unwrap_or(usize::MAX)
-                .saturating_add(before);
-            let moved = i32::try_from(moved)
-                .map_err(|_| too_long(field, "buffers of views", moved, i32::MAX.into()))?;
-            view[8..12].copy_from_slice(&moved.to_ne_bytes());
+        let views = of[one].views().unwrap_or_default();
+        for (at, row) in (at..).zip(run.start..run.start + run.len) {
+            if valid.is_none_or(|valid| valid[at]) {
+                let text = viewed(&views[row], &buffers[one]);
+                let text = text.ok_or_else(|| of[one].malformed(Fault::View(row)))?;
+                let view = moved_view(field, views[row], text.len(), before[one])?;
+                moved[at * size_of::<View>()..][..size_of::<View>()].copy_from_slice(&view);
+            }
         }
+        Ok(())
+    })?;
+    Ok(moved)
+}
+
+/// Returns the view of a text of `len` bytes, with `before` buffers in front of its own.
+fn moved_view(
+    field: &Field,
+    mut view: View,
+    len: usize,
+    before: usize,
+) -> Result<View, ArrowError> {
+    if len > 12 {
+        let buffer = u32::from_ne_bytes([view[8], view[9], view[10], view[11]]);
+        let buffer = usize::try_from(buffer).unwrap_or(usize::MAX);
+        let moved = buffer.saturating_add(before);
+        let moved = i32::try_from(moved)
+            .map_err(|_| too_long(field, "buffers of views", moved, i32::MAX.into()))?;
+        view[8..12].copy_from_slice(&moved.to_ne_bytes());
     }
-    Ok(views)
+    Ok(view)
 }
