@@ -27,6 +27,12 @@ struct spare {
     std::uint8_t *data() const { return first; }
     std::size_t size() const { return count; }
 };
+template <class Item> struct column {
+    std::vector<Item> items;
+    Item *data() { return items.data(); }
+    const Item *data() const { return items.data(); }
+    int size() const { return static_cast<int>(items.size()); }
+};
 struct digest {
     std::uint8_t all[16];
     const std::uint8_t *data() const { return all; }
@@ -96,6 +102,13 @@ ACCEPTED = [
     "std::optional<bits> valid = rows; (void)bits_mut(bytes, 0, 8).take_of(rows, fixed, valid);",
     "(void)rows.take_into(fixed, std::nullopt, bytes); (void)rows.take_into(fixed, rows, bytes);",
     "const auto &table = ranks(rows).table(); (void)table[0];",
+    "column<std::uint8_t> all{bytes}; (void)rows.filter_into(rows, all); (void)bits(all, 0, 8);",
+    "column<std::uint64_t> all{{1}}; (void)bits(all, 0, 64); bits_mut(all, 0, 64).fill(true);",
+    "column<int> all{{1, 2}}; compare(all, VB_LESS, 2, four); compare_with(all, VB_LESS, all, four);",
+    "column<int> all{{1, 2}}; (void)(rows.keep_into(all, all) + rows.retain_in(all));",
+    "column<int> all{{1, 2}}; (void)(rows.scatter_into(all, all) + *masked_min(all, rows));",
+    "column<unsigned> all{{1}}; (void)rows.take_into(all, bytes); (void)take_values(all, all, all);",
+    "column<std::uint64_t> sums{{1}}; column<unsigned> all{{1}}; (void)group_sums(sums, all, all);",
     "compare(std::vector<std::int8_t>(8), VB_LESS, 5, bits_mut(bytes, 0, 8));",
     "const vb_comparison op = VB_LESS; compare(vortex_bits::view(plain, 4), op, 5u, four);",
     "compare(std::vector<float>(8), VB_LESS, 0.5, {bytes, 0, 8});",

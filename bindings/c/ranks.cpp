@@ -15,6 +15,7 @@ static_assert(std::is_nothrow_move_constructible_v<ranks>);
 static_assert(std::is_nothrow_move_assignable_v<ranks>);
 static_assert(std::is_nothrow_swappable_v<ranks>);
 static_assert(!std::is_reference_v<decltype(std::declval<ranks>().table())>);
+static_assert(!std::is_reference_v<decltype(std::declval<const ranks>().table())>);
 
 /* Whether allocations succeed. */
 static bool has_memory = true;

@@ -41,14 +41,14 @@ public:
 
     template <class Bytes, detail::lender<const Bytes, const std::uint8_t> = 0>
     bits(const Bytes &bytes, std::size_t offset, std::size_t len)
-        : bits(bytes.data(), bytes.size(), offset, len)
+        : bits(bytes.data(), detail::size(bytes), offset, len)
     {
     }
 
     /* Over words of 64 bits: bit i is bit i % 64 of word i / 64, least significant first. */
     template <class Words, detail::lender<const Words, const std::uint64_t> = 0>
     bits(const Words &words, std::size_t offset, std::size_t len)
-        : bits(detail::bytes_of(words), 8 * words.size(), offset, len)
+        : bits(detail::bytes_of(words), 8 * detail::size(words), offset, len)
     {
     }
 
@@ -213,9 +213,9 @@ public:
             "set_indices writes indices of std::size_t or std::uint32_t");
         if constexpr (std::is_same_v<index, std::uint32_t>) {
             detail::expect(len_ <= std::size_t(UINT32_MAX) + 1, "more bits than 32 bits can index");
-            return vb_set_indices_u32(out.data(), out.size(), bytes_, size_, offset_, len_);
+            return vb_set_indices_u32(out.data(), detail::size(out), bytes_, size_, offset_, len_);
         } else if constexpr (std::is_same_v<index, std::size_t>) {
-            return vb_set_indices(out.data(), out.size(), bytes_, size_, offset_, len_);
+            return vb_set_indices(out.data(), detail::size(out), bytes_, size_, offset_, len_);
         }
     }
     template <class Out> std::size_t set_slices_into(Out &&out) const
@@ -225,9 +225,9 @@ public:
             "set_slices writes runs of vb_run or vb_run_u32");
         if constexpr (std::is_same_v<run, vb_run_u32>) {
             detail::expect(len_ <= UINT32_MAX, "more bits than 32 bits can index");
-            return vb_set_slices_u32(out.data(), out.size(), bytes_, size_, offset_, len_);
+            return vb_set_slices_u32(out.data(), detail::size(out), bytes_, size_, offset_, len_);
         } else if constexpr (std::is_same_v<run, vb_run>) {
-            return vb_set_slices(out.data(), out.size(), bytes_, size_, offset_, len_);
+            return vb_set_slices(out.data(), detail::size(out), bytes_, size_, offset_, len_);
         }
     }
 
@@ -340,14 +340,14 @@ public:
 
     template <class Bytes, detail::lender<Bytes, std::uint8_t> = 0>
     bits_mut(Bytes &bytes, std::size_t offset, std::size_t len)
-        : bits_mut(bytes.data(), bytes.size(), offset, len)
+        : bits_mut(bytes.data(), detail::size(bytes), offset, len)
     {
     }
 
     /* Over a temporary container too, if it refers to another's bytes, as a std::span does. */
     template <class Bytes, detail::borrower<Bytes, std::uint8_t> = 0>
     bits_mut(const Bytes &&bytes, std::size_t offset, std::size_t len)
-        : bits_mut(bytes.data(), bytes.size(), offset, len)
+        : bits_mut(bytes.data(), detail::size(bytes), offset, len)
     {
     }
     template <class Bytes, detail::owner<Bytes, std::uint8_t> = 0>
@@ -356,12 +356,12 @@ public:
     /* Over words of 64 bits, as in bits. */
     template <class Words, detail::lender<Words, std::uint64_t> = 0>
     bits_mut(Words &words, std::size_t offset, std::size_t len)
-        : bits_mut(detail::bytes_of(words), 8 * words.size(), offset, len)
+        : bits_mut(detail::bytes_of(words), 8 * detail::size(words), offset, len)
     {
     }
     template <class Words, detail::borrower<Words, std::uint64_t> = 0>
     bits_mut(const Words &&words, std::size_t offset, std::size_t len)
-        : bits_mut(detail::bytes_of(words), 8 * words.size(), offset, len)
+        : bits_mut(detail::bytes_of(words), 8 * detail::size(words), offset, len)
     {
     }
     template <class Words, detail::owner<Words, std::uint64_t> = 0>
@@ -413,7 +413,7 @@ public:
     void xor_of(bits left, bits right) { by_two(vb_xor_into, left, right); }
     void and_not_of(bits left, bits right) { by_two(vb_and_not_into, left, right); }
 
-    /* Writes which rows are valid in both of two columns; a column without a validity has no null. */
+    /* Writes which rows are valid in both of two columns. No row of `nullopt` is null. */
     void and_validities_of(const std::optional<bits> &left, const std::optional<bits> &right);
 
     /*

@@ -124,7 +124,8 @@ struct aggregate {
         static_assert(is_index<value>(),
             "exact sums are of whole numbers of 8, 16, 32 or 64 bits");
         if constexpr (is_index<value>()) {
-            return call_by<aggregated_by<sizeof(value), std::is_signed_v<value>>>(values, mask, call);
+            using by = aggregated_by<sizeof(value), std::is_signed_v<value>>;
+            return call_by<by>(values, mask, call);
         } else if constexpr (std::is_arithmetic_v<value>) {
             // Returns the right type, so that the uses of the result cause no second error.
             return of_whole(std::array<std::int64_t, 0>{}, mask, call);
@@ -150,9 +151,9 @@ struct aggregate {
     template <class By, class Values, class Call>
     static auto call_by(const Values &values, const bits &mask, Call call)
     {
-        expect(values.size() == mask.len_, "not a bit of the mask for each value");
+        expect(detail::size(values) == mask.len_, "not a bit of the mask for each value");
         return call(By(), reinterpret_cast<const typename By::type *>(values.data()),
-            values.size(), mask.bytes_, mask.size_, mask.offset_);
+            detail::size(values), mask.bytes_, mask.size_, mask.offset_);
     }
 
     /*
@@ -166,10 +167,10 @@ struct aggregate {
     {
         using code = item_t<Codes>;
         using as = typename laid<sizeof(code)>::type;
-        expect(!mask || mask->len_ == codes.size(), "not a bit of the mask for each code");
+        expect(!mask || mask->len_ == detail::size(codes), "not a bit of the mask for each code");
         const bits selected = mask.value_or(bits());
-        return position(call(totals.data(), reached<code>(totals.size()),
-            reinterpret_cast<const as *>(codes.data()), codes.size(), !mask, selected.bytes_,
+        return position(call(totals.data(), reached<code>(detail::size(totals)),
+            reinterpret_cast<const as *>(codes.data()), detail::size(codes), !mask, selected.bytes_,
             selected.size_, selected.offset_));
     }
 };
@@ -230,8 +231,8 @@ template <class Values> [[nodiscard]] auto masked_max(const Values &values, bits
 
 /*
  * Adds to each count, a std::uint64_t, the number of selected rows whose code is its index: `codes`
- * are whole numbers of 8 to 32 bits. Without a mask each row is selected. Returns the first selected
- * row whose code is out of range, if there is one; the counts are then unchanged.
+ * are whole numbers of 8 to 32 bits. Without a mask each row is selected. Returns the first
+ * selected row whose code is out of range, if there is one; the counts are then unchanged.
  */
 template <class Counts, class Codes>
 [[nodiscard]] std::optional<std::size_t> group_counts(Counts &&counts, const Codes &codes,
@@ -250,8 +251,8 @@ template <class Counts, class Codes>
 
 /*
  * Adds each selected value to the sum at the index that is the code of its row: a std::int64_t for
- * signed values, else a std::uint64_t, which wraps around. Values are whole numbers of 8 to 64 bits,
- * one for each code; the rest is as in group_counts.
+ * signed values, else a std::uint64_t, which wraps around. Values are whole numbers of 8 to 64
+ * bits, one for each code; the rest is as in group_counts.
  */
 template <class Sums, class Codes, class Values>
 [[nodiscard]] std::optional<std::size_t> group_sums(Sums &&sums, const Codes &codes,
@@ -264,14 +265,14 @@ template <class Sums, class Codes, class Values>
     using total = std::conditional_t<std::is_signed_v<value>, std::int64_t, std::uint64_t>;
     static_assert(!detail::is_index<value>() || std::is_same_v<detail::lent_of<Sums>, total>,
         "sums are of std::int64_t for signed values, else of std::uint64_t");
-    detail::expect(values.size() == codes.size(), "not a value for each code");
+    detail::expect(detail::size(values) == detail::size(codes), "not a value for each code");
     if constexpr (detail::is_code<code>() && detail::is_index<value>()) {
         using by = detail::summed_by<sizeof(code), sizeof(value), std::is_signed_v<value>>;
         using as = typename detail::aggregated_by<sizeof(value), std::is_signed_v<value>>::type;
         const auto *terms = reinterpret_cast<const as *>(values.data());
         return detail::aggregate::by_group(sums, codes, mask,
             [&](auto *out, std::size_t out_count, auto *of, std::size_t count, auto... rest) {
-                return by::sum(out, out_count, of, count, terms, values.size(), rest...);
+                return by::sum(out, out_count, of, count, terms, detail::size(values), rest...);
             });
     }
     return std::nullopt;

@@ -136,7 +136,7 @@ void compare(const Values &values, vb_comparison op, Number number, bits_mut out
         "compare compares whole numbers with a whole number: round this one as you mean it");
     if constexpr (detail::is_compared<value>() && detail::is_compared_with<value, Number>()) {
         detail::expect(op <= VB_GREATER_OR_EQUAL, "not a comparison");
-        detail::expect(values.size() == out.len_, "not a bit for each value");
+        detail::expect(detail::size(values) == out.len_, "not a bit for each value");
         using by = detail::compared_as<value>;
         using as = typename by::type;
         const auto bound = detail::bound_of<as>(+number);
@@ -146,7 +146,7 @@ void compare(const Values &values, vb_comparison op, Number number, bits_mut out
         }
         const std::uint8_t beside = is_less ? VB_LESS : VB_GREATER_OR_EQUAL;
         by::number(out.writable(), out.size_, out.offset_,
-            reinterpret_cast<const as *>(values.data()), values.size(),
+            reinterpret_cast<const as *>(values.data()), detail::size(values),
             bound.is_number ? static_cast<std::uint8_t>(op) : beside, bound.value);
     }
 }
@@ -164,14 +164,14 @@ void compare_with(const Values &values, vb_comparison op, const Others &others, 
         "compare_with compares values of one type");
     if constexpr (detail::is_compared<value>() && std::is_same_v<other, value>) {
         detail::expect(op <= VB_GREATER_OR_EQUAL, "not a comparison");
-        detail::expect(values.size() == out.len_ && others.size() == out.len_,
+        detail::expect(detail::size(values) == out.len_ && detail::size(others) == out.len_,
             "not a bit for each value and other");
         using by = detail::compared_as<value>;
         using as = typename by::type;
         by::others(out.writable(), out.size_, out.offset_,
-            reinterpret_cast<const as *>(values.data()), values.size(),
+            reinterpret_cast<const as *>(values.data()), detail::size(values),
             static_cast<std::uint8_t>(op), reinterpret_cast<const as *>(others.data()),
-            others.size());
+            detail::size(others));
     }
 }
 

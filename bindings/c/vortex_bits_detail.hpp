@@ -76,6 +76,12 @@ inline constexpr bool lends<Container, Byte,
     std::is_convertible_v<decltype(std::declval<Container &>().data()), Byte *>
     && std::is_convertible_v<decltype(std::declval<Container &>().size()), std::size_t>;
 
+/* Returns the number of a container's items. Its size() may be of another type, such as int. */
+template <class Container> constexpr std::size_t size(const Container &of)
+{
+    return static_cast<std::size_t>(of.size());
+}
+
 /* The type that a container's data() points to; void if it has none. */
 template <class Container, class = void> struct lent { using type = void; };
 template <class Container>

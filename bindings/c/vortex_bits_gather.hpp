@@ -66,15 +66,15 @@ std::optional<std::size_t> bits::take(const Indices &indices, const bits *valid,
     using index = std::remove_cv_t<detail::lent_t<const Indices>>;
     static_assert(detail::is_index<index>(),
         "take_into takes indices of a whole number of 8, 16, 32 or 64 bits");
-    detail::expect(fits(size, at, indices.size()), "no room for a bit an index");
-    detail::expect(valid == nullptr || valid->len_ == indices.size(),
+    detail::expect(fits(size, at, detail::size(indices)), "no room for a bit an index");
+    detail::expect(valid == nullptr || valid->len_ == detail::size(indices),
         "not a bit of validity for each index");
     if constexpr (detail::is_index<index>()) {
         using by = detail::bits_taken_by<sizeof(index)>;
         const bits counts = valid != nullptr ? *valid : bits();
         return detail::position(by::take(out, size, at, bytes_, size_, offset_,
             detail::reached<index>(len_),
-            reinterpret_cast<const typename by::type *>(indices.data()), indices.size(),
+            reinterpret_cast<const typename by::type *>(indices.data()), detail::size(indices),
             valid == nullptr, counts.bytes_, counts.size_, counts.offset_));
     }
     return std::nullopt;
@@ -84,7 +84,7 @@ template <class Indices, class Out>
 std::optional<std::size_t> bits::take_into(const Indices &indices, Out &&out) const
 {
     static_assert(detail::is_bytes<Out>(), "take_into writes bytes of std::uint8_t");
-    return take(indices, nullptr, out.data(), out.size(), 0);
+    return take(indices, nullptr, out.data(), detail::size(out), 0);
 }
 
 template <class Indices, class Out>
@@ -92,7 +92,7 @@ std::optional<std::size_t> bits::take_into(const Indices &indices,
     const std::optional<bits> &valid, Out &&out) const
 {
     static_assert(detail::is_bytes<Out>(), "take_into writes bytes of std::uint8_t");
-    return take(indices, valid ? &*valid : nullptr, out.data(), out.size(), 0);
+    return take(indices, valid ? &*valid : nullptr, out.data(), detail::size(out), 0);
 }
 
 template <class Out> std::size_t bits::filter_into(bits mask, Out &&out) const
@@ -100,7 +100,7 @@ template <class Out> std::size_t bits::filter_into(bits mask, Out &&out) const
     static_assert(detail::is_bytes<Out>(), "filter_into writes bytes of std::uint8_t");
     detail::expect(mask.len_ == len_, "windows are of two lengths");
     std::size_t kept = 0;
-    detail::expect(vb_try_filter_bits(out.data(), out.size(), 0, bytes_, size_, offset_,
+    detail::expect(vb_try_filter_bits(out.data(), detail::size(out), 0, bytes_, size_, offset_,
             mask.bytes_, mask.size_, mask.offset_, len_, &kept),
         "no room for the bits to keep");
     return kept;
@@ -144,7 +144,7 @@ template <class Indices>
 std::optional<std::size_t> bits_mut::take_of(bits values, const Indices &indices,
     const std::optional<bits> &valid)
 {
-    detail::expect(indices.size() <= len_, "no room for a bit an index");
+    detail::expect(detail::size(indices) <= len_, "no room for a bit an index");
     return values.take(indices, valid ? &*valid : nullptr, writable(), size_, offset_);
 }
 
@@ -187,24 +187,24 @@ template <class Bools> void bits::copy_to_bools(Bools &&out) const
     using item = detail::lent_t<std::remove_reference_t<Bools>>;
     static_assert(std::is_same_v<item, bool>,
         "copy_to_bools writes values of bool, of which std::vector<bool> lends none");
-    detail::expect(out.size() == len_, "not a bool for each bit");
+    detail::expect(detail::size(out) == len_, "not a bool for each bit");
     if constexpr (std::is_same_v<item, bool>) {
-        vb_unpack_bools(out.data(), out.size(), bytes_, size_, offset_, len_);
+        vb_unpack_bools(out.data(), detail::size(out), bytes_, size_, offset_, len_);
     }
 }
 
 template <class Bytes> void bits::copy_to_bytes(Bytes &&out) const
 {
     static_assert(detail::is_bytes<Bytes>(), "copy_to_bytes writes bytes of std::uint8_t");
-    detail::expect(out.size() == len_, "not a byte for each bit");
-    vb_unpack_bytes(out.data(), out.size(), bytes_, size_, offset_, len_);
+    detail::expect(detail::size(out) == len_, "not a byte for each bit");
+    vb_unpack_bytes(out.data(), detail::size(out), bytes_, size_, offset_, len_);
 }
 
 template <class Bools> void bits_mut::copy_from_bools(const Bools &bools)
 {
     static_assert(std::is_same_v<std::remove_cv_t<detail::lent_t<const Bools>>, bool>,
         "copy_from_bools packs values of bool, of which std::vector<bool> lends none");
-    detail::expect(bools.size() == len_, "not a bit for each bool");
+    detail::expect(detail::size(bools) == len_, "not a bit for each bool");
     if constexpr (!std::is_void_v<detail::lent_t<const Bools>>) {
         vb_pack_bools(writable(), size_, offset_, bools.data(), len_);
     }
@@ -212,7 +212,7 @@ template <class Bools> void bits_mut::copy_from_bools(const Bools &bools)
 
 template <class Bytes> void bits_mut::copy_from_truthy(const Bytes &truthy)
 {
-    detail::expect(truthy.size() == len_, "not a bit for each byte");
+    detail::expect(detail::size(truthy) == len_, "not a bit for each byte");
     vb_pack_truthy(writable(), size_, offset_, truthy.data(), len_);
 }
 
@@ -225,9 +225,9 @@ template <class Bools, class Out> void pack_bools(const Bools &bools, Out &&out)
     static_assert(std::is_same_v<std::remove_cv_t<detail::lent_t<const Bools>>, bool>,
         "pack_bools packs values of bool, of which std::vector<bool> lends none");
     static_assert(detail::is_bytes<Out>(), "pack_bools writes bytes of std::uint8_t");
-    detail::expect(fits(out.size(), 0, bools.size()), "no room for a bit a bool");
+    detail::expect(fits(detail::size(out), 0, detail::size(bools)), "no room for a bit a bool");
     if constexpr (!std::is_void_v<detail::lent_t<const Bools>>) {
-        vb_pack_bools_padded(out.data(), out.size(), bools.data(), bools.size());
+        vb_pack_bools_padded(out.data(), detail::size(out), bools.data(), detail::size(bools));
     }
 }
 
@@ -235,8 +235,8 @@ template <class Bools, class Out> void pack_bools(const Bools &bools, Out &&out)
 template <class Bytes, class Out> void pack_truthy(const Bytes &truthy, Out &&out)
 {
     static_assert(detail::is_bytes<Out>(), "pack_truthy writes bytes of std::uint8_t");
-    detail::expect(fits(out.size(), 0, truthy.size()), "no room for a bit a byte");
-    vb_pack_truthy_padded(out.data(), out.size(), truthy.data(), truthy.size());
+    detail::expect(fits(detail::size(out), 0, detail::size(truthy)), "no room for a bit a byte");
+    vb_pack_truthy_padded(out.data(), detail::size(out), truthy.data(), detail::size(truthy));
 }
 
 } // namespace vortex_bits

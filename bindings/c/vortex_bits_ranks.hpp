@@ -52,6 +52,8 @@ public:
 
     const std::vector<std::size_t> &table() const & { return table_; }
 
+    std::vector<std::size_t> table() const && { return table_; }
+
     /* Takes the table of a temporary object, which then has no bits. */
     std::vector<std::size_t> table() &&
     {

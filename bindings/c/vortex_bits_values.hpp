@@ -59,11 +59,11 @@ std::size_t bits::keep_into(const Values &values, Out &&out) const
         "keep_into writes values of the type that it reads");
     std::size_t kept = 0;
     if constexpr (detail::is_value<value>() && std::is_same_v<detail::lent_of<Out>, value>) {
-        detail::expect(values.size() == len_, "not a bit for each value");
+        detail::expect(detail::size(values) == len_, "not a bit for each value");
         using laid = detail::laid<sizeof(value)>;
         detail::expect(laid::try_keep(reinterpret_cast<typename laid::type *>(out.data()),
-                out.size(), reinterpret_cast<const typename laid::type *>(values.data()), len_,
-                bytes_, size_, offset_, &kept),
+                detail::size(out), reinterpret_cast<const typename laid::type *>(values.data()),
+                len_, bytes_, size_, offset_, &kept),
             "no room for the values to keep");
     }
     return kept;
@@ -75,7 +75,7 @@ template <class Values> std::size_t bits::retain_in(Values &&values) const
     static_assert(detail::is_value<value>() && !std::is_const_v<value>,
         "retain_in takes values to write of 1, 2, 4, 8 or 16 bytes that are copied and aligned as "
         "whole numbers are: these, floats, bool, vb_u128. std::vector<bool> has none of them");
-    detail::expect(values.size() == len_, "not a bit for each value");
+    detail::expect(detail::size(values) == len_, "not a bit for each value");
     if constexpr (detail::is_value<value>() && !std::is_const_v<value>) {
         using laid = detail::laid<sizeof(value)>;
         return laid::retain(reinterpret_cast<typename laid::type *>(values.data()), len_, bytes_,
@@ -94,12 +94,12 @@ std::size_t bits::scatter_into(const Values &values, Out &&out) const
     static_assert(std::is_same_v<detail::lent_of<Out>, value>,
         "scatter_into writes values of the type that it reads");
     if constexpr (detail::is_value<value>() && std::is_same_v<detail::lent_of<Out>, value>) {
-        detail::expect(out.size() == len_, "not a bit for each item");
-        detail::expect(count_ones() <= values.size(), "not a value for each set bit");
+        detail::expect(detail::size(out) == len_, "not a bit for each item");
+        detail::expect(count_ones() <= detail::size(values), "not a value for each set bit");
         using laid = detail::laid<sizeof(value)>;
         return laid::scatter(reinterpret_cast<typename laid::type *>(out.data()), len_,
-            reinterpret_cast<const typename laid::type *>(values.data()), values.size(), bytes_,
-            size_, offset_);
+            reinterpret_cast<const typename laid::type *>(values.data()), detail::size(values),
+            bytes_, size_, offset_);
     }
     return 0;
 }
@@ -125,17 +125,18 @@ template <class Values, class Indices, class Out>
         "take_values writes values of the type that it reads");
     if constexpr (detail::is_value<value>() && detail::is_index<index>()
         && std::is_same_v<detail::lent_of<Out>, value>) {
-        detail::expect(indices.size() <= out.size(), "no room for a value an index");
-        detail::expect(!valid || valid->size() == indices.size(),
+        detail::expect(detail::size(indices) <= detail::size(out), "no room for a value an index");
+        detail::expect(!valid || valid->size() == detail::size(indices),
             "not a bit of validity for each index");
         using laid = typename detail::laid<sizeof(value)>::type;
         using as = typename detail::laid<sizeof(index)>::type;
         const bits counts = valid.value_or(bits());
         return detail::position(detail::taken_by<sizeof(value), sizeof(index)>::take(
-            reinterpret_cast<laid *>(out.data()), out.size(),
-            reinterpret_cast<const laid *>(values.data()), detail::reached<index>(values.size()),
-            reinterpret_cast<const as *>(indices.data()), indices.size(), !valid, counts.bytes_,
-            counts.size_, counts.offset_));
+            reinterpret_cast<laid *>(out.data()), detail::size(out),
+            reinterpret_cast<const laid *>(values.data()),
+            detail::reached<index>(detail::size(values)),
+            reinterpret_cast<const as *>(indices.data()), detail::size(indices), !valid,
+            counts.bytes_, counts.size_, counts.offset_));
     }
     return std::nullopt;
 }

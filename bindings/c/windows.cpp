@@ -48,6 +48,15 @@ template <class Call> static void refused(Call call, const char *what)
     }
 }
 
+/* Words whose number is an int. */
+struct few_words {
+    const std::uint64_t *first;
+    int count;
+    const std::uint64_t *data() const { return first; }
+    int size() const { return count; }
+};
+template <> inline constexpr bool vortex_bits::is_borrowed<few_words> = true;
+
 /* Checks that only C counts the bits of a mask for filters, if there is space for all. */
 static void counts_of_filters()
 {
@@ -92,6 +101,12 @@ static void bounds()
     refused([] { vortex_bits::view<const std::int64_t>(nullptr, 1); }, "no items to read");
     refused([] { vortex_bits::view<std::uint8_t>(nullptr, SIZE_MAX); }, "no items to write");
     check(vortex_bits::view<std::uint8_t>(nullptr, 0).empty(), "no items of none");
+    const std::uint64_t word = 0;
+    const few_words words = {&word, 1 << 28};
+    const std::size_t all = std::size_t{64} << 28;
+    check(bits(words, all - 1, 1).size() == 1, "the last bit of many words");
+    refused([&] { bits(words, all, 1); }, "a bit after many words");
+    refused([&] { bits(words, 2 * all, 0); }, "a window after many words");
     buffer few = {0xFF}, more(100, 0xFF);
     bits_mut window(few, 0, 8);
     static_cast<bits &>(window) = bits(more, 0, 800);
