@@ -29,22 +29,6 @@ exit 1"""
 NEVER_ENDS = "sleep 600 & echo $! >child; echo begun; wait"
 # The signals that end a command, and the exit status after each.
 INTERRUPTS = {signal.SIGINT: 130, signal.SIGTERM: 143, signal.SIGHUP: 129}
-# An `rt` that builds an empty library for each crate, and a compiler for C that makes a program of
-# benchmarks of what it links.
-EMPTY = """[ "$1" != doc ] || { echo kit/START-HERE.md; exit 0; }
-name=$(basename "$PWD")
-echo "rt: chose --jobs 1 for $name"
-mkdir -p out && : >"out/lib$name.a"
-echo 'logic=proved functions=1'"""
-BENCHMARKS = """while [ "$1" != -o ]; do shift; done
-cat >"$2" <<'END'
-#!/bin/sh
-echo '  measures Counts' >&2
-echo '| a row |'
-echo '{}' >"$3"
-[ "$4" != wrong ]
-END
-chmod +x "$2\""""
 
 
 def take_signals():
@@ -404,46 +388,6 @@ class Bindings(Folder):
         self.assertIn("failed: library of x86-64-v2", lines)
         self.assertIn("    fn vb_c::first: not proved", lines)
         self.assertEqual(lines[0], "all output is kept in bindings/out/build.log")
-
-
-class Rows(Folder):
-    """Tests bench/rows with crates, a program and measurements of this class."""
-
-    def setUp(self):
-        super().setUp()
-        self.copy("bench/rows")
-        self.command("bindings/build", "echo '1 passed, 0 failed'")
-        self.copy("crates.txt")
-        self.write("kit/c/liblibc_c.a", "")
-        self.write("bench/library/src/lib.rt.in", "")
-        for line in (self.top / "crates.txt").read_text().splitlines():
-            if not line.startswith("#") and ":" in line:
-                self.write(f"crates/{line.split(':')[0].split()[0]}/src/lib.rt", "")
-        self.command("bin/rt", EMPTY.replace("kit/", f"{self.top}/kit/"))
-        self.command("bin/cargo", "")
-        self.command("bin/cc", BENCHMARKS)
-
-    def rows(self, *words: str) -> tuple[int, list[str]]:
-        room = f"BENCH_ROOM={self.top}/room"
-        return self.run_it("env", room, "bench/rows", "--quick", *words, "x86-64-v2")
-
-    def test_each_part_says_how_far_it_is(self):
-        status, lines = self.rows()
-        self.assertEqual((status, lines[-1]), (0, "5 passed, 0 failed"))
-        begun = [it.split(",")[0] for it in lines if it.startswith("part ")]
-        names = ["tests of the kernels at", "libraries of", "rows at"]
-        wanted = [f"part {k} of 3: {name} x86-64-v2" for k, name in enumerate(names, 1)]
-        self.assertEqual(begun, wanted)
-        self.assertEqual(lines.count("    measures Counts"), 4)
-        self.assertIn("vb_bench proved", "\n".join(lines))
-        self.assertIn("| a row |", (self.top / "bench/out/TABLE.md").read_text())
-        self.assertEqual(lines[-2], "all output is in bench/out/rows.log")
-
-    def test_it_stops_where_the_rows_fail(self):
-        status, lines = self.rows("--only", "wrong")
-        self.assertEqual((status, lines[-1]), (1, "4 passed, 1 failed"))
-        self.assertIn("failed: rows at x86-64-v2", lines)
-        self.assertFalse((self.top / "bench/out/TABLE.md").exists())
 
 
 class WithoutRt(Folder):
