@@ -380,7 +380,7 @@ static void print_times(const struct batches *batches)
 
 int main(int count, char **words)
 {
-    struct rows rows = make_rows(count > 1 ? strtoul(words[1], NULL, 10) : 100000);
+    struct rows rows = make_rows(rows_asked(count, words));
     struct ArrowArrayStream stream = stream_of(&rows);
     struct batches batches = {0, 0, NULL};
     if (!read_all(&stream, &batches)) {
@@ -393,7 +393,7 @@ int main(int count, char **words)
     print_answer(&answer);
     if (!agree) {
         fputs("the two ways differ\n", stderr);
-    } else if (count > 2 && strcmp(words[2], "time") == 0) {
+    } else if (count > 2) {
         print_times(&batches);
     }
     free_answer(&answer);

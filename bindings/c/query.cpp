@@ -7,10 +7,9 @@
 #include "query_columns.hpp"
 #include "query_rows.h"
 
+#include <algorithm>
 #include <chrono>
 #include <cstdio>
-#include <cstring>
-#include <string>
 
 constexpr std::int32_t limit = 700;
 constexpr std::size_t nth = 999, places = 1000;
@@ -200,7 +199,7 @@ static void print_times(const std::vector<batch> &batches)
 
 int main(int count, char **words)
 {
-    rows all = make_rows(count > 1 ? std::stoul(words[1]) : 100000);
+    rows all = make_rows(rows_asked(count, words));
     {
         const std::vector<batch> batches = read_all(stream_of(&all));
         const answer made = ask<by_calls>(batches);
@@ -210,7 +209,7 @@ int main(int count, char **words)
         }
         std::printf("%zu of %zu rows are kept, sums %lld and %.2f\n", made.b.size(), made.rows,
             static_cast<long long>(made.sum_b), made.sum_c);
-        if (count > 2 && std::string(words[2]) == "time") {
+        if (count > 2) {
             print_times(batches);
         }
     }

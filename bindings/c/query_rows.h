@@ -17,10 +17,31 @@
 /* The greatest number of rows of a batch. */
 enum { BATCH = 65536 };
 
+/* The greatest number of rows: they and their answers take some gigabytes. */
+enum { MOST_ROWS = 100000000 };
+
+/*
+ * Returns the number of rows of the command line `query [ROWS [time]]`, by default 100,000. Ends
+ * the program if the line is another one.
+ */
+static size_t rows_asked(int count, char **words)
+{
+    const char *rows = count > 1 ? words[1] : "100000";
+    const unsigned long long number = strtoull(rows, NULL, 10);
+    /* strtoull also reads signs and leading spaces: -1 as the greatest number. */
+    const size_t digits = strspn(rows, "0123456789");
+    if (digits == 0 || rows[digits] != '\0' || number > MOST_ROWS || count > 3
+        || (count == 3 && strcmp(words[2], "time") != 0)) {
+        fprintf(stderr, "usage: query [ROWS [time]], with at most %d rows\n", MOST_ROWS);
+        exit(2);
+    }
+    return (size_t)number;
+}
+
 /* Returns `count` items of zeros; ends the program if memory runs out. */
 static void *room(size_t count, size_t size)
 {
-    void *made = calloc(count + 1, size);
+    void *made = count < SIZE_MAX ? calloc(count + 1, size) : NULL;
     if (made == NULL) {
         fputs("no memory\n", stderr);
         exit(2);
