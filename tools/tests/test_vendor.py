@@ -56,6 +56,17 @@ class Vendor(unittest.TestCase):
         self.assertEqual(self.vendor(), (1, refused))
         self.assertFalse((self.top / "crates/vb_core").exists())
 
+    def test_a_file_of_the_same_name_is_refused(self):
+        self.vendor()
+        # As if the earlier copy had no such file, and the user wrote one.
+        record = self.top / "vortex_buffer.vendored"
+        lines = record.read_text().splitlines(keepends=True)
+        record.write_text("".join(it for it in lines if not it.endswith(f"{SOURCE}\n")))
+        (self.top / SOURCE).write_text("mine")
+        refused = f"vendor: {SOURCE} is there, and no earlier copy brought it\n"
+        self.assertEqual(self.vendor(), (1, refused))
+        self.assertEqual((self.top / SOURCE).read_text(), "mine")
+
     def test_without_a_repository_nothing_is_written(self):
         top = COMMAND.parent.parent
         # As in an unpacked archive: git sees no repository above this folder.
