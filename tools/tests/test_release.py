@@ -1,4 +1,5 @@
-"""Tests bindings/release in a repository for the test, with and without uncommitted changes."""
+"""Tests bindings/release in a repository for the test, with and without uncommitted changes, and
+with programs of this file in place of compilers."""
 import os
 import subprocess
 import tempfile
@@ -10,6 +11,16 @@ TOP = Path(__file__).resolve().parent.parent.parent
 # It ends at the build of the libraries, after all that the test is about.
 BUILD = "#!/bin/sh\necho builds >&2\nexit 3\n"
 BUILDS = "failed: libraries\n    builds\n"
+# Programs that compile and find nothing, but for the flags of a package in a path with a space.
+PKG_CONFIG = "#!/bin/sh\necho '-I/with\\ space -lvortex_bits'\n"
+CC = """#!/bin/sh
+[ "$4" = "-I/with space" ] || exit 1
+while [ $# -gt 1 ]; do shift; done
+printf '#!/bin/sh\\necho ran' >"$1"
+chmod +x "$1"
+"""
+FAILS = "#!/bin/sh\nexit 1\n"
+BUILDS_VBITS = "#!/bin/sh\nmkdir -p out && echo vbits >out/vbits\n"
 
 
 class Release(unittest.TestCase):
@@ -62,8 +73,40 @@ class Release(unittest.TestCase):
         self.assertEqual((ended.returncode, ended.stderr), (1, said))
         self.assertTrue((self.top / "dist" / "kept").exists())
 
+    def program(self, path: str, text: str) -> None:
+        (self.top / path).write_text(text)
+        (self.top / path).chmod(0o755)
+
     def test_all_is_committed(self):
         self.builds()
+
+    def test_the_last_release_stays_if_a_build_fails(self):
+        kept = self.top / "dist/kept"
+        kept.parent.mkdir()
+        kept.touch()
+        self.builds()
+        self.assertTrue(kept.exists())
+        self.program("bindings/build", "#!/bin/sh\n")
+        self.program("tools/rt", FAILS)
+        self.commit()
+        self.assertIn("failed: vbits at x86-64-v2", self.release().stdout)
+        self.assertTrue(kept.exists())
+
+    def test_flags_of_a_package_in_a_path_with_a_space(self):
+        (self.top / "crates/vbits").mkdir(parents=True)
+        (self.top / "crates/vbits/stdin").touch()
+        self.program("bindings/build", "#!/bin/sh\n")
+        self.program("tools/rt", BUILDS_VBITS)
+        self.program("tools/pkg-config", PKG_CONFIG)
+        self.program("tools/cc", CC)
+        for name in ("cargo", "cmake"):
+            self.program(f"tools/{name}", FAILS)
+        self.commit()
+        lines = self.release().stdout.splitlines()
+        for name in ("C by pkg-config", "C by pkg-config, shared"):
+            self.assertIn(f"ok      {name}", lines)
+        version = "0.0.0-r0"
+        self.assertEqual((self.top / f"dist/vbits-{version}-x86-64-v3").read_text(), "vbits\n")
 
     def test_a_file_that_is_ignored(self):
         (self.top / "out").mkdir()
