@@ -33,9 +33,9 @@ class Run(unittest.TestCase):
         file.write_text(text)
         file.chmod(0o755)
 
-    def run_it(self, *words: str) -> tuple[int, list[list[str]]]:
+    def run_it(self, *words: str, **environment: str) -> tuple[int, list[list[str]]]:
         """Returns the status, and the fields of each printed line except those of `progress`."""
-        env = {**os.environ, "PATH": f"{self.root / 'bin'}:{os.environ['PATH']}"}
+        env = {**os.environ, "PATH": f"{self.root / 'bin'}:{os.environ['PATH']}", **environment}
         sides = [self.root / "old", self.root / "new"]
         command = [self.root / "old/bench/run", *words, *sides]
         ended = subprocess.run(command, env=env, text=True, capture_output=True)
@@ -68,6 +68,25 @@ class Run(unittest.TestCase):
         status, lines = self.run_it()
         self.assertEqual((status, lines[-2][1]), (1, "first"))
         self.assertIn("printed b'5\\n1 2 4\\n'", lines[-1][0])
+
+    def test_a_checkout_that_is_missing_or_not_built_is_told_before_the_table(self):
+        top = self.root.resolve() / "new"
+        wanted = f"bench/run: there is no {top}/bench/numbers"
+        (top / "bench/numbers").unlink()
+        self.assertEqual(self.run_it(), (1, [[wanted]]))
+        made = "rt run in crates/jobs makes it"
+        (top / "crates/jobs/out/jobs").unlink()
+        wanted = f"bench/run: there is no {top}/crates/jobs/out/jobs: {made}"
+        self.assertEqual(self.run_it(), (1, [[wanted]]))
+        shutil.rmtree(top)
+        wanted = f"bench/run: there is no folder {top}/bench: a built checkout is wanted"
+        self.assertEqual(self.run_it(), (1, [[wanted]]))
+
+    def test_the_errors_of_cargo_are_shown(self):
+        self.write("bin/cargo", "#!/bin/sh\necho 'error: no matching package' >&2\nexit 101\n")
+        status, lines = self.run_it(UPSTREAM="/nope")
+        said = "bench/run: cargo can't build src/jobs.rs over UPSTREAM=/nope"
+        self.assertEqual((status, lines), (1, [["error: no matching package"], [said]]))
 
     def test_a_machine_that_slows_moves_the_medians_alone(self):
         compared = runpy.run_path(str(COMMAND))["compared"]
