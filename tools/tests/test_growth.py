@@ -90,6 +90,12 @@ class Growth(unittest.TestCase):
         self.assertEqual(self.said("66", "--write", "clone")[0], 0)
         self.assertEqual(self.table, TABLE.replace(",1000,call,Set", ",98,call,Set"))
 
+    def test_wrong_words_are_told_and_change_nothing(self):
+        for words in (["--wrong"], ["--write", "--show"], ["--write", "no_such_row"]):
+            self.assertEqual(self.said("9", *words), (2, []), words)
+            self.assertEqual(self.table, TABLE)
+        self.assertEqual(self.said("9", "--help")[0], 0)
+
     def test_a_program_that_fails_is_told(self):
         status, lines = self.said("900", "clone", status=1)
         self.assertEqual((status, lines[-1]), (1, "0 passed, 1 failed"))
