@@ -407,6 +407,14 @@ class WithoutRt(Folder):
                 said = self.run_it(path, *words)
                 self.assertEqual(said, (1, [NO_RT, "0 passed, 1 failed"]))
 
+    def test_the_commands_that_count_edits_and_bodies_say_so_too(self):
+        self.write("crates/low/edits/a.edit", "file: src/lib.rt\nold: one\nnew: two\n")
+        for path in ("tools/edits", "tools/plant"):
+            with self.subTest(path):
+                self.copy(path)
+                self.copy("tools/plant-allowed.txt")
+                self.assertEqual(self.run_it(path, "low"), (1, [NO_RT]))
+
     def test_help_prints_what_the_command_does_and_runs_nothing(self):
         """Tests that --help isn't a level for bindings/build, and that bindings/release doesn't
         build."""
