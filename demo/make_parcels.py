@@ -7,6 +7,7 @@ The same ROWS (120 by default) give the same file on any machine. Some fields ar
 that isn't delivered yet has no days, one that wasn't weighed no weight. Some notes have commas,
 quotes and line ends within. Memory doesn't grow with ROWS.
 """
+import re
 import sys
 
 CITIES = ["Graz", "Wien", "Linz", "Salzburg", "Bregenz", "Villach", "Sankt Pölten"]
@@ -35,7 +36,8 @@ def quoted(text: str) -> str:
 
 
 def main() -> int:
-    if len(sys.argv) > 2 or (len(sys.argv) == 2 and not sys.argv[1].isdigit()):
+    # isdigit() also holds for digits that int() doesn't read, as a superscript.
+    if len(sys.argv) > 2 or not all(re.fullmatch("[0-9]{1,18}", it) for it in sys.argv[1:]):
         print(__doc__)
         return 2
     rows = int(sys.argv[1]) if len(sys.argv) == 2 else 120
