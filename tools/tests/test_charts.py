@@ -1,4 +1,5 @@
-"""Tests that bench/charts draws each table of bench/results as the committed pictures show it."""
+"""Tests that bench/charts draws each table of bench/results as the committed pictures show it, and
+what the programs that draw or make rows say of wrong words."""
 import csv
 import subprocess
 import tempfile
@@ -27,6 +28,18 @@ class Charts(unittest.TestCase):
         drawn = ElementTree.parse(RESULTS / "packs.svg").getroot()
         marks = [it for it in drawn.iter(f"{SVG}circle") if it.get("r") == "2.6"]
         self.assertEqual(len(marks), sum(len(row) - 1 for row in rows[1:]))
+
+    def test_wrong_words_are_told_without_a_traceback(self):
+        why = "[Errno 2] No such file or directory: '/nope'"
+        for words, wanted in {
+            ("bench/charts", "-h"): (2, ""),
+            ("bench/charts", "/nope"): (1, "bench/charts: there is no folder /nope\n"),
+            ("bench/picture", "--help"): (2, ""),
+            ("bench/picture", "/nope", "x"): (1, f"bench/picture: can't draw /nope to x: {why}\n"),
+            ("demo/make_parcels.py", "²"): (2, ""),
+        }.items():
+            ended = subprocess.run([TOP / words[0], *words[1:]], capture_output=True, text=True)
+            self.assertEqual((ended.returncode, ended.stderr), wanted, words)
 
     def test_the_page_shows_each_picture_and_links_each_table(self):
         page = (RESULTS / "README.md").read_text()
