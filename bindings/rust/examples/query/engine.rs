@@ -26,7 +26,7 @@ impl Question {
 }
 
 /// What is answered.
-#[derive(Debug, Default, PartialEq)]
+#[derive(Debug, Default)]
 pub struct Answer {
     /// How many rows there are.
     pub rows: usize,
@@ -34,8 +34,8 @@ pub struct Answer {
     pub b: Vec<i64>,
     pub c: Vec<f64>,
     pub c_valid: Bitmap,
-    /// Of the rows that are kept and valid.
-    pub sum_b: i64,
+    /// Of the rows that are kept and valid. No sum of `i64` is too great for an `i128`.
+    pub sum_b: i128,
     pub sum_c: f64,
     /// The rows of the first one that is kept, and of that which is looked for.
     pub first: Option<usize>,
@@ -46,6 +46,30 @@ pub struct Answer {
     /// The values of b at the places, and how many of c are null there.
     pub taken: Vec<i64>,
     pub taken_nulls: usize,
+}
+
+/// Whether both are the same float: any NaN is the same as another, since a sum may have any.
+fn is_same(one: f64, other: f64) -> bool {
+    one.to_bits() == other.to_bits() || (one.is_nan() && other.is_nan())
+}
+
+impl PartialEq for Answer {
+    fn eq(&self, other: &Answer) -> bool {
+        let mut values = self.c.iter().zip(&other.c);
+        self.rows == other.rows
+            && self.b == other.b
+            && self.c.len() == other.c.len()
+            && values.all(|(&one, &other)| is_same(one, other))
+            && self.c_valid == other.c_valid
+            && self.sum_b == other.sum_b
+            && is_same(self.sum_c, other.sum_c)
+            && self.first == other.first
+            && self.nth == other.nth
+            && self.nulls == other.nulls
+            && self.flags == other.flags
+            && self.taken == other.taken
+            && self.taken_nulls == other.taken_nulls
+    }
 }
 
 impl fmt::Display for Answer {
@@ -91,9 +115,10 @@ impl Answer {
 
     /// The sums of what is kept, and the rows at places of it.
     fn finish(&mut self, question: &Question) {
-        self.sum_b = self.b.iter().sum();
+        self.sum_b = self.b.iter().copied().map(i128::from).sum();
         let valid = self.c_valid.set_indices();
-        self.sum_c = valid.map(|row| self.c[row]).sum();
+        // The sum of no floats by `sum` is -0.
+        self.sum_c = valid.fold(0.0, |sum, row| sum + self.c[row]);
         let at = question.at.iter().copied();
         let at: Vec<u32> = at.filter(|&row| (row as usize) < self.b.len()).collect();
         self.taken = values::take(&self.b, &at);

@@ -34,7 +34,7 @@ fn add(
             }
             answer.b.push(b[row]);
             answer.c.push(c[row]);
-            answer.sum_b += b[row];
+            answer.sum_b += i128::from(b[row]);
             let has_c = is_valid(c_valids, row);
             c_valid.push(has_c);
             if has_c {

@@ -16,6 +16,7 @@ use std::env;
 use std::error::Error;
 use std::fs;
 use std::hint::black_box;
+use std::io::{self, Write};
 use std::time::Instant;
 
 use engine::Question;
@@ -49,27 +50,27 @@ fn times(mut one: impl FnMut(), mut other: impl FnMut()) -> [f64; 2] {
     least
 }
 
-fn compare(batches: &[Array], question: &Question) {
+fn compare(batches: &[Array], question: &Question) -> io::Result<()> {
     let all = || batches.iter().cloned().map(Ok);
     let [engine, loops] = times(
         || _ = black_box(engine::ask(all(), question)),
         || _ = black_box(loops::ask(all(), question)),
     );
-    println!(
+    writeln!(
+        io::stdout(),
         "{:?}: {engine:.3} ms, by plain loops {loops:.3} ms: {:.2} of it",
         Level::current(),
         engine / loops
-    );
+    )
 }
 
-fn main() -> Result<(), Box<dyn Error>> {
+fn run() -> Result<(), Box<dyn Error>> {
     let words: Vec<String> = env::args().skip(1).collect();
     let [is_timed, is_csv] = ["time", "csv"].map(|word| words.iter().any(|it| it == word));
     let source = words.iter().find(|it| *it != "time" && *it != "csv");
     let rows = rows_of(source.map(String::as_str))?;
     if is_csv {
-        print!("{}", rows.written());
-        return Ok(());
+        return Ok(io::stdout().write_all(rows.written().as_bytes())?);
     }
     let mut raw = rows.stream(BATCH).into_raw();
 
@@ -83,9 +84,18 @@ fn main() -> Result<(), Box<dyn Error>> {
         answer,
         loops::ask(batches.iter().cloned().map(Ok), &question)?
     );
-    println!("{answer}");
+    writeln!(io::stdout(), "{answer}")?;
     if is_timed {
-        compare(&batches, &question);
+        compare(&batches, &question)?;
     }
     Ok(())
+}
+
+fn main() -> Result<(), Box<dyn Error>> {
+    let is_closed = |wrong: &io::Error| wrong.kind() == io::ErrorKind::BrokenPipe;
+    match run() {
+        // No one reads on, as behind `| head -1`.
+        Err(wrong) if wrong.downcast_ref().is_some_and(is_closed) => Ok(()),
+        ended => ended,
+    }
 }
