@@ -13,6 +13,7 @@ pub mod engine;
 pub mod error;
 pub mod found;
 pub mod number;
+pub mod outputs;
 pub mod progress;
 pub mod query;
 pub mod report;

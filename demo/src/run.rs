@@ -12,6 +12,7 @@ use crate::draw::{Histogram, Picture, Strip, svg};
 use crate::engine::{self, Output};
 use crate::error::{Error, QueryError};
 use crate::found::{Nth, Writer};
+use crate::outputs;
 use crate::progress::grouped;
 use crate::query::condition::{Condition, Name};
 use crate::query::{self, Answer, Filter};
@@ -51,7 +52,7 @@ pub enum Outcome {
 pub fn run(options: &Options) -> Result<Outcome, Error> {
     let query = Query::parse(options)?;
     let table = Table::open(&options.file, options.format)?;
-    check_outputs(options)?;
+    outputs::check(options)?;
     let kinds = kinds(options, &table)?;
     let (list, columns) = (query.list(&table)?, query.columns(&table)?);
     let histogram = histogram_column(options, &table)?;
@@ -192,41 +193,6 @@ fn histogram_column(options: &Options, table: &Table) -> Result<Option<usize>, E
     let place = table.find(name);
     let place = place.map_err(|wrong| QueryError::new(0, wrong).of("--histogram", name));
     Ok(Some(place?))
-}
-
-/// Returns an error if an output would overwrite the CSV file while it is read, or if two outputs
-/// are one file.
-fn check_outputs(options: &Options) -> Result<(), Error> {
-    let file = identity(&options.file);
-    for path in [&options.out, &options.svg].into_iter().flatten() {
-        if file.is_some() && identity(path) == file {
-            let wrong = "this is the CSV file, which would be written over";
-            return Err(Error::file(path, io::Error::other(wrong)));
-        }
-    }
-    let (Some(out), Some(svg)) = (&options.out, &options.svg) else {
-        return Ok(());
-    };
-    if out == svg || (identity(out).is_some() && identity(out) == identity(svg)) {
-        let wrong = "--out and --svg both write to this file";
-        return Err(Error::file(out, io::Error::other(wrong)));
-    }
-    Ok(())
-}
-
-/// Returns a value that is the same for two paths to one file; None if there is no file.
-#[cfg(unix)]
-fn identity(path: &Path) -> Option<(u64, u64)> {
-    use std::os::unix::fs::MetadataExt;
-
-    fs::metadata(path).ok().map(|file| (file.dev(), file.ino()))
-}
-
-/// Returns a value that is the same for two paths to one file, unless the file has two names; None
-/// if there is no file.
-#[cfg(not(unix))]
-fn identity(path: &Path) -> Option<std::path::PathBuf> {
-    fs::canonicalize(path).ok()
 }
 
 /// The state of a run after the first pass over the file.

@@ -196,6 +196,67 @@ fn files_that_cannot_be_used() {
     assert!(error(&file, &["--out", out.to_str().unwrap()]).contains("out.csv: No such file"));
 }
 
+/// Paths that look different, before there is a file and when there is one.
+#[test]
+#[cfg(unix)]
+fn two_outputs_to_one_file() {
+    let folder = Folder::new("one");
+    let file = folder.file("in.csv", "a\n1\n");
+    fs::create_dir(folder.path("inner")).unwrap();
+    for (link, target) in [
+        ("link.csv", "inner/../x.csv"),
+        ("folder", "."),
+        ("loop", "loop"),
+    ] {
+        std::os::unix::fs::symlink(target, folder.path(link)).unwrap();
+    }
+    let paths = ["./x.csv", "inner/../x.csv", "folder/x.csv", "link.csv"];
+    let wanted = "x.csv: --out and --svg both write to this file\n";
+    for exists in [false, true] {
+        for path in paths {
+            let mut command = program(&file);
+            let command = command.args(["--out", "x.csv", "--svg", path]);
+            let output = command.current_dir(folder.path("")).output().unwrap();
+            let errors = String::from_utf8(output.stderr).unwrap();
+            assert_eq!(
+                (output.status.code(), &errors[..]),
+                (Some(2), wanted),
+                "{path}"
+            );
+            assert_eq!(folder.path("x.csv").exists(), exists);
+        }
+        folder.file("x.csv", "");
+    }
+    let loops = folder.path("loop");
+    assert!(error(&file, &["--out", loops.to_str().unwrap()]).contains("loop: Too many"));
+}
+
+/// Rows at the end of the file that is read would be read too.
+#[test]
+#[cfg(unix)]
+fn standard_output_at_the_end_of_another_file() {
+    let folder = Folder::new("end");
+    let file = folder.file("in.csv", "a\n1\n");
+    let out = folder.file("out.csv", "");
+    let over = "standard output: this is the CSV file, which would be written over\n".to_string();
+    let both = ": --out and standard output both write to this file\n";
+    let both = format!("{}{both}", out.display());
+    let out = out.to_str().unwrap();
+    for (args, end, wanted) in [
+        (&["--rows"][..], &file, over),
+        (&["--out", out], &folder.path("out.csv"), both),
+    ] {
+        let end = fs::File::options().append(true).open(end).unwrap();
+        let output = program(&file).args(args).stdout(end).output().unwrap();
+        assert_eq!(output.status.code(), Some(2));
+        assert_eq!(String::from_utf8(output.stderr).unwrap(), wanted);
+    }
+    let other = fs::File::create(folder.path("other.csv")).unwrap();
+    let status = program(&file).arg("--rows").stdout(other).status().unwrap();
+    let [read, copied] = ["in.csv", "other.csv"].map(|it| fs::read(folder.path(it)).unwrap());
+    assert!(status.success() && read == b"a\n1\n" && copied == read);
+}
+
 #[test]
 fn a_row_that_is_not_there_has_its_status() {
     let output = run(
