@@ -27,7 +27,8 @@ fn name(column: &str) -> String {
     format!("\"{}\"", column.replace('"', "\"\""))
 }
 
-/// The answers of `SQLite` to each query, as rows of fields. The file is read by its own reader.
+/// The answers of `SQLite` to each query, as rows of fields. The file is read by its own reader, in
+/// its folder: its name alone needs no quotes.
 fn sqlite(file: &Path, queries: &[String]) -> Vec<Vec<Vec<String>>> {
     let kinds = ["integer", "integer", "real", "real", "text", "text"];
     let columns: Vec<String> = COLUMNS
@@ -36,7 +37,8 @@ fn sqlite(file: &Path, queries: &[String]) -> Vec<Vec<Vec<String>>> {
         .map(|(column, kind)| format!("{} {kind}", name(column)))
         .collect();
     let mut script = format!("create table t({});\n", columns.join(", "));
-    writeln!(script, ".import --csv --skip 1 {} t", file.display()).unwrap();
+    let import = file.file_name().map(Path::new).unwrap().display();
+    writeln!(script, ".import --csv --skip 1 {import} t").unwrap();
     for column in COLUMNS.map(name) {
         writeln!(script, "update t set {column} = null where {column} = '';").unwrap();
     }
@@ -50,6 +52,7 @@ fn sqlite(file: &Path, queries: &[String]) -> Vec<Vec<Vec<String>>> {
     }
     let mut child = Command::new("sqlite3")
         .args(["-batch", "-bail"])
+        .current_dir(file.parent().unwrap())
         .stdin(Stdio::piped())
         .stdout(Stdio::piped())
         .spawn()

@@ -30,7 +30,7 @@ impl Random {
     }
 }
 
-/// A folder for files, which goes away with this.
+/// A folder for files, which goes away with this. Its name has spaces, as a user's may.
 pub struct Folder(PathBuf);
 
 impl Folder {
@@ -38,7 +38,7 @@ impl Folder {
         // Two tests of one program may name their folders alike.
         static NEXT: AtomicUsize = AtomicUsize::new(0);
         let at = NEXT.fetch_add(1, Ordering::Relaxed);
-        let path = std::env::temp_dir().join(format!("demo_{name}_{}_{at}", process::id()));
+        let path = std::env::temp_dir().join(format!("demo {name} {} {at}", process::id()));
         fs::create_dir_all(&path).unwrap();
         Folder(path)
     }
