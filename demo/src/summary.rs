@@ -112,7 +112,7 @@ impl Summary {
                 greatest,
                 sum,
             }) => {
-                let mean = sum.value() / count;
+                let mean = sum.mean(count);
                 Some(Range::Float(Spread {
                     least: *least,
                     greatest: *greatest,
@@ -242,47 +242,83 @@ fn ends<T: Value + PartialOrd, S>(numbers: &[T], sum: S) -> Option<Values<T, S>>
     })
 }
 
+/// The unit of large numbers in a [`Sum`], a power of two.
+const UNIT: f64 = 18_446_744_073_709_551_616.0;
+/// The greatest number that isn't large: sums of fewer than `UNIT` such numbers don't overflow.
+const LARGEST: f64 = f64::MAX / UNIT;
+
+/// A sum of finite floats, which overflows only in the end.
+#[derive(Clone, Copy, Debug, Default)]
+struct Sum {
+    /// The sum of numbers up to `LARGEST`.
+    small: Part,
+    /// The sum of the larger ones, in units of `UNIT`.
+    large: Part,
+}
+
 /// A sum of floats that keeps the digits that each step rounds away (Neumaier's algorithm).
 #[derive(Clone, Copy, Debug, Default)]
-pub struct Sum {
+struct Part {
     high: f64,
     low: f64,
 }
 
 impl Sum {
     /// Returns the sum with one more number.
-    #[must_use]
-    pub fn plus(self, number: f64) -> Sum {
+    fn plus(self, number: f64) -> Sum {
+        let Sum { small, large } = self;
+        if number.abs() <= LARGEST {
+            let small = small.plus(number);
+            Sum { small, large }
+        } else {
+            let large = large.plus(number / UNIT);
+            Sum { small, large }
+        }
+    }
+
+    fn joined(self, other: Sum) -> Sum {
+        Sum {
+            small: self.small.joined(other.small),
+            large: self.large.joined(other.large),
+        }
+    }
+
+    /// Returns the sum, rounded; infinity if it is beyond the range of floats.
+    fn value(self) -> f64 {
+        self.mean(1.0)
+    }
+
+    /// Returns the sum divided by a number of values, rounded.
+    fn mean(self, count: f64) -> f64 {
+        if self.large.value() == 0.0 {
+            return self.small.value() / count;
+        }
+        let small = [self.small.high, self.small.low].map(|part| part / UNIT);
+        let sum = small.into_iter().fold(self.large, Part::plus);
+        sum.value() / count * UNIT
+    }
+}
+
+impl Part {
+    fn plus(self, number: f64) -> Part {
         let high = self.high + number;
         let lost = if self.high.abs() >= number.abs() {
             (self.high - high) + number
         } else {
             (number - high) + self.high
         };
-        Sum {
+        Part {
             high,
             low: self.low + lost,
         }
     }
 
-    fn joined(self, other: Sum) -> Sum {
-        let joined = self.plus(other.high);
-        // What an infinite sum has lost isn't a number.
-        if other.high.is_finite() {
-            joined.plus(other.low)
-        } else {
-            joined
-        }
+    fn joined(self, other: Part) -> Part {
+        self.plus(other.high).plus(other.low)
     }
 
-    /// Returns the sum, rounded; infinity if it is beyond the range of floats.
-    #[must_use]
-    pub fn value(self) -> f64 {
-        if self.high.is_finite() {
-            self.high + self.low
-        } else {
-            self.high
-        }
+    fn value(self) -> f64 {
+        self.high + self.low
     }
 }
 
@@ -313,7 +349,18 @@ mod tests {
     fn sums_of_floats() {
         assert_eq!(sum(&[1e100, 1.0, -1e100]), "1.0");
         assert_eq!(sum(&[0.1; 10]), "1.0");
-        assert_eq!(sum(&[1e308, 1e308, -1e308]), "inf");
+    }
+
+    /// Only a sum that is itself beyond the range of floats is infinite.
+    #[test]
+    fn sums_of_large_floats() {
+        assert_eq!(sum(&[1e308, 1e308, -1e308]), "1e308");
+        assert_eq!(sum(&[1e308, 0.5, 1e308, -1e308, -1e308]), "0.5");
+        assert_eq!(sum(&[f64::MAX, 1e291]), "1.7976931348623157e308");
+        assert_eq!(sum(&[f64::MAX, 1e292]), "inf");
+        assert_eq!(sum(&[-1e308, -1e308]), "-inf");
+        let three = [1e308; 3].into_iter().fold(Sum::default(), Sum::plus);
+        assert_eq!(text(three.mean(3.0)), "1e308");
     }
 
     #[test]
@@ -333,9 +380,14 @@ mod tests {
             (total.sum().unwrap().as_str(), total.least()),
             ("-1.5", b"-1e100".to_vec())
         );
-        for batches in [[&[1e308, 1e308][..], &[0.5]], [&[0.5], &[1e308, 1e308]]] {
+        let large = [1e308, 1e308];
+        for (batches, wanted) in [
+            ([&large[..], &[0.5]], "inf"),
+            ([&[0.5], &large], "inf"),
+            ([&large, &[-1e308, -1e308]], "0.0"),
+        ] {
             let [total, other] = batches.map(|batch| Total::floats(batch).unwrap());
-            assert_eq!(total.joined(other).sum().unwrap(), "inf");
+            assert_eq!(total.joined(other).sum().unwrap(), wanted);
         }
         let texts = Total::texts([&b"b"[..], b"a"].into_iter()).unwrap();
         let texts = texts.joined(Total::texts([&b"\xFF"[..]].into_iter()).unwrap());
