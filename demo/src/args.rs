@@ -1,6 +1,6 @@
 //! The command line.
 
-use std::ffi::OsString;
+use std::ffi::{OsStr, OsString};
 use std::path::PathBuf;
 
 use crate::error::Error;
@@ -73,39 +73,37 @@ pub struct Options {
 /// # Errors
 ///
 /// Returns [`Error::Usage`] if there is no file or more than one. Returns it for an option that
-/// isn't known, that occurs twice but may occur once, that has no value, or that has one that it
-/// can't have.
+/// isn't known, whose value is given twice but may be given once, that has no value, or that has one
+/// that it can't have.
 pub fn parse(args: impl IntoIterator<Item = OsString>) -> Result<Option<Options>, Error> {
-    let mut options = Options {
-        file: PathBuf::new(),
-        condition: None,
-        print: Print::Report,
-        out: None,
-        columns: None,
-        svg: None,
-        histogram: None,
-        format: Format::default(),
-        kinds: Vec::new(),
-    };
-    let (mut files, mut args) = (Vec::new(), args.into_iter());
-    while let Some(arg) = args.next() {
+    let (mut files, mut parser) = (Vec::new(), Parser::new(args.into_iter()));
+    while let Some(arg) = parser.args.next() {
         match arg.to_str() {
             Some("--help" | "-h") => return Ok(None),
-            Some("--") => files.extend(args.by_ref().map(PathBuf::from)),
-            Some(option) if option.starts_with("--") => option_of(&mut options, option, &mut args)?,
+            Some("--") => files.extend(parser.args.by_ref().map(PathBuf::from)),
+            Some(option) if option.starts_with("--") => parser.option(option)?,
             Some(option) if option.len() > 1 && option.starts_with('-') => {
                 return usage(format!("there is no option {option}"));
             }
+            None if arg.as_encoded_bytes().starts_with(b"-") => return not_utf_8(&arg),
             _ => files.push(PathBuf::from(arg)),
         }
     }
     let [file] = <[PathBuf; 1]>::try_from(files)
         .or_else(|files| usage(format!("one CSV file is wanted, {} are given", files.len())))?;
+    let mut options = parser.options;
     options.file = named(file);
     if options.columns.is_some() && options.out.is_none() && options.print != Print::Rows {
         return usage("--columns is for --rows and --out, of which neither is given".to_string());
     }
     Ok(Some(options))
+}
+
+/// Returns the error of an option that isn't UTF-8. It can't be divided at its `=`.
+fn not_utf_8<T>(arg: &OsStr) -> Result<T, Error> {
+    usage(format!(
+        "{arg:?} isn't UTF-8; a file with such a name is the argument after --, --out or --svg"
+    ))
 }
 
 /// Returns the path of a file. `-` is standard input, on Linux, where a second `open` starts again
@@ -121,62 +119,114 @@ fn usage<T>(wrong: String) -> Result<T, Error> {
     Err(Error::Usage(wrong))
 }
 
-/// Sets an option. Its value follows `=` or is the next argument.
-fn option_of(
-    options: &mut Options,
-    arg: &str,
-    rest: &mut impl Iterator<Item = OsString>,
-) -> Result<(), Error> {
-    let (name, given) = match arg.split_once('=') {
-        Some((name, value)) => (name, Some(OsString::from(value))),
-        None => (arg, None),
-    };
-    if let "--rows" | "--no-header" | "--no-quotes" | "--short-rows" = name {
-        if given.is_some() {
-            return usage(format!("{name} has no value"));
-        }
-        return flag(options, name);
-    }
-    let known = [
-        "where",
-        "select",
-        "nth",
-        "out",
-        "svg",
-        "columns",
-        "histogram",
-        "delimiter",
-        "type",
-    ];
-    if !known.contains(&&name[2..]) {
-        return usage(format!("there is no option {name}"));
-    }
-    let Some(value) = given.or_else(|| rest.next()) else {
-        return usage(format!("{name} wants a value"));
-    };
-    with_value(options, name, value)
+/// The options with a value.
+const VALUED: [&str; 9] = [
+    "--where",
+    "--select",
+    "--nth",
+    "--out",
+    "--svg",
+    "--columns",
+    "--histogram",
+    "--delimiter",
+    "--type",
+];
+
+/// The options so far, and the arguments that are left.
+struct Parser<I> {
+    args: I,
+    options: Options,
+    /// The value of `--delimiter`.
+    delimiter: Option<u8>,
 }
 
-fn flag(options: &mut Options, name: &str) -> Result<(), Error> {
-    match name {
-        "--rows" => return print(options, Print::Rows),
-        "--no-header" => options.format.has_header = false,
-        "--short-rows" => options.format.has_short_rows = true,
-        _ => options.format.dialect.quote = None,
-    }
-    Ok(())
-}
-
-fn with_value(options: &mut Options, name: &str, value: OsString) -> Result<(), Error> {
-    match name {
-        "--out" => set_once(&mut options.out, name, PathBuf::from(value)),
-        "--svg" => set_once(&mut options.svg, name, PathBuf::from(value)),
-        _ => {
-            let Ok(text) = value.into_string() else {
-                return usage(format!("the value of {name} isn't UTF-8"));
-            };
-            with_text(options, name, text)
+impl<I: Iterator<Item = OsString>> Parser<I> {
+    fn new(args: I) -> Parser<I> {
+        let options = Options {
+            file: PathBuf::new(),
+            condition: None,
+            print: Print::Report,
+            out: None,
+            columns: None,
+            svg: None,
+            histogram: None,
+            format: Format::default(),
+            kinds: Vec::new(),
+        };
+        Parser {
+            args,
+            options,
+            delimiter: None,
         }
+    }
+
+    /// Sets an option. Its value follows `=` or is the next argument.
+    fn option(&mut self, arg: &str) -> Result<(), Error> {
+        let (name, given) = match arg.split_once('=') {
+            Some((name, value)) => (name, Some(OsString::from(value))),
+            None => (arg, None),
+        };
+        if let "--rows" | "--no-header" | "--no-quotes" | "--short-rows" = name {
+            if given.is_some() {
+                return usage(format!("{name} has no value"));
+            }
+            return self.flag(name);
+        }
+        if !VALUED.contains(&name) {
+            return usage(format!("there is no option {name}"));
+        }
+        let Some(value) = given.or_else(|| self.args.next()) else {
+            return usage(format!("{name} wants a value"));
+        };
+        self.value(name, value)
+    }
+
+    fn flag(&mut self, name: &str) -> Result<(), Error> {
+        let format = &mut self.options.format;
+        match name {
+            "--rows" => return self.print(Print::Rows),
+            "--no-header" => format.has_header = false,
+            "--short-rows" => format.has_short_rows = true,
+            _ => format.dialect.quote = None,
+        }
+        Ok(())
+    }
+
+    fn value(&mut self, name: &str, value: OsString) -> Result<(), Error> {
+        match name {
+            "--out" => set_once(&mut self.options.out, name, PathBuf::from(value)),
+            "--svg" => set_once(&mut self.options.svg, name, PathBuf::from(value)),
+            _ => match value.into_string() {
+                Ok(text) => self.text(name, text),
+                Err(_) => usage(format!("the value of {name} isn't UTF-8")),
+            },
+        }
+    }
+
+    fn text(&mut self, name: &str, text: String) -> Result<(), Error> {
+        let options = &mut self.options;
+        match name {
+            "--where" => return set_once(&mut options.condition, name, text),
+            "--select" => return self.print(Print::Answers(text)),
+            "--nth" => return self.print(Print::Nth(nth(&text)?)),
+            "--columns" => return set_once(&mut options.columns, name, text),
+            "--histogram" => return set_once(&mut options.histogram, name, text),
+            "--delimiter" => {
+                let delimiter = delimiter(&text)?;
+                set_once(&mut self.delimiter, name, delimiter)?;
+                options.format.dialect.delimiter = delimiter;
+            }
+            _ => options.kinds.push(kind(&text)?),
+        }
+        Ok(())
+    }
+
+    fn print(&mut self, print: Print) -> Result<(), Error> {
+        if self.options.print != Print::Report {
+            return usage("one of --select, --rows and --nth is wanted at most".to_string());
+        }
+        self.options.print = print;
+        Ok(())
     }
 }
 
@@ -186,27 +236,6 @@ fn set_once<T>(option: &mut Option<T>, name: &str, value: T) -> Result<(), Error
         return usage(format!("{name} is given twice"));
     }
     *option = Some(value);
-    Ok(())
-}
-
-fn with_text(options: &mut Options, name: &str, text: String) -> Result<(), Error> {
-    match name {
-        "--where" => return set_once(&mut options.condition, name, text),
-        "--select" => return print(options, Print::Answers(text)),
-        "--nth" => return print(options, Print::Nth(nth(&text)?)),
-        "--columns" => return set_once(&mut options.columns, name, text),
-        "--histogram" => return set_once(&mut options.histogram, name, text),
-        "--delimiter" => options.format.dialect.delimiter = delimiter(&text)?,
-        _ => options.kinds.push(kind(&text)?),
-    }
-    Ok(())
-}
-
-fn print(options: &mut Options, print: Print) -> Result<(), Error> {
-    if options.print != Print::Report {
-        return usage("one of --select, --rows and --nth is wanted at most".to_string());
-    }
-    options.print = print;
     Ok(())
 }
 

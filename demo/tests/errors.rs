@@ -123,7 +123,7 @@ fn errors_of_a_query_point_at_their_place() {
 }
 
 /// Options that fit no file, and the error.
-const BAD_OPTIONS: [(&[&str], &str); 13] = [
+const BAD_OPTIONS: [(&[&str], &str); 14] = [
     (&["--size"], "there is no option --size"),
     (&["-x"], "there is no option -x"),
     (&["--where"], "--where wants a value"),
@@ -151,6 +151,10 @@ const BAD_OPTIONS: [(&[&str], &str); 13] = [
     (&["other.csv"], "one CSV file is wanted, 2 are given"),
     (&["--out=a", "--out=b"], "--out is given twice"),
     (
+        &["--delimiter=,", "--delimiter=;"],
+        "--delimiter is given twice",
+    ),
+    (
         &["--columns", "city"],
         "--columns is for --rows and --out, of which neither is given",
     ),
@@ -169,6 +173,31 @@ fn errors_of_the_command_line() {
             format!("{wanted}; --help lists the options")
         );
     }
+}
+
+#[test]
+#[cfg(target_os = "linux")]
+fn names_that_are_not_utf_8() {
+    use std::ffi::OsStr;
+    use std::os::unix::ffi::OsStrExt;
+
+    let folder = Folder::new("names");
+    let run = |args: &[&[u8]]| {
+        let mut command = program(Path::new(PARCELS));
+        command.args(args.iter().map(|arg| OsStr::from_bytes(arg)));
+        command.current_dir(folder.path("")).output().unwrap()
+    };
+    for option in [&b"--out=\xE4.csv"[..], b"-\xE4.csv"] {
+        let output = run(&[option]);
+        let wanted = "a file with such a name is the argument after --, --out or --svg";
+        let option = OsStr::from_bytes(option);
+        let wanted = format!("{option:?} isn't UTF-8; {wanted}; --help lists the options\n");
+        assert_eq!(String::from_utf8(output.stderr).unwrap(), wanted);
+        assert_eq!(output.status.code(), Some(2));
+    }
+    assert!(run(&[b"--out", b"\xE4.csv"]).status.success());
+    let out = folder.path("").join(OsStr::from_bytes(b"\xE4.csv"));
+    assert_eq!(fs::read(out).unwrap(), fs::read(PARCELS).unwrap());
 }
 
 #[test]
