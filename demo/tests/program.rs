@@ -296,6 +296,41 @@ fn types_are_found_of_all_rows() {
     assert_eq!(printed(&file, &select), "max(whole),max(big)\n1,1e20\n");
 }
 
+/// Columns compare exactly with literals, once these are whole numbers of 64 bits or floats.
+#[test]
+fn literals_that_are_not_whole_are_rounded() {
+    let folder = Folder::new("literals");
+    let file = folder.file(
+        "n.csv",
+        "a,x\n9007199254740992,0.5\n9007199254740993,0.5\n9223372036854775807,0.1\n",
+    );
+    for (condition, kept) in [
+        ("a = 9007199254740992.7", "1"),
+        ("a = 9007199254740993", "1"),
+        ("a = 9007199254740993.0", "1"),
+        ("a > 9007199254740992", "2"),
+        ("a > 9223372036854775806.5", "0"),
+        ("a < 9223372036854775808", "3"),
+        ("x = 0.1", "1"),
+    ] {
+        let answer = printed(&file, &["--where", condition, "--select", "count(*)"]);
+        assert_eq!(answer, format!("count(*)\n{kept}\n"), "{condition}");
+    }
+}
+
+/// An empty line is skipped, but for the first one, which has the names or is a row.
+#[test]
+fn empty_lines() {
+    let folder = Folder::new("empty");
+    let file = folder.file("later.csv", "a,b\n\n1,2\n\"\"\n3,4\n");
+    assert_eq!(printed(&file, &["--rows"]), "a,b\n1,2\n3,4\n");
+    let first = folder.file("first.csv", "\n1,2\n");
+    let wanted = format!("{}:2: 2 fields; 1 is wanted: c1", first.display());
+    for args in [&[][..], &["--no-header"]] {
+        assert_eq!(error(&first, args), wanted);
+    }
+}
+
 #[test]
 fn the_picture_has_a_cell_and_a_bar_for_what_is_kept() {
     let folder = Folder::new("svg");
