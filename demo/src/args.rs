@@ -73,8 +73,8 @@ pub struct Options {
 /// # Errors
 ///
 /// Returns [`Error::Usage`] if there is no file or more than one. Returns it for an option that
-/// isn't known, whose value is given twice but may be given once, that has no value, or that has one
-/// that it can't have.
+/// isn't known, whose value is given twice but may be given once, that lacks a value, or that has
+/// one that it can't have.
 pub fn parse(args: impl IntoIterator<Item = OsString>) -> Result<Option<Options>, Error> {
     let (mut files, mut parser) = (Vec::new(), Parser::new(args.into_iter()));
     while let Some(arg) = parser.args.next() {

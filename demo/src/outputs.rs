@@ -27,7 +27,8 @@ enum Place {
     Path(PathBuf),
 }
 
-/// Tests that no output overwrites the CSV file while it is read, and that no two write to one file.
+/// Tests that no output overwrites the CSV file while it is read, and that no two outputs write to
+/// one file.
 ///
 /// # Errors
 ///
@@ -109,8 +110,8 @@ impl Place {
     }
 }
 
-/// Returns the canonical path of the file that is created if one writes to `path`, which leads to no
-/// file. None if its folder doesn't exist.
+/// Returns the canonical path of the file that writing to `path`, which leads to no file, creates;
+/// None if its folder doesn't exist.
 fn new(path: &Path, most_links: usize) -> Option<PathBuf> {
     let folder = fs::canonicalize(Path::new(".").join(path.parent()?)).ok()?;
     let path = folder.join(path.file_name()?);

@@ -199,8 +199,8 @@ pub struct Batches<'a> {
 }
 
 impl Batches<'_> {
-    /// Returns the next batch; None at the end of the file. Skips lines that are empty or only `""`,
-    /// except in a table of one column, where they are nulls.
+    /// Returns the next batch; None at the end of the file. Skips lines that are empty or only
+    /// `""`, except in a table of one column, where they are nulls.
     ///
     /// # Errors
     ///

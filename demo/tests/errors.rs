@@ -37,7 +37,8 @@ const BAD_FILES: [(&str, &[&str], &str); 9] = [
     (
         "a,b\n\"1\"2,x\n",
         &[],
-        ":2: column \"a\": \"2\" follows the closing quote; a delimiter or the end of the line is wanted",
+        ":2: column \"a\": \"2\" follows the closing quote; a delimiter or the end of the line is \
+             wanted",
     ),
     (
         "a,b\n1,x\r2\n",
@@ -75,8 +76,8 @@ const BAD_QUERIES: [(&[&str], &str); 9] = [
     ),
     (
         &["--where", "city = 4"],
-        "--where: column \"city\" is text; a text is wanted, as '4'; --type \"city\"=whole reads it \
-             as numbers, or names the first line where it has none\n  city = 4\n         ^",
+        "--where: column \"city\" is text; a text is wanted, as '4'; --type \"city\"=whole reads \
+             it as numbers, or names the first line where it has none\n  city = 4\n         ^",
     ),
     (
         &["--where", "cents = '4'"],

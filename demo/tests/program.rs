@@ -29,7 +29,8 @@ fn answers_about_the_parcels() {
             file,
             &["--where", "weight > 2.5 and days is null", "--rows"]
         ),
-        "parcel,city,weight,cents,days,note\nP0000080,Linz,7.667,2010,,\nP0000110,Graz,4.826,1369,,\n"
+        "parcel,city,weight,cents,days,note\nP0000080,Linz,7.667,2010,,\n\
+         P0000110,Graz,4.826,1369,,\n"
     );
     assert_eq!(
         printed(
@@ -274,7 +275,8 @@ fn types_are_found_of_all_rows() {
     let folder = Folder::new("types");
     let file = folder.file(
         "t.csv",
-        "whole,float,text,big,none,mixed\n1,1,1,99999999999999999999,,1.5\n-2,1e3,x,1,,99999999999999999999\n",
+        "whole,float,text,big,none,mixed\n1,1,1,99999999999999999999,,1.5\n\
+         -2,1e3,x,1,,99999999999999999999\n",
     );
     let report = printed(&file, &[]);
     let kinds = report

@@ -1,4 +1,4 @@
-//! The script `demo/query`, in a copy with a small program: whether it builds and runs the right one.
+//! Whether the script `demo/query` builds and runs the right program, in a copy with a small one.
 #![cfg(unix)]
 
 mod support;

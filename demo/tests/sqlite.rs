@@ -109,8 +109,8 @@ fn printed(file: &Path, args: &[&str]) -> Vec<Vec<String>> {
     }
 }
 
-/// Whether two fields are the same value: texts to the byte, whole numbers as numbers, and floats to
-/// the 15 digits that `SQLite` prints, of which its sums round the last one.
+/// Whether two fields are the same value: texts to the byte, whole numbers as numbers, and floats
+/// to the 15 digits that `SQLite` prints, of which its sums round the last one.
 fn is_same(column: usize, ours: &str, theirs: &str) -> bool {
     match column {
         0 | 1 => ours.parse::<i128>().ok() == theirs.parse().ok(),

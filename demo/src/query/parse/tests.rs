@@ -93,7 +93,8 @@ fn errors_point_at_their_place() {
     let error = condition(text).unwrap_err().of("--where", text);
     assert_eq!(
         error.to_string(),
-        "--where: \"and\", \"or\" or the end is wanted here\n    farbe == rot und\n                 ^"
+        "--where: \"and\", \"or\" or the end is wanted here\n    farbe == rot und\n\
+         \x20                ^"
     );
 }
 
