@@ -76,12 +76,10 @@ pub(super) fn list_views(
     if width == 4 && i32::try_from(number).is_err() {
         return Err(too_long(field, "items of lists", number, i32::MAX.into()));
     }
-    let mut moved = [(); 2].map(|()| zeroed(field, rows.len(), width));
-    if let [Ok(offsets), Ok(sizes)] = &mut moved {
-        move_lists(of, width, rows, valid, &before, [offsets, sizes])?;
-    }
-    let [offsets, sizes] = moved;
-    let mut made = Made::of([offsets?, sizes?]);
+    let mut offsets = zeroed(field, rows.len(), width)?;
+    let mut sizes = zeroed(field, rows.len(), width)?;
+    move_lists(of, width, rows, valid, &before, [&mut offsets, &mut sizes])?;
+    let mut made = Made::of([offsets, sizes]);
     let all = all_rows(field, &items.each)?;
     made.children(field, |_| &items.each[..], |_| all.rows())?;
     Ok(made)
