@@ -205,6 +205,22 @@ fn parts_of_one_array_are_joined_in_memory_for_one_array() {
 }
 
 #[test]
+fn parts_of_views_of_many_buffers_are_joined_in_memory_for_their_buffers() {
+    let bytes = |parts: usize| {
+        let each: Vec<Array> = (0..parts).map(|_| of_views(&[Some(LONG)])).collect();
+        let all = Export::concat(each[0].field(), &each).unwrap().into_array();
+        let mut slices: Vec<Array> = (0..parts).map(|row| all.slice(row..=row)).collect();
+        slices.push(each[0].clone());
+        asked(|| Export::concat(all.field(), &slices).unwrap()).1
+    };
+    let (few, many) = (bytes(100), bytes(400));
+    assert!(
+        many < 5 * few,
+        "{many} bytes, and {few} for a fourth of the parts"
+    );
+}
+
+#[test]
 fn parts_of_one_array_of_views_share_its_buffers_once() {
     let buffers = |parts: &[Array]| {
         let joined = Export::concat(parts[0].field(), parts).unwrap();

@@ -269,6 +269,45 @@ fn dictionaries_of_null_rows_are_left_out() {
 }
 
 #[test]
+fn an_item_between_the_rows_adds_no_dictionary() {
+    let none = Count::default();
+    // [0], a null row with an item, and [0]; the items of the rows are null if `valid` says so.
+    let lists = |valid: u8, items: i64| {
+        let dictionary = raw::Array::values(items, None, &vec![7; 256], &none);
+        let buffers = vec![
+            Some(Buffer::new(&[valid], 0)),
+            Some(Buffer::new(&[0; 3], 0)),
+        ];
+        let child = raw::Array::of(3, buffers, vec![], Some(dictionary), &none);
+        let buffers = vec![Some(Buffer::new(&[0b101], 0)), Some(ints(&[0, 1, 2, 3]))];
+        rows("+l", 3, buffers, vec![], child)
+    };
+    for between in [0b000, 0b010] {
+        let both = [lists(between, 128), lists(0b111, 3)];
+        let joined = Export::concat(both[0].field(), &both).unwrap().into_array();
+        let items = joined.items().unwrap();
+        assert_eq!(items.dictionary().unwrap().len(), 3);
+        assert_eq!(items.dictionary_indices(), Ok(vec![0; 4]));
+        assert_eq!(items.null_count(), Ok(2));
+    }
+}
+
+#[test]
+fn a_wrong_number_of_nulls_loses_no_dictionary() {
+    let none = Count::default();
+    let coded = |nulls, index, items| {
+        let items = raw::Array::values(items, None, &[7; 16], &none);
+        let buffers = vec![Some(Buffer::new(&[1], 0)), Some(Buffer::new(&[index], 0))];
+        let array = raw::Array::of(1, buffers, vec![], Some(items), &none).nulls(nulls);
+        let items = Schema::new("", "C", &none);
+        import(array, Schema::of("", "c", vec![], Some(items), &none)).unwrap()
+    };
+    let both = [coded(1, 5, 10), coded(0, 0, 1)];
+    let joined = Export::concat(both[0].field(), &both).unwrap().into_array();
+    assert_eq!(joined.dictionary_indices(), Ok(vec![5, 10]));
+}
+
+#[test]
 fn an_error_has_the_column_and_the_position_of_the_index() {
     let lists = |valid: u8, last| {
         let buffers = vec![Some(Buffer::new(&[valid], 0)), Some(ints(&[0, 1, 2, 3]))];

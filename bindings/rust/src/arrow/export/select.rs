@@ -70,7 +70,8 @@ impl Array {
     /// - Returns [`ArrowError::Malformed`] if offsets of texts or lists go back, runs end before
     ///   the rows do, a row of a union names no child or item, or a buffer that the rows need is
     ///   null.
-    /// - Returns [`ArrowError::TooLong`] if more than 2^31 rows of a dense union have one child.
+    /// - Returns [`ArrowError::TooLong`] if more than 2^31 rows of a dense union have one child, and
+    ///   the errors of [`take`](Array::take) if its rows share items.
     /// - Returns [`ArrowError::Memory`] if memory runs out for the copies.
     #[doc(alias("where", "compress", "select"))]
     pub fn filter(&self, mask: impl Mask) -> Result<Export, ArrowError> {
@@ -255,7 +256,8 @@ impl Export {
     ///   [`ArrowError::Memory`] with `usize::MAX` bytes if their number isn't a `usize`. Both are
     ///   possible if these take no memory.
     /// - If there are several dictionaries, returns [`ArrowError::Take`] with the first valid index
-    ///   of an array that names no item of its own dictionary.
+    ///   of an array that names no item of its own dictionary. Below lists and unions, positions
+    ///   count from the first item that the rows of the array have.
     /// - Returns [`ArrowError::Malformed`] if list views of several arrays are out of bounds of
     ///   their items. Returns the errors of [`Array::texts`] for views of several arrays.
     /// - Returns the errors of `filter`.
@@ -296,7 +298,9 @@ fn selected(field: &Field, of: &[Array], rows: Rows<'_>) -> Result<Owned<ArrowAr
     };
     let made = match (field.layout, &field.dictionary) {
         (Layout::Bits, _) => Made::of([fixed::bits(field, of, rows)?]),
-        (Layout::Fixed(..), Some(items)) => nested::coded(field, items, of, rows)?,
+        (Layout::Fixed(..), Some(items)) => {
+            nested::coded(field, items, of, rows, nulls.valid(rows.len()))?
+        }
         (Layout::Fixed(_, width), None) => Made::of([fixed::own_values(field, width, of, rows)?]),
         (Layout::Ranges(width, Of::Bytes), _) => {
             variable::texts(field, width, of, rows, nulls.valid(rows.len()))?

@@ -134,14 +134,16 @@ fn signed(bytes: &[u8], place: usize, width: usize) -> i64 {
 }
 
 /// Selects rows of a column with a dictionary: the indices. The items are those of all arrays.
+/// `valid` has a bit per row.
 pub(super) fn coded(
     field: &Field,
     items: &Field,
     of: &[Array],
     rows: Rows<'_>,
+    valid: Option<Bits<'_>>,
 ) -> Result<Made, ArrowError> {
     let width = field.layout.widest().0;
-    let used = with_valid_rows(field, of)?;
+    let used = with_valid_rows(field, of.len(), rows, valid)?;
     let dictionaries = || {
         let used = of.iter().zip(&used).filter(|(_, is_used)| **is_used);
         used.filter_map(|(it, _)| it.node.dictionary.as_ref())
@@ -172,12 +174,23 @@ pub(super) fn coded(
     Ok(made)
 }
 
-/// Returns for each array whether its dictionary is needed: it has a valid row. If none has, the
-/// first array's dictionary is kept.
-fn with_valid_rows(field: &Field, of: &[Array]) -> Result<Vec<bool>, ArrowError> {
-    let mut used = reserved(field, of.len())?;
-    for one in of {
-        used.push(of.len() == 1 || one.null_count()? < one.len());
+/// Returns for each array whether its dictionary is needed: a selected row of it is valid. If none
+/// is, the first array's dictionary is kept.
+fn with_valid_rows(
+    field: &Field,
+    arrays: usize,
+    rows: Rows<'_>,
+    valid: Option<Bits<'_>>,
+) -> Result<Vec<bool>, ArrowError> {
+    let mut used = reserved(field, arrays)?;
+    used.resize(arrays, arrays == 1);
+    if arrays > 1 {
+        rows.for_each(|at, run| {
+            let is_used = valid.is_none_or(|valid| valid.slice(at..at + run.len).any());
+            if let Some(one) = run.of.filter(|_| is_used) {
+                used[one] = true;
+            }
+        });
     }
     if let (false, Some(first)) = (used.contains(&true), used.first_mut()) {
         *first = true;

@@ -20,7 +20,7 @@ pub(super) struct Nodes {
     /// Each node once, whole, in the order in which they first occur.
     pub each: Vec<Array>,
     /// The index in `each` of each given node.
-    places: Vec<usize>,
+    pub places: Vec<usize>,
 }
 
 impl Nodes {

@@ -196,13 +196,17 @@ pub(super) fn views(
     }
     let nodes = Nodes::of(of.iter().map(|it| &it.node));
     // The sizes come after the buffers of texts, the validity and the views before them.
-    let before: Vec<usize> = nodes.before(|it| it.node.buffers.len() - 3).collect();
-    let mut made = Made::of([moved_views(field, of, rows, valid, &before)?]);
     let buffers = nodes.each.iter().map(|it| {
         let buffers = it.view_buffers();
         buffers.map_err(|fault| it.malformed(fault))
     });
-    let buffers = buffers.collect::<Result<Vec<_>, _>>()?.concat();
+    let buffers = buffers.collect::<Result<Vec<_>, _>>()?;
+    let before = nodes.before(|it| it.node.buffers.len() - 3);
+    let parts: Vec<_> = before
+        .zip(nodes.places.iter().map(|place| &buffers[*place][..]))
+        .collect();
+    let mut made = Made::of([moved_views(field, of, rows, valid, &parts)?]);
+    let buffers = buffers.concat();
     let mut sizes = zeroed(field, buffers.len(), size_of::<i64>())?;
     for (place, buffer) in buffers.iter().enumerate() {
         put(&mut sizes, place, size_of::<i64>(), buffer.len());
@@ -214,31 +218,26 @@ pub(super) fn views(
     Ok(made)
 }
 
-/// Selects views. `before` has for each array the number of buffers in front of its own. Those of
-/// null rows are empty.
+/// Selects views. `parts` has for each array its buffers, and the number of buffers in front of
+/// these. The views of null rows are empty.
 fn moved_views(
     field: &Field,
     of: &[Array],
     rows: Rows<'_>,
     valid: Option<Bits<'_>>,
-    before: &[usize],
+    parts: &[(usize, &[&[u8]])],
 ) -> Result<AlignedBytes, ArrowError> {
-    let buffers = of.iter().map(|one| {
-        let buffers = one.view_buffers();
-        buffers.map_err(|fault| one.malformed(fault))
-    });
-    let buffers = buffers.collect::<Result<Vec<_>, _>>()?;
     let mut moved = zeroed(field, rows.len(), size_of::<View>())?;
     rows.each(|at, run| -> Result<(), ArrowError> {
         let Some(one) = run.of else {
             return Ok(());
         };
-        let views = of[one].views().unwrap_or_default();
+        let (views, (before, buffers)) = (of[one].views().unwrap_or_default(), parts[one]);
         for (at, row) in (at..).zip(run.start..run.start + run.len) {
             if valid.is_none_or(|valid| valid[at]) {
-                let text = viewed(&views[row], &buffers[one]);
+                let text = viewed(&views[row], buffers);
                 let text = text.ok_or_else(|| of[one].malformed(Fault::View(row)))?;
-                let view = moved_view(field, views[row], text.len(), before[one])?;
+                let view = moved_view(field, views[row], text.len(), before)?;
                 moved[at * size_of::<View>()..][..size_of::<View>()].copy_from_slice(&view);
             }
         }
