@@ -2,6 +2,8 @@
 
 # What each program begins with.
 BEGIN = """\
+#include "vortex_bits.h"
+size_t position(vb_taken);
 #include "vortex_bits.hpp"
 
 #include <memory>
@@ -26,6 +28,16 @@ struct spare {
     std::size_t count;
     std::uint8_t *data() const { return first; }
     std::size_t size() const { return count; }
+};
+namespace user {
+struct alignas(8) cell { int a, b; };
+template <class V, class I, class N, class O>
+std::optional<std::size_t> take_values(const V &, const I &, N, O &&) = delete;
+} // namespace user
+struct counted {
+    std::uint8_t all[2];
+    std::uint8_t *data() { return all; }
+    std::size_t size() { return 2; }
 };
 template <class Item> struct column {
     std::vector<Item> items;
@@ -102,6 +114,9 @@ ACCEPTED = [
     "std::optional<bits> valid = rows; (void)bits_mut(bytes, 0, 8).take_of(rows, fixed, valid);",
     "(void)rows.take_into(fixed, std::nullopt, bytes); (void)rows.take_into(fixed, rows, bytes);",
     "const auto &table = ranks(rows).table(); (void)table[0];",
+    "std::vector<user::cell> all(8), out(8); (void)vortex_bits::take_values(all, bytes, out);",
+    "counted all{{1, 2}}; (void)bits_mut(all, 0, 16); (void)rows.take_into(fixed, all);",
+    "std::vector<std::uint64_t> all(2); (void)group_counts(all, bytes);",
     "column<std::uint8_t> all{bytes}; (void)rows.filter_into(rows, all); (void)bits(all, 0, 8);",
     "column<std::uint64_t> all{{1}}; (void)bits(all, 0, 64); bits_mut(all, 0, 64).fill(true);",
     "column<int> all{{1, 2}}; compare(all, VB_LESS, 2, four); compare_with(all, VB_LESS, all, four);",

@@ -194,7 +194,7 @@ static void print_times(const std::vector<batch> &batches)
         plain = std::min(plain, time_of<by_loops>(batches));
     }
     std::printf("%s: %.3f ms, by plain loops %.3f ms: %.2f of it\n", vb_level(), ours, plain,
-        ours / plain);
+        plain > 0 ? ours / plain : 1);
 }
 
 int main(int count, char **words)

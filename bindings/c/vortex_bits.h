@@ -214,7 +214,7 @@ VB_CHECKED bool vb_try_select_unset(const uint8_t *bytes, size_t size, size_t of
 
 /*
  * Returns the index within the window of its last set bit; finds none if all bits are unset. Reads
- * words from the end, eight at once.
+ * the last word, and then words before it, eight at once.
  *
  *     const uint8_t rows[] = {0xE8, 0x06};
  *     assert(vb_last_set(rows, 2, 3, 10).index == 7);
@@ -243,8 +243,8 @@ VB_CHECKED bool vb_try_next_unset(const uint8_t *bytes, size_t size, size_t offs
 
 /*
  * Returns the index within the window of its last set (or unset) bit before index `before`; finds
- * none if there is none. A `before` of at least `len` searches all bits. Reads towards the front,
- * eight words at once.
+ * none if there is none. A `before` of at least `len` searches all bits. Reads the word before that
+ * index, and then words towards the front, eight at once.
  *
  *     const uint8_t rows[] = {0xE8, 0x06};
  *     assert(vb_previous_set(rows, 2, 3, 10, 6).index == 4);
@@ -279,7 +279,8 @@ VB_CHECKED bool vb_try_all_set(const uint8_t *bytes, size_t size, size_t offset,
 
 /*
  * Returns whether the `len` bits of `left` from bit `left_offset` on equal those of `right` from
- * bit `right_offset` on. Reads no block of 512 bytes after the one with the first difference.
+ * bit `right_offset` on. Reads up to 64 bytes, and then no block of 512 bytes after the one with
+ * the first difference.
  *
  *     const uint8_t rows[] = {0xE8, 0x06};
  *     assert(vb_equal_bits(rows, 2, 5, rows, 2, 9, 2));

@@ -169,7 +169,7 @@ struct aggregate {
         using as = typename laid<sizeof(code)>::type;
         expect(!mask || mask->len_ == detail::size(codes), "not a bit of the mask for each code");
         const bits selected = mask.value_or(bits());
-        return position(call(totals.data(), reached<code>(detail::size(totals)),
+        return detail::position(call(totals.data(), reached<code>(detail::size(totals)),
             reinterpret_cast<const as *>(codes.data()), detail::size(codes), !mask, selected.bytes_,
             selected.size_, selected.offset_));
     }

@@ -77,7 +77,7 @@ inline constexpr bool lends<Container, Byte,
     && std::is_convertible_v<decltype(std::declval<Container &>().size()), std::size_t>;
 
 /* Returns the number of a container's items. Its size() may be of another type, such as int. */
-template <class Container> constexpr std::size_t size(const Container &of)
+template <class Container> constexpr std::size_t size(Container &of)
 {
     return static_cast<std::size_t>(of.size());
 }

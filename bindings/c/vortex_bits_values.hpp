@@ -146,7 +146,7 @@ template <class Values, class Indices, class Out>
 [[nodiscard]] std::optional<std::size_t> take_values(const Values &values, const Indices &indices,
     Out &&out)
 {
-    return take_values(values, indices, std::nullopt, std::forward<Out>(out));
+    return vortex_bits::take_values(values, indices, std::nullopt, std::forward<Out>(out));
 }
 
 } // namespace vortex_bits
