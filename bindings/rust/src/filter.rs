@@ -126,7 +126,7 @@ pub fn filter_onto<T: Value>(values: &[T], mask: impl Mask, kept: &mut Vec<T>) {
         return kept.extend_from_slice(values);
     };
     let before = kept.len();
-    kept.reserve(mask.count_ones());
-    kept.resize(before + mask.count_ones(), T::ZERO);
+    let end = before.checked_add(mask.count_ones());
+    kept.resize(end.expect("a number of values is a usize"), T::ZERO);
     kernels::keep(&mut kept[before..], values, mask);
 }

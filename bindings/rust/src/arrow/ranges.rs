@@ -9,6 +9,7 @@ use core::ops::Range;
 
 use super::error::Fault;
 use super::primitive::Unaligned;
+use crate::Bits;
 pub(super) use offsets::{Offset, Spans};
 
 /// The range of each row, in the bytes of texts or in the items of lists.
@@ -97,6 +98,15 @@ impl<'a> Ranges<'a> {
         match self.0 {
             Offsets::Narrow(offsets) => offsets::write_ends(offsets, rows, start, out),
             Offsets::Wide(offsets) => offsets::write_ends(offsets, rows, start, out),
+        }
+    }
+
+    /// Returns whether a row has bytes or items, though its bit is unset. The bits are those of the
+    /// rows from `first` on.
+    pub(super) fn any_unset(&self, first: usize, valid: Bits<'_>) -> bool {
+        match self.0 {
+            Offsets::Narrow(offsets) => offsets::any_unset(offsets, first, valid),
+            Offsets::Wide(offsets) => offsets::any_unset(offsets, first, valid),
         }
     }
 

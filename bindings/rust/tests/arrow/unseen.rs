@@ -161,7 +161,7 @@ fn null_lists_of_a_mask_have_no_items() {
 }
 
 #[test]
-fn null_texts_have_no_bytes() {
+fn bytes_of_null_texts_do_not_count() {
     let text = "x".repeat(70 << 20);
     let texts = Export::texts([&text[..3], &text, "yz"], Some([true, false, true].into()));
     let texts = texts.narrow().unwrap().into_array();
@@ -177,10 +177,8 @@ fn null_texts_have_no_bytes() {
             .iter()
             .all(|row| Some(&row) == wanted.next())
     );
-    let all = texts
-        .filter(None::<vortex_bits::Bits>)
-        .unwrap()
-        .into_array();
+    let all = Export::texts_kept(&texts, None::<vortex_bits::Bits>);
+    let all = all.unwrap().into_array();
     assert!(all.texts().unwrap().iter().eq(rows));
     assert_eq!(
         all.ranges()

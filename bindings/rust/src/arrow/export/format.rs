@@ -54,7 +54,7 @@ impl Export {
     }
 
     /// Returns the values as another type as [`Export::with_format`] does, without a test of the
-    /// values. It also converts fixed-size lists, list views, maps and unions.
+    /// values. It also converts fixed-size lists, maps and unions.
     ///
     /// # Errors
     ///

@@ -26,6 +26,7 @@ use crate::arrow::layout::{Layout, Of};
 use crate::{BitIndex, Bits, Mask};
 pub(super) use made::Owners;
 use made::{Made, Nulls};
+pub(super) use memory::all_true;
 use memory::reserved;
 use rows::{Rows, Runs};
 
@@ -255,9 +256,9 @@ impl Export {
     /// - Returns [`ArrowError::TooLong`] if there are 2^63 rows or items or more, and
     ///   [`ArrowError::Memory`] with `usize::MAX` bytes if their number isn't a `usize`. Both are
     ///   possible if these take no memory.
-    /// - If there are several dictionaries, returns [`ArrowError::Take`] with the first valid index
-    ///   of an array that names no item of its own dictionary. Below lists and unions, positions
-    ///   count from the first item that the rows of the array have.
+    /// - If valid rows have several dictionaries, returns [`ArrowError::Take`] with the first valid
+    ///   index of an array that names no item of its own dictionary. Below lists and unions,
+    ///   positions count from the first item that the rows of the array have.
     /// - Returns [`ArrowError::Malformed`] if list views of several arrays are out of bounds of
     ///   their items. Returns the errors of [`Array::texts`] for views of several arrays.
     /// - Returns the errors of `filter`.

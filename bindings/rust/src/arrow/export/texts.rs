@@ -5,6 +5,7 @@ use alloc::vec::Vec;
 use core::ffi::c_void;
 
 use super::growing::TextsMut;
+use super::select::all_true;
 use super::{Export, number};
 use crate::arrow::array::Array;
 use crate::arrow::error::ArrowError;
@@ -82,7 +83,12 @@ impl Export {
     pub fn texts_kept(texts: &Array, mask: impl Mask) -> Result<Export, ArrowError> {
         let mask = mask.of_len(texts.len());
         texts.shows_texts()?;
-        texts.filter(mask)
+        if mask.is_some() || texts.validity()?.bits().is_none() {
+            return texts.filter(mask);
+        }
+        // Without a mask, `filter` would copy by runs, with the bytes of null rows.
+        let all = all_true(texts.field(), texts.len())?;
+        texts.filter(Bits::new(&all, 0, texts.len()))
     }
 
     /// Returns the rows of texts or binary values at indices, with their name, type and validity.

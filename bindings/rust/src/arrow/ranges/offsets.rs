@@ -3,8 +3,11 @@
 use core::mem;
 use core::ops::Range;
 
+use super::each_set;
+use crate::Bits;
 use crate::arrow::error::Fault;
 use crate::arrow::primitive::{Primitive, Unaligned};
+use crate::portable::low;
 
 /// An offset: the number at which a row begins or ends.
 pub(in crate::arrow) trait Offset: Primitive + Into<i64> {
@@ -158,6 +161,24 @@ pub(super) fn write_ends<T: Offset>(
     for (out, end) in out.chunks_exact_mut(size_of::<T>()).zip(ends) {
         out.copy_from_slice(end.plus(further).bytes().as_ref());
     }
+}
+
+/// Returns whether a row has bytes or items, though its bit is unset. The bits are those of the
+/// rows from `first` on.
+pub(super) fn any_unset<T: Offset>(
+    offsets: Unaligned<'_, T>,
+    first: usize,
+    valid: Bits<'_>,
+) -> bool {
+    let has_items = |row: usize| {
+        let [start, end] = offsets.pair(row).map(Into::into);
+        start != end
+    };
+    let rows = (0..valid.len()).step_by(64);
+    valid.words().zip(rows).any(|(word, row)| {
+        let nulls = !word & low((valid.len() - row).min(64));
+        each_set(nulls, |digit| has_items(first + row + digit)) != 0
+    })
 }
 
 /// The start of each of 64 rows, counted from the start of the first, and its length. Lengths are

@@ -21,7 +21,7 @@ const FEW: usize = 32;
 const BLOCK: usize = 64;
 
 /// Returns new offsets and the bytes of the valid rows; `valid` has a bit per row. Returns None if
-/// copying by runs is faster.
+/// copying by runs is faster, which copies the bytes of null rows too.
 pub(super) fn rows(
     field: &Field,
     of: &Array,

@@ -13,6 +13,16 @@ pub(super) fn zeroed(field: &Field, len: usize, width: usize) -> Result<AlignedB
     zeros.ok_or_else(|| none_for(field, bytes.unwrap_or(usize::MAX)))
 }
 
+/// Allocates the bytes of `len` bits, all true.
+pub(in crate::arrow::export) fn all_true(
+    field: &Field,
+    len: usize,
+) -> Result<AlignedBytes, ArrowError> {
+    let mut bytes = zeroed(field, len.div_ceil(8), 1)?;
+    bytes.fill(u8::MAX);
+    Ok(bytes)
+}
+
 /// Allocates capacity for `bytes` bytes, without contents.
 pub(super) fn with_room(field: &Field, bytes: usize) -> Result<AlignedBytes, ArrowError> {
     AlignedBytes::try_with_capacity(bytes).ok_or_else(|| none_for(field, bytes))

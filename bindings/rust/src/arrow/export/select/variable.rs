@@ -33,7 +33,12 @@ pub(super) fn texts(
     let joined = of.iter().map(Array::joined);
     let (ranges, bytes): (Vec<_>, Vec<_>) =
         joined.collect::<Result<Vec<_>, _>>()?.into_iter().unzip();
-    let (offsets, parts) = offsets(field, width, &ranges, rows, valid)?;
+    // With the bytes of null rows there are fewer runs to copy, but they may be too many.
+    let all = offsets(field, width, &ranges, rows, None);
+    let (offsets, parts) = match all {
+        Err(_) if valid.is_some() => offsets(field, width, &ranges, rows, valid)?,
+        all => all?,
+    };
     let bytes = fixed::values(field, 1, &bytes, parts.rows())?;
     Ok(Made::of([offsets, bytes]))
 }
@@ -57,7 +62,7 @@ pub(super) fn lists(
 }
 
 /// Returns the offsets of the rows one after the other, and the ranges of bytes or items that they
-/// have in the arrays. Null rows have none, whatever their offsets are.
+/// have in the arrays. Rows whose bit of `valid` is unset have none, whatever their offsets are.
 fn offsets(
     field: &Field,
     width: usize,
@@ -74,7 +79,7 @@ fn offsets(
     rows.each(|before, run| {
         let valid = valid.map(|valid| valid.slice(before..before + run.len));
         match (run.of.map(|one| of[one]), valid) {
-            (Some(ranges), Some(valid)) if has_items_of_nulls(ranges, run, valid) => {
+            (Some(ranges), Some(valid)) if ranges.any_unset(run.start, valid) => {
                 kept.add_valid(ranges, before, run, valid)
             }
             (Some(ranges), _) if run.len > 0 => kept.add(ranges, before, run),
@@ -85,12 +90,6 @@ fn offsets(
         }
     })?;
     Ok((kept.offsets, kept.parts))
-}
-
-/// Returns whether a null row of a run has bytes or items.
-fn has_items_of_nulls(ranges: Ranges<'_>, run: Run, valid: Bits<'_>) -> bool {
-    let mut nulls = valid.unset_indices();
-    nulls.any(|row| ranges.get(run.start + row).is_some_and(|it| !it.is_empty()))
 }
 
 /// The offsets of the rows so far, and their ranges of bytes or items.
