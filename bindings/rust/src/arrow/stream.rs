@@ -23,6 +23,9 @@ use super::schema::c_string;
 
 /// The errno if a producer reports none, or panics.
 const EIO: i32 = 5;
+/// The greatest number of panics of one value that are caught.
+#[cfg(feature = "std")]
+const MOST_PANICS: usize = 64;
 
 /// An iterator over the arrays of a stream of the Arrow C stream interface. Most producers send
 /// batches, whose [`columns`](Array::columns) you read. After an error it ends. Dropping the stream
@@ -302,12 +305,24 @@ fn text_of(panic: Box<dyn core::any::Any + Send>) -> String {
     match other.downcast::<&str>() {
         Ok(text) => String::from(*text),
         Err(other) => {
-            // Dropping the panic's value may panic too, and then the value of that panic may. Its
-            // memory leaks.
-            std::panic::catch_unwind(AssertUnwindSafe(|| drop(other))).unwrap_or_else(mem::forget);
+            discard(other);
             String::new()
         }
     }
+}
+
+/// Drops the value of a panic. Dropping it may panic too, and so may dropping the value of that
+/// panic: after the last one that is caught, its memory leaks.
+#[cfg(feature = "std")]
+fn discard(panic: Box<dyn core::any::Any + Send>) {
+    let mut left = Some(panic);
+    for _ in 0..MOST_PANICS {
+        let Some(value) = left.take() else {
+            return;
+        };
+        left = std::panic::catch_unwind(AssertUnwindSafe(|| drop(value))).err();
+    }
+    mem::forget(left);
 }
 
 /// Returns the result of `make`: a panic aborts the program.
