@@ -7,7 +7,7 @@ use super::each_set;
 use crate::Bits;
 use crate::arrow::error::Fault;
 use crate::arrow::primitive::{Primitive, Unaligned};
-use crate::portable::low;
+use crate::portable::{low, only_word};
 
 /// An offset: the number at which a row begins or ends.
 pub(in crate::arrow) trait Offset: Primitive + Into<i64> {
@@ -174,9 +174,9 @@ pub(super) fn any_unset<T: Offset>(
         let [start, end] = offsets.pair(row).map(Into::into);
         start != end
     };
-    let rows = (0..valid.len()).step_by(64);
-    valid.words().zip(rows).any(|(word, row)| {
-        let nulls = !word & low((valid.len() - row).min(64));
+    (0..valid.len()).step_by(64).any(|row| {
+        let len = (valid.len() - row).min(64);
+        let nulls = !only_word(valid.part(row, len)) & low(len);
         each_set(nulls, |digit| has_items(first + row + digit)) != 0
     })
 }

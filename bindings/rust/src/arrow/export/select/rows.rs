@@ -89,8 +89,10 @@ impl Rows<'_> {
 /// Runs that are added one by one. A run that continues the last one is merged with it.
 #[derive(Default)]
 pub(super) struct Runs {
-    runs: Vec<Run>,
+    all: Vec<Run>,
     len: usize,
+    /// The start of the first row of an array that a run has, and the end of the last one.
+    span: Option<(usize, usize)>,
 }
 
 impl Runs {
@@ -113,15 +115,15 @@ impl Runs {
     }
 
     pub(super) fn rows(&self) -> Rows<'_> {
-        Rows::Runs(&self.runs, self.len)
+        Rows::Runs(&self.all, self.len)
     }
 
     /// Cuts each array to its rows from the first to the last that a run has: the rows outside are
     /// then neither copied nor tested.
     pub(super) fn cut(&mut self, field: &Field, of: &mut [Array]) -> Result<(), ArrowError> {
         let mut spans = reserved(field, of.len())?;
-        spans.resize(of.len(), None);
-        for run in &self.runs {
+        spans.resize(of.len(), if of.len() == 1 { self.span } else { None });
+        for run in self.all.iter().filter(|_| of.len() > 1) {
             if let Some(one) = run.of {
                 let end = run.start + run.len;
                 let (first, last) = spans[one].get_or_insert((run.start, end));
@@ -132,7 +134,10 @@ impl Runs {
             let (start, end) = span.unwrap_or_default();
             *one = one.slice(start..end);
         }
-        for run in &mut self.runs {
+        if spans.iter().flatten().all(|(start, _)| *start == 0) {
+            return Ok(());
+        }
+        for run in &mut self.all {
             let span = run.of.and_then(|one| spans[one]);
             run.start -= span.map_or(0, |(start, _)| start);
         }
@@ -166,13 +171,18 @@ impl Runs {
     pub(super) fn push(&mut self, field: &Field, run: Run) -> Result<(), ArrowError> {
         let len = self.len.checked_add(run.len);
         self.len = len.ok_or_else(|| too_many(field))?;
-        match self.runs.last_mut() {
+        if run.of.is_some() && run.len > 0 {
+            let end = run.start + run.len;
+            let (first, last) = self.span.get_or_insert((run.start, end));
+            (*first, *last) = (run.start.min(*first), end.max(*last));
+        }
+        match self.all.last_mut() {
             _ if run.len == 0 => Ok(()),
             Some(last) if last.is_before(run) => {
                 last.len += run.len;
                 Ok(())
             }
-            _ => push(field, &mut self.runs, run),
+            _ => push(field, &mut self.all, run),
         }
     }
 }

@@ -102,6 +102,7 @@ struct Kept<'a> {
 
 impl Kept<'_> {
     /// Adds a run after the first `before` rows.
+    #[inline]
     fn add(&mut self, ranges: Ranges<'_>, before: usize, run: Run) -> Result<(), ArrowError> {
         let (end, most) = (self.parts.len(), most(self.width));
         let rows = run.start..run.start + run.len;
