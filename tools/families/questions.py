@@ -134,8 +134,8 @@ NEAREST = [
     Single(
         "next_set", PLACE, "place",
         "Returns the index of the first set bit at or after index `from` of the `len` bits from "
-        "bit `offset` on; finds none if there is none, or if `from` is at least `len`. Reads up to "
-        "the word that has it, four words at once.",
+        "bit `offset` on; finds none if there is none, or if `from` is at least `len`. Reads word "
+        "by word, from the third word on four at once, up to those that have it.",
         "IsNext (bits bytes.now offset len) from {}", "from",
     ),
     Single(
@@ -149,7 +149,7 @@ NEAREST = [
         "previous_set", PLACE, "place",
         "Returns the index of the last set bit before index `before` of the `len` bits from bit "
         "`offset` on; finds none if there is none. A `before` of at least `len` searches all bits. "
-        "Reads towards the front, eight words at once.",
+        "Reads the word before that index, and then words towards the front, eight at once.",
         "IsPrevious (bits bytes.now offset len) before {}", "before",
     ),
     Single(

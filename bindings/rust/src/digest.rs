@@ -5,6 +5,6 @@
 /// The output of tools/digest. tools/write-lists writes it here.
 macro_rules! digest {
     () => {
-        "c3e0e5fee5400b2e84cfd2a3380ec2c98c8b05401f43cd0579dd5e65ad0109f2"
+        "be99322d5b567dd8a96029363e94e2981cf9bc115f92a3e27f4e051c45aaf161"
     };
 }

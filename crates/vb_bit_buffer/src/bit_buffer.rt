@@ -379,8 +379,8 @@ impl<A: Allocator + Clone> BitBuffer<A> {
         self.as_view().select_unset(n)
     }
 
-    /// Returns the index of the last true bit, or `None` if no bit is true. Reads from the end, in
-    /// blocks of eight words, up to the word that has the bit.
+    /// Returns the index of the last true bit, or `None` if no bit is true. Reads the last word,
+    /// and then blocks of eight words before it, up to the word that has the bit.
     pub fn last_set_index(&self) -> Option<usize>
         ensures { result ≡ last_place self.now.bits }
     {

@@ -11,8 +11,8 @@ use vb_bits::window_fits;
 use vb_c_core::Place;
 
 /// Returns the index of the first set bit at or after index `from` of the `len` bits from bit
-/// `offset` on; finds none if there is none, or if `from` is at least `len`. Reads up to the word
-/// that has it, four words at once.
+/// `offset` on; finds none if there is none, or if `from` is at least `len`. Reads word by word,
+/// from the third word on four at once, up to those that have it.
 #[unsafe(no_mangle)]
 pub extern "C" fn vb_next_set(bytes: &[u8], offset: usize, len: usize, from: usize) -> Place
     requires window { InBytes bytes.now offset len }
@@ -75,8 +75,8 @@ pub extern "C" fn vb_try_next_unset(
 }
 
 /// Returns the index of the last set bit before index `before` of the `len` bits from bit `offset`
-/// on; finds none if there is none. A `before` of at least `len` searches all bits. Reads towards
-/// the front, eight words at once.
+/// on; finds none if there is none. A `before` of at least `len` searches all bits. Reads the word
+/// before that index, and then words towards the front, eight at once.
 #[unsafe(no_mangle)]
 pub extern "C" fn vb_previous_set(bytes: &[u8], offset: usize, len: usize, before: usize) -> Place
     requires window { InBytes bytes.now offset len }

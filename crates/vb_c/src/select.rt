@@ -56,7 +56,7 @@ pub extern "C" fn vb_select_unset_wide(bytes: &[u8], offset: usize, len: usize, 
 }
 
 /// Returns the index of the last set bit of the window of `len` bits from bit `offset` on; finds
-/// none if no bit is set. Reads words from the end, eight at once.
+/// none if no bit is set. Reads the last word, and then words before it, eight at once.
 #[unsafe(no_mangle)]
 pub extern "C" fn vb_last_set(bytes: &[u8], offset: usize, len: usize) -> Place
     requires window { InBytes bytes.now offset len }

@@ -18,8 +18,8 @@ const PASSED_WORDS: usize = 8;
 /// relative to the window of `len` bits from bit `offset` on. The caller must prove that the window
 /// is in bounds and that `offset + len` fits in a `usize`.
 ///
-/// It reads words from the end to the front. It passes words without a set bit in blocks of eight,
-/// and then one by one.
+/// It reads the last word, and then words towards the front. It passes words without a set bit in
+/// blocks of eight, and then one by one.
 pub fn last_set_index(bytes: &[u8], offset: usize, len: usize) -> Option<usize>
     requires window { InBytes bytes.now offset len }
     ensures { result ≡ last_place (bits bytes.now offset len) }

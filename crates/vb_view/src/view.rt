@@ -349,8 +349,8 @@ impl<'a> BitBufferView<'a> {
         bit_select_unset(self.bytes, self.offset, self.len, n)
     }
 
-    /// Returns the index of the last set bit; `None` if no bit is set. Reads from the end, in
-    /// blocks of eight words, up to the word that has it.
+    /// Returns the index of the last set bit; `None` if no bit is set. Reads the last word, and
+    /// then blocks of eight words before it, up to the word that has the bit.
     pub fn last_set_index(&self) -> Option<usize>
         ensures { result ≡ last_place (bits_of self.now) }
     {
