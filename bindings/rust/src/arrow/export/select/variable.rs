@@ -77,16 +77,20 @@ fn offsets(
         parts: Runs::default(),
     };
     rows.each(|before, run| {
-        let valid = valid.map(|valid| valid.slice(before..before + run.len));
-        match (run.of.map(|one| of[one]), valid) {
-            (Some(ranges), Some(valid)) if ranges.any_unset(run.start, valid) => {
+        let Some(ranges) = run.of.map(|one| of[one]).filter(|_| run.len > 0) else {
+            kept.add_nulls(before, run.len);
+            return Ok(());
+        };
+        match valid {
+            Some(valid) if run.len > 1 => {
+                let valid = valid.slice(before..before + run.len);
                 kept.add_valid(ranges, before, run, valid)
             }
-            (Some(ranges), _) if run.len > 0 => kept.add(ranges, before, run),
-            _ => {
-                kept.add_nulls(before, run.len);
+            Some(valid) if !valid[before] => {
+                kept.add_nulls(before, 1);
                 Ok(())
             }
+            _ => kept.add(ranges, before, run),
         }
     })?;
     Ok((kept.offsets, kept.parts))
@@ -128,6 +132,9 @@ impl Kept<'_> {
         run: Run,
         valid: Bits<'_>,
     ) -> Result<(), ArrowError> {
+        if !ranges.any_unset(run.start, valid) {
+            return self.add(ranges, before, run);
+        }
         let mut done = 0;
         for rows in valid.set_slices() {
             self.add_nulls(before + done, rows.start - done);
