@@ -50,9 +50,9 @@ pub fn from_iter<A: Allocator + Clone, I: IntoIterator<Item = bool>>(
     }
 }
 
-/// Returns the next 64 items of an iterator as the digits of a word, or fewer if the iterator ends;
-/// then the number of items, and the rest of the iterator. The caller must prove that `next` may be
-/// called, and that the iterator ends.
+/// Takes the next 64 items of an iterator, or fewer if it ends. Returns a word with the items as
+/// its lowest digits, the number of items, and the rest of the iterator. The caller must prove that
+/// `next` may be called, and that the iterator ends.
 #[inline(always)]
 pub fn next_word<I: Iterator<Item = bool>>(mut iter: I) -> (u64, usize, I)
     requires can { I.can_next iter }

@@ -20,7 +20,7 @@ falls l = filter (λ i. value_before l i && not (at l i)) (range_with_len 0 (len
 unfoldable pub runs : List Bool → List (ℕ × ℕ)
 runs l = zip (rises l) (falls l)
 
--- a run moved up by a indices
+-- a run, with a added to both of its indices
 abbrev pub shift_run : ℕ → ℕ × ℕ → ℕ × ℕ
 shift_run a r = (a + r.0, a + r.1)
 

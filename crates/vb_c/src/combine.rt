@@ -8,9 +8,9 @@ ghost use Rattle.vb_c.specs.Windows.{AllInBytes, BothInBytes};
 
 use vb_bits::{BitOp, window_fits, zip_into, zip_words};
 
-/// Sets each of the `len` bits of `dst` from bit `d` on to true if it is true and that of `src`
-/// from bit `s` on is, else to false. Every other bit of `dst` is unchanged. The two must not
-/// overlap.
+/// Sets bit `d + i` of `dst`, for each `i` below `len`, to true if it is true and bit `s + i` of
+/// `src` is, else to false. Every other bit of `dst` is unchanged. The bytes of `dst` and `src`
+/// must not overlap.
 #[unsafe(no_mangle)]
 pub extern "C" fn vb_and_bits(dst: &mut [u8], d: usize, src: &[u8], s: usize, len: usize)
     requires { BothInBytes dst.old d src.now s len }
@@ -19,8 +19,9 @@ pub extern "C" fn vb_and_bits(dst: &mut [u8], d: usize, src: &[u8], s: usize, le
     combine(dst, d, src, s, len, BitOp::And);
 }
 
-/// Sets each of the `len` bits of `dst` from bit `d` on to true if it is true or that of `src` from
-/// bit `s` on is, else to false. Every other bit of `dst` is unchanged. The two must not overlap.
+/// Sets bit `d + i` of `dst`, for each `i` below `len`, to true if it is true or bit `s + i` of
+/// `src` is, else to false. Every other bit of `dst` is unchanged. The bytes of `dst` and `src`
+/// must not overlap.
 #[unsafe(no_mangle)]
 pub extern "C" fn vb_or_bits(dst: &mut [u8], d: usize, src: &[u8], s: usize, len: usize)
     requires { BothInBytes dst.old d src.now s len }
@@ -29,8 +30,9 @@ pub extern "C" fn vb_or_bits(dst: &mut [u8], d: usize, src: &[u8], s: usize, len
     combine(dst, d, src, s, len, BitOp::Or);
 }
 
-/// Sets each of the `len` bits of `dst` from bit `d` on to true if it differs from that of `src`
-/// from bit `s` on, else to false. Every other bit of `dst` is unchanged. The two must not overlap.
+/// Sets bit `d + i` of `dst`, for each `i` below `len`, to true if it differs from bit `s + i` of
+/// `src`, else to false. Every other bit of `dst` is unchanged. The bytes of `dst` and `src` must
+/// not overlap.
 #[unsafe(no_mangle)]
 pub extern "C" fn vb_xor_bits(dst: &mut [u8], d: usize, src: &[u8], s: usize, len: usize)
     requires { BothInBytes dst.old d src.now s len }
@@ -39,9 +41,9 @@ pub extern "C" fn vb_xor_bits(dst: &mut [u8], d: usize, src: &[u8], s: usize, le
     combine(dst, d, src, s, len, BitOp::Xor);
 }
 
-/// Sets each of the `len` bits of `dst` from bit `d` on to true if it is true and that of `src`
-/// from bit `s` on isn't, else to false. Every other bit of `dst` is unchanged. The two must not
-/// overlap.
+/// Sets bit `d + i` of `dst`, for each `i` below `len`, to true if it is true and bit `s + i` of
+/// `src` isn't, else to false. Every other bit of `dst` is unchanged. The bytes of `dst` and `src`
+/// must not overlap.
 #[unsafe(no_mangle)]
 pub extern "C" fn vb_and_not_bits(dst: &mut [u8], d: usize, src: &[u8], s: usize, len: usize)
     requires { BothInBytes dst.old d src.now s len }
@@ -128,9 +130,9 @@ pub extern "C" fn vb_try_and_not_bits(
     true
 }
 
-/// Sets each of the `len` bits of `out` from bit `o` on to true if that of `left` from bit `l` on
-/// and that of `right` from bit `r` on are true, else to false. Every other bit of `out` is
-/// unchanged. `out` must not overlap `left` or `right`.
+/// Sets bit `o + i` of `out`, for each index `i` below `len`, to true if bit `l + i` of `left` and
+/// bit `r + i` of `right` are true, else to false. Every other bit of `out` is unchanged. `out`
+/// must not overlap `left` or `right`.
 #[unsafe(no_mangle)]
 pub extern "C" fn vb_and_into(
     out: &mut [u8],
@@ -147,9 +149,9 @@ pub extern "C" fn vb_and_into(
     combine_within(out, o, left, l, right, r, len, BitOp::And);
 }
 
-/// Sets each of the `len` bits of `out` from bit `o` on to true if that of `left` from bit `l` on
-/// is true, or that of `right` from bit `r` on, or both, else to false. Every other bit of `out` is
-/// unchanged. `out` must not overlap `left` or `right`.
+/// Sets bit `o + i` of `out`, for each index `i` below `len`, to true if bit `l + i` of `left` is
+/// true, or bit `r + i` of `right`, or both, else to false. Every other bit of `out` is unchanged.
+/// `out` must not overlap `left` or `right`.
 #[unsafe(no_mangle)]
 pub extern "C" fn vb_or_into(
     out: &mut [u8],
@@ -166,9 +168,9 @@ pub extern "C" fn vb_or_into(
     combine_within(out, o, left, l, right, r, len, BitOp::Or);
 }
 
-/// Sets each of the `len` bits of `out` from bit `o` on to true if that of `left` from bit `l` on
-/// differs from that of `right` from bit `r` on, else to false. Every other bit of `out` is
-/// unchanged. `out` must not overlap `left` or `right`.
+/// Sets bit `o + i` of `out`, for each index `i` below `len`, to true if bit `l + i` of `left`
+/// differs from bit `r + i` of `right`, else to false. Every other bit of `out` is unchanged. `out`
+/// must not overlap `left` or `right`.
 #[unsafe(no_mangle)]
 pub extern "C" fn vb_xor_into(
     out: &mut [u8],
@@ -185,9 +187,9 @@ pub extern "C" fn vb_xor_into(
     combine_within(out, o, left, l, right, r, len, BitOp::Xor);
 }
 
-/// Sets each of the `len` bits of `out` from bit `o` on to true if that of `left` from bit `l` on
-/// is true and that of `right` from bit `r` on isn't, else to false. Every other bit of `out` is
-/// unchanged. `out` must not overlap `left` or `right`.
+/// Sets bit `o + i` of `out`, for each index `i` below `len`, to true if bit `l + i` of `left` is
+/// true and bit `r + i` of `right` isn't, else to false. Every other bit of `out` is unchanged.
+/// `out` must not overlap `left` or `right`.
 #[unsafe(no_mangle)]
 pub extern "C" fn vb_and_not_into(
     out: &mut [u8],
@@ -296,8 +298,8 @@ pub extern "C" fn vb_try_and_not_into(
     true
 }
 
-/// Combines the window of `dst` with that of `src` by `op`, in the bytes of `dst` that have a bit
-/// of it: the kernel can store no other byte.
+/// Combines the window of `dst` with that of `src` by `op`. Passes the kernel only the bytes of
+/// `dst` that have a bit of the window, so it can store no others.
 fn combine(dst: &mut [u8], d: usize, src: &[u8], s: usize, len: usize, op: BitOp)
     requires { BothInBytes dst.old d src.now s len }
     ensures { Combines op dst.old dst.new d (bits dst.old d len) (bits src.now s len) }

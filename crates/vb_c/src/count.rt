@@ -67,8 +67,8 @@ pub extern "C" fn vb_try_count_ones_wide(
     true
 }
 
-/// Returns the number of indices below `len` for which the bit of `left` from bit `l` on and that
-/// of `right` from bit `r` on are true. Reads each window once, and writes nothing.
+/// Returns the number of `i` below `len` for which bit `l + i` of `left` and bit `r + i` of `right`
+/// are true. Reads each window once, and writes nothing.
 #[unsafe(no_mangle)]
 pub extern "C" fn vb_and_count(left: &[u8], l: usize, right: &[u8], r: usize, len: usize) -> usize
     requires { BothInBytes left.now l right.now r len }
@@ -99,8 +99,8 @@ pub extern "C" fn vb_try_and_count(
     true
 }
 
-/// Returns the number of indices below `len` for which the bit of `left` from bit `l` on or that of
-/// `right` from bit `r` on is true. Reads each window once, and writes nothing.
+/// Returns the number of `i` below `len` for which bit `l + i` of `left` or bit `r + i` of `right`
+/// is true. Reads each window once, and writes nothing.
 #[unsafe(no_mangle)]
 pub extern "C" fn vb_or_count(left: &[u8], l: usize, right: &[u8], r: usize, len: usize) -> usize
     requires { BothInBytes left.now l right.now r len }
@@ -131,8 +131,8 @@ pub extern "C" fn vb_try_or_count(
     true
 }
 
-/// Returns the number of indices below `len` for which the bit of `left` from bit `l` on differs
-/// from that of `right` from bit `r` on. Reads each window once, and writes nothing.
+/// Returns the number of `i` below `len` for which bit `l + i` of `left` differs from bit `r + i`
+/// of `right`. Reads each window once, and writes nothing.
 #[unsafe(no_mangle)]
 pub extern "C" fn vb_xor_count(left: &[u8], l: usize, right: &[u8], r: usize, len: usize) -> usize
     requires { BothInBytes left.now l right.now r len }
@@ -163,8 +163,8 @@ pub extern "C" fn vb_try_xor_count(
     true
 }
 
-/// Returns the number of indices below `len` for which the bit of `left` from bit `l` on is true
-/// and that of `right` from bit `r` on isn't. Reads each window once, and writes nothing.
+/// Returns the number of `i` below `len` for which bit `l + i` of `left` is true and bit `r + i` of
+/// `right` isn't. Reads each window once, and writes nothing.
 #[unsafe(no_mangle)]
 pub extern "C" fn vb_and_not_count(
     left: &[u8],

@@ -61,7 +61,8 @@ pub extern "C" fn vb_try_negate_bits(bytes: &mut [u8], offset: usize, len: usize
 }
 
 /// Copies the `len` bits of `src` from bit `s` on to the bits of `dst` from bit `d` on. Every other
-/// bit of `dst` is unchanged. The two must not overlap.
+/// bit of `dst` is unchanged. The bytes of `dst` and `src` must not overlap; [`vb_move_bits`]
+/// copies within the same bytes.
 #[unsafe(no_mangle)]
 pub extern "C" fn vb_copy_bits(dst: &mut [u8], d: usize, src: &[u8], s: usize, len: usize)
     requires { BothInBytes dst.old d src.now s len }

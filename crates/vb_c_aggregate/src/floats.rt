@@ -43,7 +43,7 @@ pub extern "C" fn vb_try_masked_sum_f32(
 }
 
 /// Returns the least number among the floats whose bit of `mask` from bit `m` on is true, if there
-/// is one; -0.0 is less than 0.0.
+/// is one. Skips NaNs; -0.0 is less than 0.0.
 #[unsafe(no_mangle)]
 pub extern "C" fn vb_masked_min_f32(values: &[f32], mask: &[u8], m: usize) -> OptionalF32
     requires { InBytes mask.now m (length values.now) }
@@ -73,7 +73,7 @@ pub extern "C" fn vb_try_masked_min_f32(
 }
 
 /// Returns the greatest number among the floats whose bit of `mask` from bit `m` on is true, if
-/// there is one; -0.0 is less than 0.0.
+/// there is one. Skips NaNs; -0.0 is less than 0.0.
 #[unsafe(no_mangle)]
 pub extern "C" fn vb_masked_max_f32(values: &[f32], mask: &[u8], m: usize) -> OptionalF32
     requires { InBytes mask.now m (length values.now) }
@@ -133,7 +133,7 @@ pub extern "C" fn vb_try_masked_sum_f64(
 }
 
 /// Returns the least number among the floats whose bit of `mask` from bit `m` on is true, if there
-/// is one; -0.0 is less than 0.0.
+/// is one. Skips NaNs; -0.0 is less than 0.0.
 #[unsafe(no_mangle)]
 pub extern "C" fn vb_masked_min_f64(values: &[f64], mask: &[u8], m: usize) -> OptionalF64
     requires { InBytes mask.now m (length values.now) }
@@ -163,7 +163,7 @@ pub extern "C" fn vb_try_masked_min_f64(
 }
 
 /// Returns the greatest number among the floats whose bit of `mask` from bit `m` on is true, if
-/// there is one; -0.0 is less than 0.0.
+/// there is one. Skips NaNs; -0.0 is less than 0.0.
 #[unsafe(no_mangle)]
 pub extern "C" fn vb_masked_max_f64(values: &[f64], mask: &[u8], m: usize) -> OptionalF64
     requires { InBytes mask.now m (length values.now) }

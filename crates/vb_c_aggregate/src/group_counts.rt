@@ -8,9 +8,9 @@ ghost use Rattle.vb_c_core.specs.Validity.{HasValidity, validity_of};
 use crate::grouped::{count, try_count};
 use vb_c_core::Taken;
 
-/// Adds to each count the number of selected rows with its index as their code, modulo 2^64. Codes
-/// are of one byte each. Returns the first selected row whose code isn't below the number of
-/// counts, if there is one; the counts are then unchanged.
+/// Adds to each `counts[c]` the number of selected rows with the code `c`, modulo 2^64. Codes are
+/// of one byte each. Returns the index of the first selected row whose code isn't below the number
+/// of counts, if there is one; the counts are then unchanged.
 ///
 /// If `all_selected` is true, each row is selected, and the mask is ignored. Else a row is selected
 /// if its bit of `mask`, from bit `m` on, is true; the codes of the others are ignored.
@@ -49,9 +49,9 @@ pub extern "C" fn vb_try_group_counts_u8(
     try_count(counts, codes, all_selected, mask, m, past)
 }
 
-/// Adds to each count the number of selected rows with its index as their code, modulo 2^64. Codes
-/// are of two bytes each. Returns the first selected row whose code isn't below the number of
-/// counts, if there is one; the counts are then unchanged.
+/// Adds to each `counts[c]` the number of selected rows with the code `c`, modulo 2^64. Codes are
+/// of two bytes each. Returns the index of the first selected row whose code isn't below the number
+/// of counts, if there is one; the counts are then unchanged.
 ///
 /// If `all_selected` is true, each row is selected, and the mask is ignored. Else a row is selected
 /// if its bit of `mask`, from bit `m` on, is true; the codes of the others are ignored.
@@ -90,9 +90,9 @@ pub extern "C" fn vb_try_group_counts_u16(
     try_count(counts, codes, all_selected, mask, m, past)
 }
 
-/// Adds to each count the number of selected rows with its index as their code, modulo 2^64. Codes
-/// are of four bytes each. Returns the first selected row whose code isn't below the number of
-/// counts, if there is one; the counts are then unchanged.
+/// Adds to each `counts[c]` the number of selected rows with the code `c`, modulo 2^64. Codes are
+/// of four bytes each. Returns the index of the first selected row whose code isn't below the
+/// number of counts, if there is one; the counts are then unchanged.
 ///
 /// If `all_selected` is true, each row is selected, and the mask is ignored. Else a row is selected
 /// if its bit of `mask`, from bit `m` on, is true; the codes of the others are ignored.

@@ -44,7 +44,7 @@ pub extern "C" fn vb_try_masked_sum_i8(
     true
 }
 
-/// Returns the sum of the values whose bit of `mask` from bit `m` on is true, if it is a `i8`.
+/// Returns the sum of the values whose bit of `mask` from bit `m` on is true, if it fits in `i8`.
 #[unsafe(no_mangle)]
 pub extern "C" fn vb_masked_checked_sum_i8(values: &[i8], mask: &[u8], m: usize) -> OptionalI8
     requires { InBytes mask.now m (length values.now) }
@@ -131,7 +131,7 @@ pub extern "C" fn vb_try_masked_sum_i16(
     true
 }
 
-/// Returns the sum of the values whose bit of `mask` from bit `m` on is true, if it is a `i16`.
+/// Returns the sum of the values whose bit of `mask` from bit `m` on is true, if it fits in `i16`.
 #[unsafe(no_mangle)]
 pub extern "C" fn vb_masked_checked_sum_i16(values: &[i16], mask: &[u8], m: usize) -> OptionalI16
     requires { InBytes mask.now m (length values.now) }
@@ -219,7 +219,7 @@ pub extern "C" fn vb_try_masked_sum_i32(
     true
 }
 
-/// Returns the sum of the values whose bit of `mask` from bit `m` on is true, if it is a `i32`.
+/// Returns the sum of the values whose bit of `mask` from bit `m` on is true, if it fits in `i32`.
 #[unsafe(no_mangle)]
 pub extern "C" fn vb_masked_checked_sum_i32(values: &[i32], mask: &[u8], m: usize) -> OptionalI32
     requires { InBytes mask.now m (length values.now) }
@@ -307,7 +307,7 @@ pub extern "C" fn vb_try_masked_sum_i64(
     true
 }
 
-/// Returns the sum of the values whose bit of `mask` from bit `m` on is true, if it is a `i64`.
+/// Returns the sum of the values whose bit of `mask` from bit `m` on is true, if it fits in `i64`.
 #[unsafe(no_mangle)]
 pub extern "C" fn vb_masked_checked_sum_i64(values: &[i64], mask: &[u8], m: usize) -> OptionalI64
     requires { InBytes mask.now m (length values.now) }

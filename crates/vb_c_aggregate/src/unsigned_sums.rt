@@ -40,7 +40,7 @@ pub extern "C" fn vb_try_masked_sum_u8(values: &[u8], mask: &[u8], m: usize, sum
     true
 }
 
-/// Returns the sum of the values whose bit of `mask` from bit `m` on is true, if it is a `u8`.
+/// Returns the sum of the values whose bit of `mask` from bit `m` on is true, if it fits in `u8`.
 #[unsafe(no_mangle)]
 pub extern "C" fn vb_masked_checked_sum_u8(values: &[u8], mask: &[u8], m: usize) -> OptionalU8
     requires { InBytes mask.now m (length values.now) }
@@ -127,7 +127,7 @@ pub extern "C" fn vb_try_masked_sum_u16(
     true
 }
 
-/// Returns the sum of the values whose bit of `mask` from bit `m` on is true, if it is a `u16`.
+/// Returns the sum of the values whose bit of `mask` from bit `m` on is true, if it fits in `u16`.
 #[unsafe(no_mangle)]
 pub extern "C" fn vb_masked_checked_sum_u16(values: &[u16], mask: &[u8], m: usize) -> OptionalU16
     requires { InBytes mask.now m (length values.now) }
@@ -215,7 +215,7 @@ pub extern "C" fn vb_try_masked_sum_u32(
     true
 }
 
-/// Returns the sum of the values whose bit of `mask` from bit `m` on is true, if it is a `u32`.
+/// Returns the sum of the values whose bit of `mask` from bit `m` on is true, if it fits in `u32`.
 #[unsafe(no_mangle)]
 pub extern "C" fn vb_masked_checked_sum_u32(values: &[u32], mask: &[u8], m: usize) -> OptionalU32
     requires { InBytes mask.now m (length values.now) }
@@ -303,7 +303,7 @@ pub extern "C" fn vb_try_masked_sum_u64(
     true
 }
 
-/// Returns the sum of the values whose bit of `mask` from bit `m` on is true, if it is a `u64`.
+/// Returns the sum of the values whose bit of `mask` from bit `m` on is true, if it fits in `u64`.
 #[unsafe(no_mangle)]
 pub extern "C" fn vb_masked_checked_sum_u64(values: &[u64], mask: &[u8], m: usize) -> OptionalU64
     requires { InBytes mask.now m (length values.now) }

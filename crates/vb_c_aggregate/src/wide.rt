@@ -8,7 +8,7 @@ ghost use Rattle.vb_c_aggregate.specs.Wide.{unsigned_number, signed_number};
 pub struct Wide {
     /// Its lower 64 bits.
     pub low: u64,
-    /// Its higher ones.
+    /// Its higher 64 bits.
     pub high: u64,
 }
 
@@ -29,7 +29,7 @@ impl From<u128> for Wide {
 pub struct SignedWide {
     /// Its lower 64 bits, which are not negative.
     pub low: u64,
-    /// Its higher ones, with the sign.
+    /// Its higher 64 bits, with the sign.
     pub high: i64,
 }
 

@@ -7,9 +7,9 @@ ghost use Rattle.vb_c_core.specs.Taken.{first_past};
 #[repr(C)]
 #[derive(Clone, Copy)]
 pub struct Taken {
-    /// Whether an index that counts is out of range.
+    /// Whether the index of a valid position is out of range.
     pub out_of_range: bool,
-    /// The first position of such an index; meaningful only if `out_of_range` is true.
+    /// The first such position; meaningful only if `out_of_range` is true.
     pub position: usize,
 }
 

@@ -43,8 +43,9 @@ fn pack_within(out: &mut [u8], o: usize, truthy: &[u8])
     compare_into(out, o, truthy, Comparison::NotEqual, 0);
 }
 
-/// Packs truth values into the first bytes of `out`, eight into each. The remaining bits of the
-/// last byte written are false, and later bytes are unchanged.
+/// Packs truth values into the first bytes of `out`, eight into each. `out` must have a bit for
+/// each value. The remaining bits of the last byte written are false, and later bytes are
+/// unchanged.
 #[unsafe(no_mangle)]
 pub extern "C" fn vb_pack_bools_padded(out: &mut [u8], bools: &[bool])
     requires { length bools.now ≤ 8 * length out.old }
@@ -67,8 +68,9 @@ pub extern "C" fn vb_try_pack_bools_padded(out: &mut [u8], bools: &[bool]) -> bo
     true
 }
 
-/// Packs bytes into the first bytes of `out`, eight into each: true if the byte isn't 0. The
-/// remaining bits of the last byte written are false, and later bytes are unchanged.
+/// Packs one bit for each byte of `truthy`, true if the byte isn't 0, into the first bytes of
+/// `out`, eight bits into each. `out` must have a bit for each byte of `truthy`. The remaining bits
+/// of the last byte written are false, and later bytes are unchanged.
 #[unsafe(no_mangle)]
 pub extern "C" fn vb_pack_truthy_padded(out: &mut [u8], truthy: &[u8])
     requires { length truthy.now ≤ 8 * length out.old }

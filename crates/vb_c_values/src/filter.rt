@@ -24,7 +24,7 @@ pub extern "C" fn vb_filter_values_u8(out: &mut [u8], values: &[u8], mask: &[u8]
     filter_values(out, values, mask, m)
 }
 
-/// Returns whether the mask has a bit for each value in its bytes, and `out` an item for each
+/// Returns whether the bytes of the mask have a bit for each value, and `out` an item for each
 /// selected value. If so, does [`vb_filter_values_u8`] and writes its result to `written`; else
 /// leaves `out` and `written` unchanged.
 #[unsafe(no_mangle)]
@@ -58,7 +58,7 @@ pub extern "C" fn vb_filter_values_u16(
     filter_values(out, values, mask, m)
 }
 
-/// Returns whether the mask has a bit for each value in its bytes, and `out` an item for each
+/// Returns whether the bytes of the mask have a bit for each value, and `out` an item for each
 /// selected value. If so, does [`vb_filter_values_u16`] and writes its result to `written`; else
 /// leaves `out` and `written` unchanged.
 #[unsafe(no_mangle)]
@@ -92,7 +92,7 @@ pub extern "C" fn vb_filter_values_u32(
     filter_values(out, values, mask, m)
 }
 
-/// Returns whether the mask has a bit for each value in its bytes, and `out` an item for each
+/// Returns whether the bytes of the mask have a bit for each value, and `out` an item for each
 /// selected value. If so, does [`vb_filter_values_u32`] and writes its result to `written`; else
 /// leaves `out` and `written` unchanged.
 #[unsafe(no_mangle)]
@@ -126,7 +126,7 @@ pub extern "C" fn vb_filter_values_u64(
     filter_values(out, values, mask, m)
 }
 
-/// Returns whether the mask has a bit for each value in its bytes, and `out` an item for each
+/// Returns whether the bytes of the mask have a bit for each value, and `out` an item for each
 /// selected value. If so, does [`vb_filter_values_u64`] and writes its result to `written`; else
 /// leaves `out` and `written` unchanged.
 #[unsafe(no_mangle)]
@@ -160,7 +160,7 @@ pub extern "C" fn vb_filter_values_u128(
     filter_values(out, values, mask, m)
 }
 
-/// Returns whether the mask has a bit for each value in its bytes, and `out` an item for each
+/// Returns whether the bytes of the mask have a bit for each value, and `out` an item for each
 /// selected value. If so, does [`vb_filter_values_u128`] and writes its result to `written`; else
 /// leaves `out` and `written` unchanged.
 #[unsafe(no_mangle)]
@@ -191,7 +191,7 @@ fn filter_values<T: Element>(out: &mut [T], values: &[T], mask: &[u8], m: usize)
     filter_to_front(out, kept, values, mask, m)
 }
 
-/// Returns whether the mask has a bit for each value in its bytes, and `out` an item for each
+/// Returns whether the bytes of the mask have a bit for each value, and `out` an item for each
 /// selected value. If so, does [`filter_values`] and writes its result to `written`; else leaves
 /// `out` and `written` unchanged.
 fn try_filter_values<T: Element>(
@@ -234,8 +234,9 @@ fn try_filter_word<T: Element>(out: &mut [T], values: &[T], keep: u64, written: 
     true
 }
 
-/// Does [`filter_values`]. `kept` must be the number of selected values: passes the kernel only the
-/// first `kept` items, since it may overwrite later ones of four bytes and restore them.
+/// Does [`filter_values`]. `kept` must be the number of selected values. Passes the kernel only the
+/// first `kept` items of `out`: if values have four bytes, the kernel may overwrite the items after
+/// the selected ones, and restore them.
 fn filter_to_front<T: Element>(
     out: &mut [T],
     kept: usize,

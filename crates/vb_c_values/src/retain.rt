@@ -22,7 +22,7 @@ pub extern "C" fn vb_retain_values_u8(values: &mut [u8], mask: &[u8], m: usize) 
     retain_values(values, mask, m)
 }
 
-/// Returns whether the mask has a bit for each value in its bytes. If so, does
+/// Returns whether the bytes of the mask have a bit for each value. If so, does
 /// [`vb_retain_values_u8`] and writes its result to `written`; else leaves `values` and `written`
 /// unchanged.
 #[unsafe(no_mangle)]
@@ -52,7 +52,7 @@ pub extern "C" fn vb_retain_values_u16(values: &mut [u16], mask: &[u8], m: usize
     retain_values(values, mask, m)
 }
 
-/// Returns whether the mask has a bit for each value in its bytes. If so, does
+/// Returns whether the bytes of the mask have a bit for each value. If so, does
 /// [`vb_retain_values_u16`] and writes its result to `written`; else leaves `values` and `written`
 /// unchanged.
 #[unsafe(no_mangle)]
@@ -82,7 +82,7 @@ pub extern "C" fn vb_retain_values_u32(values: &mut [u32], mask: &[u8], m: usize
     retain_values(values, mask, m)
 }
 
-/// Returns whether the mask has a bit for each value in its bytes. If so, does
+/// Returns whether the bytes of the mask have a bit for each value. If so, does
 /// [`vb_retain_values_u32`] and writes its result to `written`; else leaves `values` and `written`
 /// unchanged.
 #[unsafe(no_mangle)]
@@ -112,7 +112,7 @@ pub extern "C" fn vb_retain_values_u64(values: &mut [u64], mask: &[u8], m: usize
     retain_values(values, mask, m)
 }
 
-/// Returns whether the mask has a bit for each value in its bytes. If so, does
+/// Returns whether the bytes of the mask have a bit for each value. If so, does
 /// [`vb_retain_values_u64`] and writes its result to `written`; else leaves `values` and `written`
 /// unchanged.
 #[unsafe(no_mangle)]
@@ -142,7 +142,7 @@ pub extern "C" fn vb_retain_values_u128(values: &mut [Wide], mask: &[u8], m: usi
     retain_values(values, mask, m)
 }
 
-/// Returns whether the mask has a bit for each value in its bytes. If so, does
+/// Returns whether the bytes of the mask have a bit for each value. If so, does
 /// [`vb_retain_values_u128`] and writes its result to `written`; else leaves `values` and `written`
 /// unchanged.
 #[unsafe(no_mangle)]
@@ -171,7 +171,7 @@ fn retain_values<T: Copy>(values: &mut [T], mask: &[u8], m: usize) -> usize
     vb_filter::retain_values(values, mask)
 }
 
-/// Returns whether the mask has a bit for each value in its bytes. If so, does [`retain_values`]
+/// Returns whether the bytes of the mask have a bit for each value. If so, does [`retain_values`]
 /// and writes its result to `written`; else leaves `values` and `written` unchanged.
 fn try_retain_values<T: Copy>(values: &mut [T], mask: &[u8], m: usize, written: &mut usize) -> bool
     ensures { DoneIf (InBytes mask.now m (length values.old))

@@ -27,9 +27,9 @@ pub extern "C" fn vb_scatter_values_u8(
     scatter_values(out, values, mask, m)
 }
 
-/// Returns whether the mask has a bit for each item in its bytes, and there is a value for each
-/// that it selects. If so, does [`vb_scatter_values_u8`] and writes its result to `written`; else
-/// leaves `out` and `written` unchanged.
+/// Returns whether the bytes of the mask have a bit for each item of `out`, and there is a value
+/// for each item that the mask selects. If so, does [`vb_scatter_values_u8`] and writes its result
+/// to `written`; else leaves `out` and `written` unchanged.
 #[unsafe(no_mangle)]
 pub extern "C" fn vb_try_scatter_values_u8(
     out: &mut [u8],
@@ -61,9 +61,9 @@ pub extern "C" fn vb_scatter_values_u16(
     scatter_values(out, values, mask, m)
 }
 
-/// Returns whether the mask has a bit for each item in its bytes, and there is a value for each
-/// that it selects. If so, does [`vb_scatter_values_u16`] and writes its result to `written`; else
-/// leaves `out` and `written` unchanged.
+/// Returns whether the bytes of the mask have a bit for each item of `out`, and there is a value
+/// for each item that the mask selects. If so, does [`vb_scatter_values_u16`] and writes its result
+/// to `written`; else leaves `out` and `written` unchanged.
 #[unsafe(no_mangle)]
 pub extern "C" fn vb_try_scatter_values_u16(
     out: &mut [u16],
@@ -95,9 +95,9 @@ pub extern "C" fn vb_scatter_values_u32(
     scatter_values(out, values, mask, m)
 }
 
-/// Returns whether the mask has a bit for each item in its bytes, and there is a value for each
-/// that it selects. If so, does [`vb_scatter_values_u32`] and writes its result to `written`; else
-/// leaves `out` and `written` unchanged.
+/// Returns whether the bytes of the mask have a bit for each item of `out`, and there is a value
+/// for each item that the mask selects. If so, does [`vb_scatter_values_u32`] and writes its result
+/// to `written`; else leaves `out` and `written` unchanged.
 #[unsafe(no_mangle)]
 pub extern "C" fn vb_try_scatter_values_u32(
     out: &mut [u32],
@@ -129,9 +129,9 @@ pub extern "C" fn vb_scatter_values_u64(
     scatter_values(out, values, mask, m)
 }
 
-/// Returns whether the mask has a bit for each item in its bytes, and there is a value for each
-/// that it selects. If so, does [`vb_scatter_values_u64`] and writes its result to `written`; else
-/// leaves `out` and `written` unchanged.
+/// Returns whether the bytes of the mask have a bit for each item of `out`, and there is a value
+/// for each item that the mask selects. If so, does [`vb_scatter_values_u64`] and writes its result
+/// to `written`; else leaves `out` and `written` unchanged.
 #[unsafe(no_mangle)]
 pub extern "C" fn vb_try_scatter_values_u64(
     out: &mut [u64],
@@ -163,9 +163,9 @@ pub extern "C" fn vb_scatter_values_u128(
     scatter_values(out, values, mask, m)
 }
 
-/// Returns whether the mask has a bit for each item in its bytes, and there is a value for each
-/// that it selects. If so, does [`vb_scatter_values_u128`] and writes its result to `written`; else
-/// leaves `out` and `written` unchanged.
+/// Returns whether the bytes of the mask have a bit for each item of `out`, and there is a value
+/// for each item that the mask selects. If so, does [`vb_scatter_values_u128`] and writes its
+/// result to `written`; else leaves `out` and `written` unchanged.
 #[unsafe(no_mangle)]
 pub extern "C" fn vb_try_scatter_values_u128(
     out: &mut [Wide],
@@ -191,9 +191,9 @@ fn scatter_values<T: Copy>(out: &mut [T], values: &[T], mask: &[u8], m: usize) -
     scatter_values_into(out, values, mask)
 }
 
-/// Returns whether the mask has a bit for each item in its bytes, and there is a value for each
-/// that it selects. If so, does [`scatter_values`] and writes its result to `written`; else leaves
-/// `out` and `written` unchanged.
+/// Returns whether the bytes of the mask have a bit for each item of `out`, and there is a value
+/// for each item that the mask selects. If so, does [`scatter_values`] and writes its result to
+/// `written`; else leaves `out` and `written` unchanged.
 fn try_scatter_values<T: Copy>(
     out: &mut [T],
     values: &[T],

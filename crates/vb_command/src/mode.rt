@@ -1,4 +1,4 @@
-//! The modes of an operator on the slots that it names.
+//! The modes of an operator on the slot of its left set.
 
 /// The mode of an operator on the slot of its left set.
 #[derive(Clone, Copy, Debug, PartialEq, Eq)]

@@ -1,10 +1,10 @@
-//! The reasons why a line has no command.
+//! The reasons why the command of a line cannot be returned.
 ghost use Rattle.std.specs.Prelude.{◌≡◌};
 ghost use Rattle.vb_command.specs.declared.unread.Unread.TheVariants.{Memory};
 
 use std::alloc::{AllocError, AllocFailed};
 
-/// The reason why a line has no command.
+/// The reason why the command of a line cannot be returned.
 #[derive(Clone, Copy, Debug, PartialEq, Eq)]
 pub enum Unread {
     /// The allocation of the line's bytes or numbers failed.

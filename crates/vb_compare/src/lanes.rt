@@ -1,4 +1,4 @@
-//! Whole numbers, compared 64 at a time.
+//! Whole numbers, compared one by one or 64 at a time.
 ghost use Rattle.std.specs.Prelude.{◌≡◌, ℤ, ◌<◌, ◌≤◌, List, length, map, replicate, take};
 ghost use Rattle.std.specs.Prelude.{All, int_lt};
 ghost use Rattle.std.specs.Ordering.{int_eq};
@@ -11,8 +11,8 @@ mod wide;
 
 use vb_core::{BitIndex, Element};
 
-/// A whole number whose values are compared 64 at a time. The twelve whole-number types implement
-/// it.
+/// A whole number whose values can be compared 64 at a time, or one by one. The twelve whole-number
+/// types implement it.
 pub trait CompareLanes: BitIndex + Element {
     /// 64 values: a vector, or an array if the processor has no vectors of the type.
     type Block: Copy;

@@ -1,9 +1,9 @@
 //! Counts the set bits of a window.
 //!
 //! The window is split as in Mula, Kurz and Lemire's "Faster Population Counts Using AVX2
-//! Instructions". The first and last bits are counted by words and bytes, here before the whole
-//! vectors. Carry-save adders count the vectors if there are many. The compiler chooses how to
-//! count a word or a vector.
+//! Instructions". The first and last bits are counted by words and bytes, and, unlike there, before
+//! the whole vectors. Carry-save adders count the vectors if there are many. The compiler chooses
+//! how to count a word or a vector.
 ghost use Rattle.std.specs.Prelude.{◌≡◌, ◌+◌, ◌-◌, ◌*◌, ◌/◌, ◌%◌, ◌^◌, ◌<◌, ◌≤◌, length, min};
 ghost use Rattle.vb_bits.specs.Bits.{bits, count};
 ghost use Rattle.vb_bits.specs.InBytes.{InBytes};
@@ -45,8 +45,8 @@ pub fn count_ones(bytes: &[u8], offset: usize, len: usize) -> usize
 /// that the window is in bounds and that `offset + len` fits in a `usize`.
 ///
 /// It is for vectors of 32 bytes and more. At x86-64-v3 it is faster than [`count_ones`] for
-/// windows from 32,768 bits to 8 MiB, since adders count them; at x86-64-v2 it is slower. Longer
-/// windows are counted alike.
+/// windows from 4 KiB to 8 MiB, since adders count them; at x86-64-v2 it is slower. Both count
+/// shorter and longer windows in the same way.
 pub fn count_ones_wide(bytes: &[u8], offset: usize, len: usize) -> usize
     requires window { InBytes bytes.now offset len }
     ensures { result ≡ count (bits bytes.now offset len) }
@@ -212,8 +212,8 @@ fn min_adder_chunks<G: Glance>() -> usize
 /// their words.
 ///
 /// Each turn sums two chunks before it adds their sum: a compiler that counts the bits of bytes
-/// then adds those counts as bytes and widens them once per turn. It isn't inlined: among the sums
-/// of other parts the compiler no longer sees its four sums as the lanes of one vector.
+/// then adds those counts as bytes and widens them once per turn. It isn't inlined: next to the
+/// sums of other parts the compiler wouldn't see its four sums as the lanes of one vector.
 #[tactic(auto, using(vb_bits::proofs::BitsLemmas::windows))]
 #[inline(never)]
 fn add_few<G: Glance>(src: &mut G, at: usize, n: usize, ones: usize) -> usize
@@ -250,7 +250,8 @@ fn count_quarters<G: Glance>(src: &mut G, at: usize, turns: usize) -> usize
 
 /// Counts `n` chunks from byte `at` on, one by one.
 ///
-/// It is a loop even for two: if the compiler saw one sum, it would add each part to the total.
+/// It is a loop even for two chunks: without it the compiler would see one long sum, and add the
+/// count of each word to the total one by one.
 #[tactic(auto, using(vb_bits::proofs::BitsLemmas::windows))]
 #[inline(always)]
 fn sum_chunks<G: Glance>(src: &mut G, at: usize, n: usize) -> LaneSum

@@ -41,8 +41,8 @@ impl Counter {
         }
     }
 
-    /// Adds the set bits of four chunks from byte `at` on, and of four from each of three further
-    /// bytes, each `apart` bytes after the previous one.
+    /// Adds the set bits of sixteen chunks: four from byte `at` on, and four from each of the bytes
+    /// `at + apart`, `at + 2 * apart` and `at + 3 * apart` on.
     #[inline(always)]
     pub(crate) fn add<G: Glance>(self, src: &mut G, at: usize, apart: usize) -> Counter
         requires inside { at + 3 * apart + 256 ≤ length (G.seen src.old).bytes }

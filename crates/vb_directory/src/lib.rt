@@ -1,9 +1,10 @@
 //! The counts of a directory: the number of set bits before each block of 512 bits, by groups of
 //! 128 blocks.
 //!
-//! [`Counts`] has no bits: each call gets a view of the bits that were counted, so any owner of
-//! bits can keep their counts next to them. An edit of the bits changes few counts, and ranks and
-//! selects read few bits, as those of `vb_rank` over a table do.
+//! [`Counts`] has no bits: a rank or select gets a view of the bits that were counted, so any owner
+//! of bits can keep their counts next to them. An edit of the bits changes the later counts of its
+//! group, and one count for each later group. Ranks and selects read few bits, as those of
+//! `vb_rank` over a table do.
 //!
 //! A rank or select is generic over a source of counts, and can read a count only by a probe of the
 //! source. Other crates can read counts only by these calls. Lengths, offsets and indices are in

@@ -5,7 +5,7 @@ use Rattle.vb_bits.specs.Bits.{count}
 use Rattle.vb_bits.specs.Digits.{digits}
 use Rattle.vb_bits.specs.Kept.{kept_by}
 
--- the selected ones of the k bits from bit a on, packed, as a number
+-- the bits that the mask selects among the k from bit a on, packed, as a number
 abbrev pub kept_number : ℕ → ℕ → ℕ → ℕ → ℕ
 kept_number mask word a k = mask_l (kept_by (digits mask a k) (digits word a k))
 

@@ -18,8 +18,8 @@ use vb_view::{BitBufferView, view_word};
 /// and returns their number. The other bits of `out` are unchanged.
 ///
 /// The mask must have one bit for each bit of `values`, and `out` one bit for each set bit of the
-/// mask. Processes 64 bits at a time: packs the selected ones, and writes a word at a time. If the
-/// mask selects none of 64, it reads no values. Does not allocate.
+/// mask. Processes 64 bits at a time: packs those that the mask selects, and writes a word at a
+/// time. If it selects none of 64, the call reads no values. Does not allocate.
 pub fn filter_into(out: &mut [u8], values: BitBufferView<'_>, mask: BitBufferView<'_>) -> usize
     requires same_len { length (bits_of values) ≡ length (bits_of mask) }
     requires room { count (bits_of mask) ≤ 8 * length out.old }
@@ -135,8 +135,8 @@ fn push_kept(
     (push_digits(out, pending, len, packed, added), len + added)
 }
 
-/// Returns the selected ones of the `n` bits from index `start` on, as the lowest bits of a word,
-/// and their number.
+/// Returns the bits that the mask selects among the `n` from index `start` on, as the lowest bits
+/// of a word, and their number.
 #[inline(always)]
 fn kept_digits(
     values: BitBufferView<'_>,

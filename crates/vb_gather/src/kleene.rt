@@ -31,7 +31,8 @@ use vb_view::BitBufferView;
 /// Returns two sets of offset 0, in as few bytes as hold them: the first marks the values that are
 /// true, the second the values that are not null. At a null the bit of the first is false, so that
 /// its true bits are the rows that a `where` of SQL selects. `not` needs no function: negate the
-/// values and keep the validity.
+/// values and keep the validity. The negated bits are then true at nulls: for a `where`, combine
+/// them with the validity by `and`.
 ///
 /// Returns `OutOfMemory` if memory runs out. Allocates with `alloc`: the bytes of both sets before
 /// it reads a bit, and the counts of their owners after the last one. It takes one pass over the

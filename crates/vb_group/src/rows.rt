@@ -167,8 +167,8 @@ fn add_ones<C: BitIndex, V: Copy, A: Addition<V>>(
     good
 }
 
-/// Returns whether both are true. The branch gives the compiler no reason to compute the second one
-/// for each row.
+/// Returns whether both are true. Because of the branch, a loop that updates `good` by this call
+/// leaves `good` alone for each row that has a total.
 #[inline(always)]
 fn both(first: bool, second: bool) -> bool
     ensures { result ≡ (first && second) }

@@ -1,5 +1,5 @@
-//! Re-exports the calls of `vb_bits`, `vb_pack`, `vb_count`, `vb_pair` and `vb_select`: the kernels
-//! over the bits of a slice.
+//! Re-exports calls of `vb_bits`, `vb_pack`, `vb_count`, `vb_pair` and `vb_select`: kernels over
+//! the bits of a slice.
 //!
 //! A window is the `len` bits from bit `offset` on, least significant first. The caller must prove
 //! that it is in bounds and that `offset + len` fits in a `usize`; [`window_fits`] tests both at

@@ -28,12 +28,13 @@ pub record Lengthens {T : Type 0} (added : List T) (old new : OpenBuffer T) : Ty
 abbrev pub HasRoom : {T : Type 0} → OpenBuffer T → ℕ → Type 0
 HasRoom b n = length b.list + n ≤ b.room
 
--- the exponent of the declared alignment of storage for which a call requests an alignment: the
--- greater of the requested one and 256 bytes
+-- the exponent of the declared alignment of new storage: the greater of the alignment that the call
+-- requests and 256 bytes
 abbrev pub over_aligned : ℕ → ℕ
 over_aligned asked = max asked 8
 
--- the same if the caller may prefer another alignment: the greater of the two
+-- the same with the alignment that the caller prefers in place of 256 bytes; the requested one if
+-- it prefers none
 abbrev pub preferred_over : ℕ → Option ℕ → ℕ
 preferred_over asked preferred = max asked (unwrap_or preferred 0)
 

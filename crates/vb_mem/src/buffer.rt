@@ -119,7 +119,8 @@ impl<T: Element, A: Allocator> Buffer<T, A> {
             || (self.content.is_place_divided(alignment, 0) && alignment <= self.declared())
     }
 
-    /// Removes all items. The reported alignment does not change.
+    /// Removes all items, and releases the buffer's storage. The reported alignment does not
+    /// change, and the declared one becomes equal to it. Other buffers keep their items.
     pub fn clear(&mut self)
         ensures list { self.new.list ≡ [] }
         ensures alignment { self.new.alignment ≡ self.old.alignment }

@@ -41,8 +41,8 @@ impl<T: Element, A: Allocator> Content<T, A> {
         alignment.is_offset_aligned(item.wrapping_mul(T::SIZE))
     }
 
-    // Removes the items outside a range, and reports `alignment`, with which the range can be
-    // sliced.
+    // Removes the items outside a range, and reports `alignment`. `Buffer::can_slice` must hold for
+    // both.
     pub(crate) fn narrow(&mut self, range: Range<usize>, alignment: Alignment)
         requires sound { IsSound T.SIZE T.align_exponent self.old }
         requires can_slice { CanSlice T.SIZE T.align_exponent (seen T.SIZE self.old) range

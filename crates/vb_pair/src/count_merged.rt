@@ -1,7 +1,7 @@
 //! Counts the set bits of two combined windows.
 //!
-//! The left window is read by whole bytes after its first bits, and only the right one is shifted.
-//! The combined bits aren't stored.
+//! If there are more than 512 bits, the left window is read by whole bytes after its first bits,
+//! and only the right one is shifted. The combined bits aren't stored.
 ghost use Rattle.std.specs.Prelude.{◌≡◌, ◌+◌, ◌*◌, ◌^◌, ◌<◌, ◌≤◌, length};
 ghost use Rattle.vb_bits.specs.InBytes.{InBytes};
 ghost use Rattle.vb_pair.specs.Merged.{merged_ones};

@@ -22,9 +22,11 @@ impl<A: Allocator + Clone> Pool<A> {
     ///   with it as their list or text grows.
     /// - `clone` of an open set, the appends, `sliced` and the operators allocate with the set's
     ///   allocator.
-    /// - `freeze`, `slice`, `clone` of a frozen set and `thaw` of the only owner of a storage copy
-    ///   no bits. Operators with `own` copy none if the left set is the only owner of its storage.
-    /// - Each new frozen set also allocates its count of owners.
+    /// - `freeze`, `slice` and `clone` of a frozen set copy no bits, nor does `thaw` if no other
+    ///   slot shares the storage. Operators with `own` copy none if the left set is the only owner
+    ///   of its storage. `sliced` copies none if the first bit is the lowest of its byte.
+    /// - `freeze`, `take`, the operators, and `sliced` if it copies bits also allocate a count of
+    ///   owners.
     pub fn serve(&mut self, alloc: &A, command: &Command<A>) -> Answer<A>
         ensures outcome { Outcome self.old (order_of command.now) (reply result) self.new }
         ensures slots { length self.new ≡ 16 }

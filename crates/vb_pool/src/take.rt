@@ -63,7 +63,7 @@ fn is_as_long(n: usize, validity: Option<BitBufferView<'_>>) -> bool
 
 /// Returns the bits at these indices. Allocates their bytes, then tests the indices, and then
 /// allocates the count of owners. Returns `OutOfMemory` if memory runs out, or `TakeOutOfRange`
-/// with the first position whose index is not ignored and out of range.
+/// with the first position whose index is out of range and not ignored.
 #[tactic(auto, using(crate::proofs::Takes::validities))]
 fn take_at<A: Allocator + Clone>(
     alloc: &A,

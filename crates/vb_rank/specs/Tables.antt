@@ -57,8 +57,8 @@ pub record BeginsBefore (w : ℕ) (v : Bool) (t : List ℕ) (n j m : ℕ) : Type
   pub low : m ≤ n
   pub high : j + 1 < length t → n < count_before w v t (j + 1)
 
--- a search for value n has k parts left, from part j on: if the table rises, m values that are v
--- are before part j, and more than n before the part after these
+-- a search for the n-th value that is v has k parts left, from part j on: if the table rises, m of
+-- these values are before part j, and more than n before the part after the k parts
 pub record Narrows (w : ℕ) (v : Bool) (t : List ℕ) (n j m k : ℕ) : Type 0 where
   pub some : 0 < k
   pub within : j + k ≤ length t

@@ -8,10 +8,11 @@ use crate::level::Level;
 /// Returns the last block that has at most `n` bits that are `value` before it, and the number of
 /// these bits. So it is the block of the `n`-th such bit, counted from 0, if there is one.
 ///
-/// The counts are those of blocks of `width` bits, or of groups of blocks. `size` must be their
-/// number, and at least 1; each block must begin below bit 2^64. The result is right if no count is
-/// greater than the number of bits before its block, and no block has more such bits before it than
-/// a later one. With other counts it is any block of these, and a number of at most `n`.
+/// The counts are those of blocks, or of groups of blocks, of `width` bits each. `size` must be the
+/// number of counts, and at least 1; each block must begin below bit 2^64. The result is right if
+/// no count is greater than the number of bits before its block, and no block has more such bits
+/// before it than a later one. With other counts it is any block of these, and a number of at most
+/// `n`.
 ///
 /// Makes one probe for each binary digit of `size - 1`. Each probe halves the counts that are left,
 /// by conditional moves instead of branches, so the number of turns depends on `size` alone. It

@@ -107,9 +107,11 @@ fn select_value_by<G: Glance, T: Probe>(
 }
 
 /// Returns the index of the `n`-th bit of the window that is `value`; `None` if there are at most
-/// `n`. `found` is the block that has the bit, and the number of such bits before the block, as
-/// [`find_block`] returns them; with another pair the result is unspecified. The block must begin
-/// before `len`, and that number must be at most `n`. Makes at most 16 looks.
+/// `n`. The window is the `len` bits from bit `offset` on; it must be in the bytes of `src`, and
+/// `offset + len` must fit in a `usize`. `found` is the block that has the bit, and the number of
+/// such bits before the block, as [`find_block`] returns them; with another pair the result is
+/// unspecified. The block must begin before `len`, and that number must be at most `n`. Makes at
+/// most 16 looks.
 pub fn select_from<G: Glance>(
     src: &mut G,
     offset: usize,

@@ -15,7 +15,7 @@ use crate::size::BLOCK_BITS;
 use vb_count::Glance;
 
 /// The number of selects that are searched side by side: while one search waits for a count, the
-/// others go on, and with eight of them their state is still at hand.
+/// others go on. The state of eight searches is 192 bytes, so it fits in the first cache.
 pub const LANES: usize = 8;
 
 /// The state of searches side by side: for each the number of counts that are left, the first of

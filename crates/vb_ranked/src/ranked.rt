@@ -25,8 +25,8 @@ mod append;
 ///
 /// The counts are in groups of 128 blocks. A group has one 64-bit count of the true bits before it,
 /// and for each of its blocks but the first a 16-bit count from the start of the group. So the
-/// counts of up to 512 bits take 8 bytes, each further 512 bits take 2 bytes more, and 8 bytes at
-/// the start of a group.
+/// counts of up to 512 bits take 8 bytes, and each further 512 bits take 2 bytes more, or 8 bytes
+/// if they start a group.
 ///
 /// A contract sees the set: its bits, the offset of the first bit, its bytes, and its capacity.
 #[derive(Drop)]

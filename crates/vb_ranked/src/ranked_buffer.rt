@@ -15,8 +15,8 @@ use vb_directory::Counts;
 use vb_set::{BitBuffer, BitBufferView, BufferError, Result};
 
 /// A read-only set of bits whose storage may be shared, with the number of true bits before each
-/// block of 512 bits. It returns the same results as a [`Ranked`](crate::Ranked) of the same bits,
-/// and uses the same memory for its counts.
+/// block of 512 bits. It returns the same results as a [`Ranked`](crate::Ranked) of the same bits.
+/// Its counts have the same layout, and space for these bits only.
 ///
 /// A contract sees the set: its bits, the offset of the first bit, and its bytes.
 #[derive(Drop)]

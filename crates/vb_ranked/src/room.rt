@@ -61,7 +61,7 @@ pub(crate) fn make_first_room<A: Allocator + Clone>(
     if set.offset() > 0 || set.capacity() > 0 {
         return ask_for_room(set, counts, 1);
     }
-    // The 7 bits cover a capacity that is rounded up to a whole byte, as for more bits.
+    // The 7 bits cover a capacity that is rounded up to a whole byte, as in `ask_for_room`.
     counts.reserve(LEAST_ROOM + 7)?;
     set.reserve_exact(LEAST_ROOM)?;
     // This tells the prover that the capacity fits in `usize`.

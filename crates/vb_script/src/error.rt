@@ -5,7 +5,8 @@ use thiserror::Error;
 /// The reason why [`drive`](crate::drive) ended before it answered its whole input.
 #[derive(Clone, Copy, Debug, PartialEq, Eq, Error)]
 pub enum DriveError {
-    /// A line is not a command, or its number is 18446744073709551615.
+    /// A line has a byte that is not ASCII, or its words are neither a command nor a comment; or
+    /// its number is 18446744073709551615.
     #[error("line {line} can't be read")]
     Unreadable {
         /// The number of the line, counted from 1.

@@ -32,7 +32,7 @@ impl<A: Allocator + Clone> Session<A> {
     /// Parses the line with this number, runs its command and returns its answer; a line without a
     /// command has no answer. The line is the first `len` of the bytes, without its line feed.
     ///
-    /// Returns `Unreadable` if the line is not a command or its number is 18446744073709551615, and
+    /// Returns `Unreadable` if the line cannot be parsed or its number is 18446744073709551615, and
     /// `Memory` if memory runs out while it parses the line. Nothing changes on error.
     #[inline(always)]
     pub(crate) fn answer(

@@ -1,5 +1,5 @@
-//! Selects bits of a window by rank, and finds the nearest bit from an index on or before one.
-//! Contracts count the looks, which are reads of the bytes.
+//! Selects bits of a window by rank, and finds the first bit from an index on and the last one
+//! before an index. Contracts count the looks, which are reads of the bytes.
 //!
 //! A window is the `len` bits from bit `offset` on, least significant first. The caller must prove
 //! that it is in bounds and that `offset + len` fits in a `usize`; `vb_bits::window_fits` tests

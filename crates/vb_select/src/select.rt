@@ -41,10 +41,10 @@ impl Stretch {
     /// Returns the number of its chunks to count next, if the `n`-th bit is sought.
     ///
     /// `left / 512` chunks have at most `left` bits, so the bit must come after them. If few bits
-    /// are set, this number is small. It then counts more chunks, but no more than it has passed,
-    /// if at the density of the passed chunks the bit comes after them. Counted chunks that may
-    /// hold the bit are at most half of the stretch: if they hold it, they are looked at again, but
-    /// at least the same number of chunks after them is never looked at.
+    /// are set, this number is small. Then the search counts more chunks, but no more than it has
+    /// passed or searched before, if at the density of the passed chunks the bit comes after them.
+    /// Counted chunks that may hold the bit are at most half of the stretch: if they hold it, they
+    /// are looked at again, but at least the same number of chunks after them is never looked at.
     fn block(self, n: usize) -> usize
         requires { self.left ≤ n }
         ensures within { result ≤ self.chunks }
@@ -77,8 +77,9 @@ fn searched_first(n: usize) -> usize {
 /// or `None` if at most `n` bits are set. The index is relative to bit `offset`. The caller must
 /// prove that the window is in bounds and that `offset + len` fits in a `usize`.
 ///
-/// Clause `place` states the result, and clause `each` that every set bit with `n` set bits before
-/// it is the result.
+/// It counts from the front, 64 bytes at a time, up to the bytes that have the bit; in a window of
+/// more than 4,096 bytes it may also count bytes after these. Clause `place` states the result, and
+/// clause `each` that every set bit with `n` set bits before it is the result.
 pub fn bit_select(bytes: &[u8], offset: usize, len: usize, n: usize) -> Option<usize>
     requires window { InBytes bytes.now offset len }
     ensures place { Selects (bits bytes.now offset len) n result }
@@ -95,8 +96,8 @@ pub fn bit_select(bytes: &[u8], offset: usize, len: usize, n: usize) -> Option<u
 /// on, or `None` if at most `n` bits are unset. The index is relative to bit `offset`. The caller
 /// must prove that the window is in bounds and that `offset + len` fits in a `usize`.
 ///
-/// Clause `place` states the result, and clause `each` that every unset bit with `n` unset bits
-/// before it is the result.
+/// It reads as [`bit_select`] does. Clause `place` states the result, and clause `each` that every
+/// unset bit with `n` unset bits before it is the result.
 pub fn bit_select_unset(bytes: &[u8], offset: usize, len: usize, n: usize) -> Option<usize>
     requires window { InBytes bytes.now offset len }
     ensures place { Selects (complement (bits bytes.now offset len)) n result }

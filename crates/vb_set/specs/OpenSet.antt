@@ -18,7 +18,7 @@ pub record OpenSet : Type 0 where
   pub alignment : ℕ
   pub room : ℕ
 
--- the number of bits from bit o on that fit in n bytes, if the index of a bit fits in 64 bits
+-- the number of bits from bit o on that fit in n bytes, and whose end fits in 64 bits
 abbrev pub bit_room : ℕ → ℕ → ℕ
 bit_room n o = min (n * 8) (2 ^ 64 - 1) - o
 

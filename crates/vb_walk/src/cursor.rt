@@ -40,7 +40,8 @@ pub(crate) struct Cursor {
 impl Cursor {
     /// Returns the front of the window of `len` bits from bit `offset` on.
     ///
-    /// The first word ends at a whole byte, so that the whole words start at one.
+    /// The first word ends where a byte ends, if the window continues after it. So each whole word
+    /// starts at a byte boundary.
     #[inline]
     pub(crate) fn new(bytes: &[u8], offset: usize, len: usize) -> Cursor
         requires window { InBytes bytes.now offset len }

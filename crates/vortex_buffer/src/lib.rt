@@ -1,8 +1,9 @@
 //! Buffers and sets of bits: one crate to depend on.
 //!
-//! It re-exports the crates below it, with the definitions that their clauses cite. It adds buffers
-//! whose alignment is part of their type ([`ConstBuffer`]), buffers of text ([`BufferString`]), and
-//! reading from the front of bytes ([`AlignedBuf`]). CALLING.md says how to depend on it.
+//! It re-exports types and calls of the crates below it, with the definitions that their clauses
+//! cite. It adds buffers whose alignment is part of their type ([`ConstBuffer`]), buffers of text
+//! ([`BufferString`]), and reading from the front of bytes ([`AlignedBuf`]). CALLING.md says how to
+//! depend on it.
 #![tactic(auto)]
 
 mod aligned_buf;

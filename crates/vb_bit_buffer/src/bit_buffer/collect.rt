@@ -20,7 +20,7 @@ use vb_core::{BufferError, Result};
 impl<A: Allocator + Clone> BitBuffer<A> {
     /// Calls `f` with each index in `0..len`, in order, and returns the results as a set of offset
     /// 0. The caller must prove that `f` may be called with each index, whatever it returned
-    /// before. Packs the results 64 at a time with byte vectors, and the rest bit by bit.
+    /// before. Packs the results 64 at a time as SIMD vectors of bytes, and the rest bit by bit.
     ///
     /// Allocates as few bytes as hold the bits, and the count of owners. Returns `OutOfMemory`,
     /// before it calls `f`, if memory runs out; clause `fresh` proves that this is the only error.
@@ -60,7 +60,7 @@ impl<A: Allocator + Clone> BitBuffer<A> {
 
     /// Calls `f` with each index and the bit there, in order and once each, and returns the results
     /// as a set of offset 0. The caller must prove that `f` may be called with each of them. Packs
-    /// the results of full words with byte vectors, and the rest bit by bit.
+    /// the results of full words as SIMD vectors of bytes, and the rest bit by bit.
     ///
     /// The new set has its own storage: the call allocates its bytes and the count of owners with
     /// this set's allocator. Returns `OutOfMemory`, before it calls `f`, if memory runs out.

@@ -10,9 +10,9 @@ ghost use Rattle.vb_c_core.specs.Validity.{HasValidity, validity_of};
 use crate::grouped::{sum, try_sum};
 use vb_c_core::Taken;
 
-/// Adds each selected value, a `u8`, to the sum at the index that is the code of its row. A sum is
-/// a `u64`, and wraps around. Returns the first selected row whose code isn't below the number of
-/// sums, if there is one; the sums are then unchanged.
+/// Adds each selected value, of type `u8`, to `sums[c]`, where `c` is the code of its row. A sum is
+/// of type `u64`, and wraps around. Returns the index of the first selected row whose code isn't
+/// below the number of sums, if there is one; the sums are then unchanged.
 ///
 /// There must be a value for each code. If `all_selected` is true, each row is selected, and the
 /// mask is ignored. Else a row is selected if its bit of `mask`, from bit `m` on, is true; the
@@ -57,9 +57,9 @@ pub extern "C" fn vb_try_group_sums_u8_u8(
     try_sum(sums, codes, values, all_selected, mask, m, past)
 }
 
-/// Adds each selected value, a `u16`, to the sum at the index that is the code of its row. A sum is
-/// a `u64`, and wraps around. Returns the first selected row whose code isn't below the number of
-/// sums, if there is one; the sums are then unchanged.
+/// Adds each selected value, of type `u16`, to `sums[c]`, where `c` is the code of its row. A sum
+/// is of type `u64`, and wraps around. Returns the index of the first selected row whose code isn't
+/// below the number of sums, if there is one; the sums are then unchanged.
 ///
 /// There must be a value for each code. If `all_selected` is true, each row is selected, and the
 /// mask is ignored. Else a row is selected if its bit of `mask`, from bit `m` on, is true; the
@@ -104,9 +104,9 @@ pub extern "C" fn vb_try_group_sums_u16_u8(
     try_sum(sums, codes, values, all_selected, mask, m, past)
 }
 
-/// Adds each selected value, a `u32`, to the sum at the index that is the code of its row. A sum is
-/// a `u64`, and wraps around. Returns the first selected row whose code isn't below the number of
-/// sums, if there is one; the sums are then unchanged.
+/// Adds each selected value, of type `u32`, to `sums[c]`, where `c` is the code of its row. A sum
+/// is of type `u64`, and wraps around. Returns the index of the first selected row whose code isn't
+/// below the number of sums, if there is one; the sums are then unchanged.
 ///
 /// There must be a value for each code. If `all_selected` is true, each row is selected, and the
 /// mask is ignored. Else a row is selected if its bit of `mask`, from bit `m` on, is true; the
@@ -151,9 +151,9 @@ pub extern "C" fn vb_try_group_sums_u32_u8(
     try_sum(sums, codes, values, all_selected, mask, m, past)
 }
 
-/// Adds each selected value, a `u64`, to the sum at the index that is the code of its row. A sum is
-/// a `u64`, and wraps around. Returns the first selected row whose code isn't below the number of
-/// sums, if there is one; the sums are then unchanged.
+/// Adds each selected value, of type `u64`, to `sums[c]`, where `c` is the code of its row. A sum
+/// is of type `u64`, and wraps around. Returns the index of the first selected row whose code isn't
+/// below the number of sums, if there is one; the sums are then unchanged.
 ///
 /// There must be a value for each code. If `all_selected` is true, each row is selected, and the
 /// mask is ignored. Else a row is selected if its bit of `mask`, from bit `m` on, is true; the
@@ -198,9 +198,9 @@ pub extern "C" fn vb_try_group_sums_u64_u8(
     try_sum(sums, codes, values, all_selected, mask, m, past)
 }
 
-/// Adds each selected value, a `i8`, to the sum at the index that is the code of its row. A sum is
-/// a `i64`, and wraps around. Returns the first selected row whose code isn't below the number of
-/// sums, if there is one; the sums are then unchanged.
+/// Adds each selected value, of type `i8`, to `sums[c]`, where `c` is the code of its row. A sum is
+/// of type `i64`, and wraps around. Returns the index of the first selected row whose code isn't
+/// below the number of sums, if there is one; the sums are then unchanged.
 ///
 /// There must be a value for each code. If `all_selected` is true, each row is selected, and the
 /// mask is ignored. Else a row is selected if its bit of `mask`, from bit `m` on, is true; the
@@ -245,9 +245,9 @@ pub extern "C" fn vb_try_group_sums_i8_u8(
     try_sum(sums, codes, values, all_selected, mask, m, past)
 }
 
-/// Adds each selected value, a `i16`, to the sum at the index that is the code of its row. A sum is
-/// a `i64`, and wraps around. Returns the first selected row whose code isn't below the number of
-/// sums, if there is one; the sums are then unchanged.
+/// Adds each selected value, of type `i16`, to `sums[c]`, where `c` is the code of its row. A sum
+/// is of type `i64`, and wraps around. Returns the index of the first selected row whose code isn't
+/// below the number of sums, if there is one; the sums are then unchanged.
 ///
 /// There must be a value for each code. If `all_selected` is true, each row is selected, and the
 /// mask is ignored. Else a row is selected if its bit of `mask`, from bit `m` on, is true; the
@@ -292,9 +292,9 @@ pub extern "C" fn vb_try_group_sums_i16_u8(
     try_sum(sums, codes, values, all_selected, mask, m, past)
 }
 
-/// Adds each selected value, a `i32`, to the sum at the index that is the code of its row. A sum is
-/// a `i64`, and wraps around. Returns the first selected row whose code isn't below the number of
-/// sums, if there is one; the sums are then unchanged.
+/// Adds each selected value, of type `i32`, to `sums[c]`, where `c` is the code of its row. A sum
+/// is of type `i64`, and wraps around. Returns the index of the first selected row whose code isn't
+/// below the number of sums, if there is one; the sums are then unchanged.
 ///
 /// There must be a value for each code. If `all_selected` is true, each row is selected, and the
 /// mask is ignored. Else a row is selected if its bit of `mask`, from bit `m` on, is true; the
@@ -339,9 +339,9 @@ pub extern "C" fn vb_try_group_sums_i32_u8(
     try_sum(sums, codes, values, all_selected, mask, m, past)
 }
 
-/// Adds each selected value, a `i64`, to the sum at the index that is the code of its row. A sum is
-/// a `i64`, and wraps around. Returns the first selected row whose code isn't below the number of
-/// sums, if there is one; the sums are then unchanged.
+/// Adds each selected value, of type `i64`, to `sums[c]`, where `c` is the code of its row. A sum
+/// is of type `i64`, and wraps around. Returns the index of the first selected row whose code isn't
+/// below the number of sums, if there is one; the sums are then unchanged.
 ///
 /// There must be a value for each code. If `all_selected` is true, each row is selected, and the
 /// mask is ignored. Else a row is selected if its bit of `mask`, from bit `m` on, is true; the

@@ -16,8 +16,8 @@ use vb_c_core::Taken;
 ///
 /// If `all_valid` is true, each position counts, and the validity is ignored. Else a position
 /// counts if its bit of `validity`, from bit `v` on, is true; the others get 0, and their indices
-/// are ignored. The items of `out` after those of the indices are unchanged. If a position is
-/// returned, the items of the indices are unspecified.
+/// are ignored. Items of `out` past the number of indices are unchanged. If a position is returned,
+/// the items before them are unspecified.
 #[unsafe(no_mangle)]
 pub extern "C" fn vb_take_values_u8_u16(
     out: &mut [u8],
@@ -63,8 +63,8 @@ pub extern "C" fn vb_try_take_values_u8_u16(
 ///
 /// If `all_valid` is true, each position counts, and the validity is ignored. Else a position
 /// counts if its bit of `validity`, from bit `v` on, is true; the others get 0, and their indices
-/// are ignored. The items of `out` after those of the indices are unchanged. If a position is
-/// returned, the items of the indices are unspecified.
+/// are ignored. Items of `out` past the number of indices are unchanged. If a position is returned,
+/// the items before them are unspecified.
 #[unsafe(no_mangle)]
 pub extern "C" fn vb_take_values_u16_u16(
     out: &mut [u16],
@@ -110,8 +110,8 @@ pub extern "C" fn vb_try_take_values_u16_u16(
 ///
 /// If `all_valid` is true, each position counts, and the validity is ignored. Else a position
 /// counts if its bit of `validity`, from bit `v` on, is true; the others get 0, and their indices
-/// are ignored. The items of `out` after those of the indices are unchanged. If a position is
-/// returned, the items of the indices are unspecified.
+/// are ignored. Items of `out` past the number of indices are unchanged. If a position is returned,
+/// the items before them are unspecified.
 #[unsafe(no_mangle)]
 pub extern "C" fn vb_take_values_u32_u16(
     out: &mut [u32],
@@ -157,8 +157,8 @@ pub extern "C" fn vb_try_take_values_u32_u16(
 ///
 /// If `all_valid` is true, each position counts, and the validity is ignored. Else a position
 /// counts if its bit of `validity`, from bit `v` on, is true; the others get 0, and their indices
-/// are ignored. The items of `out` after those of the indices are unchanged. If a position is
-/// returned, the items of the indices are unspecified.
+/// are ignored. Items of `out` past the number of indices are unchanged. If a position is returned,
+/// the items before them are unspecified.
 #[unsafe(no_mangle)]
 pub extern "C" fn vb_take_values_u64_u16(
     out: &mut [u64],
@@ -204,8 +204,8 @@ pub extern "C" fn vb_try_take_values_u64_u16(
 ///
 /// If `all_valid` is true, each position counts, and the validity is ignored. Else a position
 /// counts if its bit of `validity`, from bit `v` on, is true; the others get 0, and their indices
-/// are ignored. The items of `out` after those of the indices are unchanged. If a position is
-/// returned, the items of the indices are unspecified.
+/// are ignored. Items of `out` past the number of indices are unchanged. If a position is returned,
+/// the items before them are unspecified.
 #[unsafe(no_mangle)]
 pub extern "C" fn vb_take_values_u128_u16(
     out: &mut [Wide],

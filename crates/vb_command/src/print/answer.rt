@@ -46,7 +46,8 @@ impl<A: Allocator> Answer<A> {
     ghost use Rattle.vb_command.specs.Printed.{text_of};
     ghost use Rattle.vb_command.specs.Views.{reply};
 
-    /// Prints the answer and its end. Only the printer may allocate.
+    /// Prints the answer and its end. Returns the first error of the printer, and puts nothing
+    /// after it. Only the printer may allocate.
     pub fn print<O, P: Printer<O>>(&self, printer: &mut P, output: &mut O) -> Result<(), P::Error>
         ensures { P.puts printer.old output.old (text_of (reply self.now) ++ P.end) result
             printer.new output.new }

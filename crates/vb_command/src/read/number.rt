@@ -16,7 +16,7 @@ impl Field for usize {
 
     ghost written = { number };
 
-    /// Most slots and truth values have one digit, and are read without a call.
+    /// Most slots have one digit, and are read without a call.
     #[inline(always)]
     fn read(word: &str) -> Result<usize, Unread> {
         if word.len() == 1 {

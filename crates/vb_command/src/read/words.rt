@@ -1,4 +1,4 @@
-//! The words of a line: its parts between spaces that are not empty.
+//! The words of a line: its nonempty parts between spaces.
 ghost use Rattle.std.specs.Prelude.{◌≡◌, [], ◌∷◌, MatchOption};
 ghost use Rattle.vb_command.specs.Words.{line_words};
 ghost use Rattle.vb_command.specs.Spaces.{AreSpaces};

@@ -155,7 +155,7 @@ impl<T: Element, A: Allocator> BufferMut<T, A> {
             let Some(item) = over else {
                 return Ok(());
             };
-            // The number of items that the hint promises, if memory allows it.
+            // Reserves capacity for the items that the hint still promises, if memory allows it.
             let hint = end.saturating_sub(self.items.len());
             let _ = self.reserve(if hint > 1 { hint } else { 0 });
             self.push(item)?;

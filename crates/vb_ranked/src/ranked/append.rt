@@ -22,8 +22,8 @@ impl<A: Allocator + Clone> Ranked<A> {
     /// If the set has bits, and the length plus `n` is at most [`capacity`](Self::capacity), the
     /// call does not allocate, succeeds, and the capacity does not change. If a set without bits
     /// has this capacity, the call may allocate the counts alone. Otherwise it allocates the counts
-    /// for the new capacity, and twice the bytes, or more if `n` bits need them. No clause states
-    /// the capacity of the counts.
+    /// for the new capacity, and twice the bytes, but at least 8, and more if `n` bits need them.
+    /// No clause states the capacity of the counts.
     pub fn reserve(&mut self, n: usize) -> Result<()>
         ensures keeps { self.new ≡ record self.old { room = self.new.room } }
         ensures room { OnOk result (length self.old.bits + n ≤ self.new.room) }
@@ -45,7 +45,7 @@ impl<A: Allocator + Clone> Ranked<A> {
     /// set has bits, and fewer than its [`capacity`](BitBufferMut::capacity), the call does not
     /// allocate, succeeds, and the capacity does not change. The first bit may allocate the counts
     /// for the set's capacity. If the set is full, the call allocates the counts for the new
-    /// capacity, and twice the bytes.
+    /// capacity, and twice the bytes, but at least 8.
     pub fn append(&mut self, v: bool) -> Result<()>
         ensures ok { OnOk result (AddsBits (v ∷ []) self.old self.new) }
         ensures grows { KeepsStart self.old self.new }

@@ -253,8 +253,8 @@ impl<A: Allocator + Clone> BitBufferMut<A> {
         self.append_view(set.as_view())
     }
 
-    /// Appends the bits of a view by words, and overwrites the old bits of the bytes there. The
-    /// offset and the alignment do not change, and the capacity does not shrink.
+    /// Appends the bits of a view by words. They overwrite what the bytes had after the last bit.
+    /// The offset and the alignment do not change, and the capacity does not shrink.
     ///
     /// Returns `TooManyBits` if the offset and both lengths together exceed `usize::MAX`. Otherwise
     /// it returns `OutOfMemory` if memory runs out. The set and its capacity are unchanged on

@@ -19,7 +19,7 @@ impl<A: Allocator + Clone> BitBufferMut<A> {
     /// Calls `f` with each index in `0..len`, in order, and returns the results as a set of offset
     /// 0. The caller must prove that `f` may be called with each index, whatever it returned
     /// before. The set has as few bytes as hold the bits, with alignment 1; clause `fresh` proves
-    /// this. Packs the results of full words with byte vectors, and the rest bit by bit.
+    /// this. Packs the results of full words as SIMD vectors of bytes, and the rest bit by bit.
     ///
     /// Allocates the bytes of the bits. Returns `OutOfMemory`, before it calls `f`, if memory runs
     /// out.

@@ -139,9 +139,9 @@ impl<A: Allocator + Clone> BitBufferMut<A> {
         answer
     }
 
-    /// Appends the `count` lowest digits of a word, as whole bytes where the bits end with the
-    /// bytes. The caller must prove that there is capacity for them. Does not allocate, and the
-    /// capacity does not change.
+    /// Appends the `count` lowest digits of a word; 64 digits as eight whole bytes if the bits end
+    /// with the bytes. The caller must prove that there is capacity for them. Does not allocate,
+    /// and the capacity does not change.
     pub(crate) fn append_word_unchecked(&mut self, word: u64, count: usize)
         requires in_word { count ≤ 64 }
         requires room { length self.old.bits + count ≤ self.old.room }
