@@ -471,8 +471,8 @@ impl<'a> Bits<'a> {
     }
 
     /// Writes the indices of the set bits as `u32`, in ascending order, to the front of `out`, up
-    /// to its capacity, and returns the number written. The rest of `out` is unchanged. They can be
-    /// passed to `values::take`.
+    /// to its length, and returns the number written. The rest of `out` is unchanged. The indices
+    /// can be passed to `values::take`.
     ///
     /// # Panics
     ///

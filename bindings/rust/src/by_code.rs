@@ -40,8 +40,8 @@ impl BitmapsByCode {
     ///
     /// # Panics
     ///
-    /// Panics if the bits of all codes are more than a `usize`, or exceed the memory that a [`Vec`]
-    /// can have, as do the calls that append.
+    /// Panics if the number of bits of all codes exceeds `usize::MAX`, or their bytes exceed the
+    /// memory that a [`Vec`] can have, as do the calls that append.
     #[must_use]
     #[track_caller]
     pub fn with_capacity(codes: usize, rows: usize) -> BitmapsByCode {
@@ -115,8 +115,8 @@ impl BitmapsByCode {
     ///
     /// # Panics
     ///
-    /// Panics if the bits of all codes are more than a `usize`, or exceed the memory that a [`Vec`]
-    /// can have.
+    /// Panics if the number of bits of all codes exceeds `usize::MAX`, or their bytes exceed the
+    /// memory that a [`Vec`] can have.
     #[track_caller]
     pub fn try_append<I: BitIndex>(
         &mut self,
@@ -229,8 +229,8 @@ pub fn bitmaps_by_code<I: BitIndex>(codes: &[I], number: usize, mask: impl Mask)
 ///
 /// # Panics
 ///
-/// Panics if the bits of all codes are more than a `usize`, or if they or the bitmaps exceed the
-/// memory that a [`Vec`] can have.
+/// Panics if the number of bits of all codes exceeds `usize::MAX`, or if their bytes or the bitmaps
+/// exceed the memory that a [`Vec`] can have.
 #[track_caller]
 pub fn try_bitmaps_by_code<I: BitIndex>(
     codes: &[I],

@@ -24,7 +24,7 @@
 //! The constructor of a window tests that it is in bounds of its bytes. Later calls panic, with a
 //! message, only for conditions that the constructor can't test: that two windows have the same
 //! length, or that an index is in bounds. A call that returns or grows a `Bitmap` (bits with their
-//! bytes) or a `Vec`, writes a bitmap with shared bytes, or makes one `Ranked` may allocate memory,
+//! bytes) or a `Vec`, writes a bitmap with shared bytes, or returns a `Ranked` may allocate memory,
 //! and aborts if it runs out.
 //!
 //! # What is proved

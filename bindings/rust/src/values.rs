@@ -5,8 +5,7 @@
 //! `group_min` and `group_max` aggregate rows by their codes, and `bitmaps_by_code` returns the rows
 //! of each code. `top_k` and `bottom_k` return the first rows of an order. `compare` compares values,
 //! into bits, and `is_in` looks them up in a set; `and_compare` and `and_is_in` do so into a mask.
-//! `and_kleene` and
-//! `or_kleene` combine truth values that may be null.
+//! `and_kleene` and `or_kleene` combine truth values that may be null.
 //!
 //! Each take has a form with a validity for the indices, and a `try_` form that returns an error
 //! instead of a panic.

@@ -60,7 +60,7 @@ impl Rows {
         self.lines.get(row).copied().unwrap_or(0)
     }
 
-    /// Returns the line in which the last row begins.
+    /// Returns the line in which the last row begins; 0 if there is no row.
     pub fn last_line(&self) -> u64 {
         self.lines.last().copied().unwrap_or(0)
     }

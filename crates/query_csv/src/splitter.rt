@@ -2,7 +2,8 @@
 use crate::error::{CsvError, Malformed};
 use crate::rows::Rows;
 
-/// The most bytes of one row: a longer one is an error, so that memory stays bounded.
+/// The most bytes of one row's fields, without quotes and delimiters. A longer row is an error, so
+/// that memory stays bounded.
 pub const LONGEST_ROW: usize = 16_777_216;
 
 /// The most fields of one row.
@@ -79,6 +80,8 @@ impl Splitter {
     }
 
     /// Ends the last row of a file, which may lack a line end. Returns whether there is one.
+    ///
+    /// Fails inside a quoted field, after a carriage return, and if memory runs out.
     pub fn finish(&mut self, rows: &mut Rows) -> Result<bool, CsvError> {
         match self.state {
             State::Row => Ok(false),

@@ -7,12 +7,12 @@ use crate::words::Words;
 use query_csv::{Result, Source};
 use std::alloc::Global;
 
-/// The greatest nesting depth of parentheses and `not`.
+/// The greatest depth of a condition: 1, and 1 more for each parenthesis and `not` around it.
 const DEEPEST: usize = 200;
 
 /// Returns the condition of a text.
 ///
-/// Fails at the first unexpected word.
+/// Fails at the first unexpected word, and at a condition that is nested more than 200 deep.
 pub fn parse_condition(alloc: Global, source: Source<'_>) -> Result<Condition> {
     let mut parser = Conditions::new(alloc, source)?;
     let mut next = Next::Condition;

@@ -57,7 +57,8 @@ impl Word {
 /// Returns the words of a text. The last word is `End`, after the last character that isn't a
 /// space.
 ///
-/// Fails at the first character that begins no word, and at an unclosed quote.
+/// Fails at the first character that begins no word, at a malformed number, and at an unclosed
+/// quote.
 pub fn tokens(alloc: Global, source: Source<'_>) -> Result<Vec<Token>> {
     let mut reader = Letters::new(alloc, source)?;
     let mut tokens = Vec::new(alloc);

@@ -135,7 +135,8 @@ impl<'a> Words<'a> {
         self.source.wrong(self.alloc, self.at(), TOO_DEEP)
     }
 
-    /// Reads a comparison or a test for null, and adds its steps.
+    /// Reads a comparison, a test for null, or `in` with its list, and adds its steps. Fails at the
+    /// first unexpected word.
     pub fn test(&mut self, steps: &mut Vec<Step>) -> Result<()> {
         let left = self.operand("a condition")?;
         if let Some(Word::Compare(sign)) = self.peek() {

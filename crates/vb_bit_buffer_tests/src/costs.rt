@@ -35,13 +35,13 @@ impl Call {
     }
 }
 
-/// The set that was made, of the parts that it gives.
+/// The set, built again from the parts that `into_inner` returns.
 fn rejoined<A: Allocator + Clone>(made: Result<BitBuffer<A>>) -> Result<BitBuffer<A>> {
     let (offset, len, bytes) = made?.into_inner();
     window(Ok(bytes), offset, len)
 }
 
-/// What was made are nearly as many true bits.
+/// The call made at least 6,987 bits, all of them true.
 fn are_ones<A: Allocator + Clone>(rt: &impl Abort, made: Result<BitBuffer<A>>) {
     let set = made.expect(rt, "a set");
     equal(rt, set.false_count(), 0);

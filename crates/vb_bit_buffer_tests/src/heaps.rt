@@ -1,8 +1,8 @@
-//! Of which allocator memory is asked, where two could be meant: of the left value's, by an
-//! operator and by all that is asked of what it made. No contract can say it.
+//! Which of two allocators is asked for memory: the left value's, by an operator and by later calls
+//! on its result. No contract can say it.
 //!
-//! The left value's heap is refused each of its requests in turn, which the answer says. The right
-//! one's would refuse its first request, and is asked for nothing.
+//! Each request to the left value's heap is refused in turn, and the call returns that error. The
+//! right value's heap would refuse its first request, but gets none.
 use crate::calls::{LENT, OWNED, Two};
 use crate::compared::equal;
 use crate::made::ones;

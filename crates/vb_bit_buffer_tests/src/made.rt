@@ -12,7 +12,7 @@ pub(crate) const LONGEST: usize = 200;
 /// Enough bytes for the longest list, at the greatest offset.
 const BYTES: usize = 30;
 
-/// A byte that is told by a seed and a place.
+/// A byte that a seed and a place determine.
 fn noise(seed: usize, place: usize) -> u8 {
     let mixed = seed
         .wrapping_mul(0x9E37_79B9)
@@ -21,7 +21,7 @@ fn noise(seed: usize, place: usize) -> u8 {
     ((mixed >> 40) & 0xFF) as u8
 }
 
-/// Bits that are told by a seed.
+/// Bits that a seed determines.
 pub(crate) fn list(seed: usize) -> [bool; LONGEST] {
     let mut bits = [false; LONGEST];
     for (place, bit) in bits.iter_mut().enumerate() {
@@ -30,7 +30,7 @@ pub(crate) fn list(seed: usize) -> [bool; LONGEST] {
     bits
 }
 
-/// The first bits of a list, so many of them as it has at most.
+/// The first `len` bits of a list; all of them if it has fewer.
 pub(crate) fn front(list: &[bool], len: usize) -> &[bool] {
     &list[..len.min(list.len())]
 }

@@ -40,7 +40,7 @@ pub(crate) fn twin<A: Allocator + Clone>(made: Result<BitBuffer<A>>) -> Result<B
     twin
 }
 
-/// A column as engines have it, whose copy std derives of those of the buffer and the set.
+/// A column as engines have it. Std derives its `clone` from those of the buffer and the set.
 #[derive(Clone, Drop)]
 struct Column<A: Allocator + Clone> {
     values: ByteBuffer<A>,

@@ -1,5 +1,5 @@
-//! Calls that are refused: for their lengths, before memory, and for each request of a copy. Those
-//! of the operators are in heaps.rt.
+//! Calls that fail: for different lengths, before they request memory, and at each request of a
+//! copy. heaps.rt has the requests of the operators.
 use crate::calls::{LENT, OWNED, One, Two};
 use crate::compared::{equal, len_of};
 use crate::made::ones;

@@ -50,8 +50,8 @@ fn plain(left: &[bool], right: &[bool]) -> Answers {
     (Ok(both == 0), Ok(first == 0), counts)
 }
 
-/// The right bits, of the left ones and noise: any, those apart from the left ones, and those
-/// around them.
+/// Three kinds of right bits, made of the left ones and noise: the noise alone, the noise without
+/// the left ones, and the noise with all of them.
 fn rights(left: &[bool], seed: usize) -> [[bool; LONGEST]; 3] {
     let mut lists = [list(seed); 3];
     for (i, bit) in left.iter().enumerate().take(LONGEST) {
@@ -61,7 +61,7 @@ fn rights(left: &[bool], seed: usize) -> [[bool; LONGEST]; 3] {
     lists
 }
 
-/// Each length, and each two offsets within a byte at some of them.
+/// Each length, and at some lengths each pair of offsets within a byte.
 #[test]
 fn relations_are_plain(rt: HostRuntime) {
     let lefts = list(21);
@@ -77,7 +77,8 @@ fn relations_are_plain(rt: HostRuntime) {
     }
 }
 
-/// True bits and one less, which is the last or the first, of so many.
+/// Sets of `len` bits: all true, all false, and one true bit: the first, one in the middle, or the
+/// last.
 fn long_sets(rt: &impl Abort, alloc: Global, len: usize) {
     let all = BitBuffer::new_set(alloc, len).expect(rt, "a set");
     let none = BitBuffer::new_unset(alloc, len).expect(rt, "a set");

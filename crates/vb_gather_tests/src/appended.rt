@@ -35,7 +35,7 @@ fn stale_bits_are_written_over(rt: HostRuntime) {
     }
 }
 
-/// A set behind eleven bits, whose room is full of false bits, as all its bytes are.
+/// A set from bit 11 on that false bits fill up to its capacity. All bits of its bytes are false.
 fn full_of_false<A: Allocator + Clone>(rt: &impl Abort, alloc: A) -> Result<BitBufferMut<A>> {
     let bytes = ByteBufferMut::full(alloc, 0, 3)?;
     holds(rt, bytes.len() == 3);

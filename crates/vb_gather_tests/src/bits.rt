@@ -7,8 +7,8 @@ use vb_bit_buffer::BitBuffer;
 use vb_core::{BufferError, Result};
 use vb_testing::{Handle, Refusing};
 
-/// As many bits as a row's mask has, of which every third is true, and which begin with the bit of
-/// their bytes that its mask doesn't.
+/// As many bits as a row's mask has, from bit 2 of their bytes on. Every third bit of the bytes is
+/// true.
 pub(crate) fn bits(row: &Row) -> Row {
     Row(row.0, 2, Kept::OneIn(3))
 }

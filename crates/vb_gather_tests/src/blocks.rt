@@ -11,7 +11,7 @@ use vb_view::BitBufferView;
 /// How many positions there are: blocks alone, one fewer and one more.
 const LENGTHS: &[usize] = &[0, 1, 63, 64, 65, 128];
 
-/// Which positions count: all, none, and on both sides of 20 of 64.
+/// Which positions count: all, none, and numbers of each 64 on both sides of the threshold of 20.
 const COUNTING: &[Kept] = &[
     Kept::OneIn(1),
     Kept::OneIn(5000),
@@ -56,7 +56,7 @@ fn copies<T: Copy>(rt: &impl Abort, alloc: Global, item: T) -> Vec<T> {
     items
 }
 
-/// A take answers and leaves in items that were `other` what the loop answers and leaves.
+/// A take returns the same as the loop, and leaves the same in items that were `other`.
 fn leaves_what_a_loop_leaves<T: Element + PartialEq + Debug, I: BitIndex>(
     rt: &impl Abort,
     alloc: Global,
@@ -101,8 +101,8 @@ fn indices<I: BitIndex>(
     indices
 }
 
-/// Takes at these positions, of which each in its turn has an index that names no value, and then
-/// none.
+/// Takes at these positions. Each position in turn has an index that names no value, and at last
+/// none has one.
 fn is_that_of_a_loop<T: Element + PartialEq + Debug, I: BitIndex>(
     rt: &impl Abort,
     alloc: Global,

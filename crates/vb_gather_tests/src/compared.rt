@@ -66,11 +66,11 @@ pub(crate) fn answers<A: Allocator + Clone>(
     }
 }
 
-/// The block that counts owners takes fewer bytes than these.
+/// More bytes than the block that counts owners takes.
 const OWNER: usize = 256;
 
-/// The heap was asked for so many blocks of bytes, each of so many, and for an owner of each.
-/// Blocks of no bytes aren't asked for.
+/// The heap was asked for this number of blocks of `bytes` bytes each, and for an owner of each.
+/// Blocks of no bytes aren't requested.
 pub(crate) fn asked_for(rt: &impl Abort, heap: &Refusing<Global>, blocks: u64, bytes: usize) {
     let owners = blocks;
     let requests = if bytes > 0 {

@@ -42,8 +42,8 @@ pub(crate) fn filtered_by_two<F: Filter>(
     kept
 }
 
-/// Values that are so many, and not four, are refused to a mask of four bits, and no memory is
-/// asked.
+/// `len` values, which aren't four, are refused for a mask of four bits, and no memory is
+/// requested.
 fn refuse_four_bits<F: Filter + Drop>(
     rt: &impl Abort,
     heap: &Refusing<Global>,

@@ -118,8 +118,7 @@ fn a_filter_keeps_no_block_of_elements(rt: HostRuntime) {
     drop((values, out));
 }
 
-/// The items are those at every third index, and where there is a mask 0 at the places that it
-/// doesn't keep.
+/// The items are those at every third index. If there is a mask, they are 0 where it is false.
 fn are_taken(rt: &impl Abort, items: &[Wide], mask: Option<Kept>) {
     for place in 0..MANY {
         let is_valid = match mask {

@@ -1,5 +1,6 @@
-//! Calls that compare the lengths of what they are given: they answer as the others where these are
-//! equal, else they are refused by the first that differs, without memory.
+//! Calls that compare the lengths of their arguments. With equal lengths they return the same as
+//! the calls that don't compare them. Otherwise they fail with the first length that differs, and
+//! don't allocate.
 use crate::compared::equal;
 use crate::kleene::{AND, OR, Truth, combined};
 use std::alloc::{Allocator, Global};
@@ -122,7 +123,7 @@ impl Sets {
     }
 }
 
-/// The set that a comparison answers twice, or both of a connective.
+/// The set of a comparison, or both sets of a connective.
 fn made<A: Allocator + Clone>(alloc: A, call: Call, lens: &Lens, sets: &Sets) -> Made<A> {
     let first = sets.first.as_ref().map(BitBuffer::as_view);
     let second = sets.second.as_ref().map(BitBuffer::as_view);

@@ -14,9 +14,10 @@ impl Row {
         self.2.has(self.1.saturating_add(place))
     }
 
-    /// How many requests a test makes of a row of 0, 1, 64, at most 200 and 1,000 bits that keeps
-    /// none: copies of the allocator, what its mask and its values ask for as they grow, and the
-    /// owners of what is kept. Values that are kept ask for their bytes too.
+    /// How many requests a test makes with this row. `of_none` has the number for a row of 0, 1,
+    /// 64, at most 200 and 1,000 bits that selects nothing: for copies of the allocator, the growth
+    /// of the mask and of the values, and the owners of the result. If the row selects any value,
+    /// one more request is for the bytes of the result.
     pub(crate) fn requests(&self, of_none: [u64; 5]) -> u64 {
         let requests = match self.0 {
             0 => of_none[0],
@@ -63,12 +64,12 @@ pub(crate) const ROWS: &[Row] = &[
     Row(1000, 4, Kept::Runs(100, 130)),
 ];
 
-/// Which bits of the bytes of a mask are true, from bit 1 on.
+/// Which bits of the bytes of a mask are true. `OneIn` and `AllButOneIn` count from bit 1 on.
 #[derive(Clone, Copy)]
 pub(crate) enum Kept {
     OneIn(usize),
     AllButOneIn(usize),
-    /// The first ones of each so many.
+    /// `Runs(first, n)`: the first ones of each `n` bits, from bit 0 on.
     Runs(usize, usize),
 }
 

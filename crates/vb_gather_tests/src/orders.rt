@@ -24,7 +24,7 @@ enum Call {
     TakenValid,
 }
 
-/// Nine bits or items are asked for one that isn't there, at the second position and at the third.
+/// Indices into nine bits or items. The second and the third one are out of range.
 const INDICES: [u8; 3] = [0, 9, 200];
 
 impl Call {
@@ -76,8 +76,8 @@ const ROWS: &[(Call, BufferError, u64)] = &[
     (Call::TakenValid, SECOND, 2),
 ];
 
-/// Refuses each request that comes before the call's own refusal, then the one that would come
-/// next, and none.
+/// Refuses each request that comes before the call's own refusal, and then the next one, which the
+/// call doesn't make.
 fn comes_in_order<A: Allocator + Clone, B: Allocator>(
     rt: &impl Abort,
     heap: &Refusing<B>,

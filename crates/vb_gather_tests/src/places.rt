@@ -42,8 +42,8 @@ fn places_make_sets_or_are_refused(rt: HostRuntime) {
     }
 }
 
-/// What a call that is given the numbers 2, 3, 4 and 5 as places below 4 answers, and the next one
-/// that it leaves to the iterator.
+/// The error of a call that gets the numbers 2, 3, 4 and 5 as places below 4, and the next number
+/// that the iterator has left.
 fn number_left<A: Allocator + Clone>(
     alloc: A,
     is_shared: bool,
@@ -67,8 +67,8 @@ fn error_of<S: Drop>(made: Result<S>) -> Option<BufferError> {
     }
 }
 
-/// All memory is asked for before the first number, and no number behind the first that is no
-/// place.
+/// All memory is requested before the first number is polled, and no number is polled after the
+/// first one that isn't below the length.
 #[test]
 fn no_number_is_asked_for_in_vain(rt: HostRuntime) {
     let heap = &Refusing::new(rt.alloc(), 0);

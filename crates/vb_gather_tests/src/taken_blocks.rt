@@ -1,5 +1,5 @@
-//! Blocks of 64 indices beside a plain loop. Their clauses say all of it; what the compiler makes
-//! of their vectors is seen here.
+//! Blocks of 64 indices compared with a plain loop. Clauses prove what they return; these tests
+//! cover the vector instructions that the compiler makes of them.
 use crate::compared::{answers, equal, holds};
 use crate::made::taken;
 use std::alloc::{Allocator, Global};

@@ -105,8 +105,8 @@ fn first_counting(row: &Row, from: usize) -> Option<usize> {
     (from..row.0).find(|position| row.has(*position))
 }
 
-/// Squares by indices of which those from a position on name none: what a loop takes, or the first
-/// that counts and is bad.
+/// Takes squares at indices of which those from position `bad` on are out of range. The result is
+/// that of a loop, or an error with the first of these positions that counts.
 fn is_that_of_a_loop(rt: &impl Abort, alloc: Global, row: &Row, bad: usize) {
     let mut indices = [5u64; 130];
     let mut wanted = [0u32; 130];

@@ -8,7 +8,7 @@ use vb_bits::window_fits;
 use vb_filter::deposit_into;
 use vb_view::BitBufferView;
 
-/// Masks for each way in which a word of them may go.
+/// Masks for each path that the code takes for a word of a mask.
 const MASKS: &[Kept] = &[
     Kept::OneIn(1),
     Kept::OneIn(5000),

@@ -1,5 +1,5 @@
-//! Walks that are cloned on their way: what contracts see of a clone is what they see of the walk,
-//! as the clauses here say of each type.
+//! Walks that are cloned after some of their items. By the clauses here, contracts see a clone as
+//! they see the walk itself.
 ghost use Rattle.std.specs.Prelude.{◌≡◌, IfOk};
 
 use crate::compared::{equal, gives};
@@ -59,7 +59,8 @@ fn cut_words<'a>(
     walk.clone()
 }
 
-/// After their first item, each beside what is left.
+/// The walks are cloned after their first item, and the clones compared with the items that are
+/// left.
 #[test]
 fn a_clone_goes_on_where_the_walk_stands(rt: HostRuntime) {
     let rt = &rt;

@@ -20,7 +20,7 @@ const OPERATORS: [BitOp; 4] = [BitOp::And, BitOp::Or, BitOp::Xor, BitOp::AndNot]
 /// For how many bits of two windows each of these answers true.
 pub(crate) type Counts = [usize; 4];
 
-/// Makes of counts those of windows that are longer by a bit each.
+/// Updates the counts of two windows for one more bit of each.
 pub(crate) fn count_more(counts: &mut Counts, left: bool, right: bool) {
     for (count, op) in counts.iter_mut().zip(OPERATORS) {
         *count = count.saturating_add(usize::from(combined_bit(op, left, right)));
@@ -60,7 +60,8 @@ fn counts_are(rt: &impl Abort, left: &[u8], right: &[u8], (l, r, len): Windows, 
     equal_at(rt, counted, wanted, (l, r, len));
 }
 
-/// So are those of counted sources, with the looks at each, and what follows from the counts.
+/// The counts of sources that count their looks are those that are wanted, and so are the looks at
+/// each. Windows are disjoint, or one is a subset of the other, as the counts say.
 pub(crate) fn looks_tell(
     rt: &impl Abort,
     left: &[u8],
@@ -112,7 +113,7 @@ fn counts_of_short_windows_are_plain(rt: HostRuntime) {
     }
 }
 
-/// Lengths about those at which another part counts.
+/// Lengths around those from which on larger parts are counted: bytes, words and chunks.
 const LENS: [usize; 14] = [0, 1, 8, 9, 63, 64, 73, 200, 511, 512, 513, 519, 767, 1031];
 
 #[test]

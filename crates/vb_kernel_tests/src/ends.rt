@@ -1,14 +1,15 @@
-//! Windows of slices of few bytes, and those that end near the end of theirs, beside single bits.
+//! Windows of slices of a few bytes, and windows that end near the end of their slice, compared
+//! with single bits.
 use crate::compared::{equal_at, holds};
 use crate::edits::{COMBINED, Combined, combined_bit};
 use crate::sample::mix;
 use std::process::Abort;
 use vb_kernel::{copy_bits, get_bit, read_bits, set_bit_to, zip_words};
 
-/// Of so many bytes, and fewer, are slices: two words and a half.
+/// The most bytes of a slice: two words and a half.
 const MOST: usize = 20;
 
-/// Bytes in which the bits that are written lie, and in which those lie that are read.
+/// The bytes that are written, and those that are read.
 type Sides = ([u8; MOST], [u8; MOST + 2]);
 
 /// Where a window begins that is written, where one that is read, and how long both are.
@@ -33,7 +34,8 @@ fn combined_plainly(
     wanted
 }
 
-/// In the first `n` bytes, from the fewest bytes that have the bits that are read.
+/// Writes a window of the first `n` bytes, from the fewest bytes that have the bits to read, and
+/// compares it with a plain loop.
 fn end_is_plain(rt: &impl Abort, sides: &Sides, n: usize, how: Combined, at: Windows) {
     let (left, right) = sides;
     let (d, s, len) = at;

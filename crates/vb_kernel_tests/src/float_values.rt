@@ -100,7 +100,8 @@ impl ByBits for f32 {
     }
 }
 
-/// The bits of float `kind`, counted on from the first one behind the last one.
+/// The bits of float `kind` of [`ByBits::BITS`]. After the last one, the numbers begin again with
+/// the first.
 pub(crate) fn bits_of<T: ByBits>(kind: usize) -> u64 {
     let kinds = T::BITS.len().max(1);
     T::BITS.get(kind % kinds).copied().unwrap_or(0)

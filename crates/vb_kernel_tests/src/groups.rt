@@ -119,8 +119,8 @@ fn at_offset<C: Summand>(rt: &impl Abort, codes: &[C], values: &[i32], offset: u
     equal(rt, both_calls(rt, codes, values, None), wanted);
 }
 
-/// Codes of groups alone, and one of none: at the first or the last row, or at those of a word of
-/// the mask.
+/// First all codes name groups. Then one doesn't: that of the first row, of the last row, or of a
+/// row on either side of the end of a mask's word.
 fn beside_a_loop<C: Summand>(rt: &impl Abort, alloc: Global) {
     let mut codes = Vec::new(alloc);
     let mut values = Vec::new(alloc);

@@ -45,7 +45,7 @@ fn found_by_loop<T: Term>(values: &[T], mask: &[u8], offset: usize) -> Found<T> 
     found
 }
 
-/// The value of as many bits as the type has that the lowest ones of the number are.
+/// The value whose bits are the lowest ones of the number; None if the type has more than 16 bytes.
 fn wrapped<T: Term>(number: i128) -> Option<T> {
     let bytes = number.to_le_bytes();
     if T::SIZE > 16 {
@@ -54,7 +54,7 @@ fn wrapped<T: Term>(number: i128) -> Option<T> {
     Some(T::get(&bytes[..T::SIZE]))
 }
 
-/// The value that is the number, if it is one.
+/// The value that equals the number; None if no value of the type does.
 fn checked<T: Term>(number: i128) -> Option<T> {
     wrapped::<T>(number).filter(|value| value.number() == number)
 }

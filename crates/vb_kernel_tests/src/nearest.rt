@@ -54,7 +54,7 @@ fn places_are_plain(rt: &impl Abort, window: Window<'_>) {
     place_is_plain(rt, window, usize::MAX);
 }
 
-/// Of so many bytes are slices: five words, and a part of one.
+/// The most bytes of a slice: five words, and a part of one.
 const MOST: usize = 44;
 
 /// The window from every place, in the fewest bytes that have it.
@@ -63,7 +63,7 @@ fn front_is_plain(rt: &impl Abort, bytes: &[u8; MOST], offset: usize, len: usize
     places_are_plain(rt, (&bytes[..end], offset, len));
 }
 
-/// How long windows are: up to the end of the bytes, from the 64th bit on.
+/// Lengths of windows. The longest one, from bit 64 on, ends with the bytes.
 const LENGTHS: [usize; 11] = [0, 1, 7, 8, 9, 63, 64, 65, 128, 200, 288];
 
 /// Windows from this bit on.

@@ -6,7 +6,7 @@ use std::process::Abort;
 use vb_bits::window_fits;
 use vb_compare::{CompareLanes, Comparison, compare_into, compare_with_into};
 
-/// Longer ones.
+/// Lengths above 200.
 pub(crate) const LONG: [usize; 4] = [256, 511, 1000, 1027];
 
 /// What the operator answers.

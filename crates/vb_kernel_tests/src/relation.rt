@@ -119,7 +119,7 @@ fn each_is_plain(rt: &impl Abort, left: &[u8], noise: &[u8], (l, r, len): (usize
     }
 }
 
-/// Each length, and each two offsets within a byte at some of them.
+/// Each length, and at some lengths each pair of offsets within a byte.
 #[test]
 fn relations_of_short_views_are_plain(rt: HostRuntime) {
     let (mut left, mut noise) = ([0; 27], [0; 28]);

@@ -30,8 +30,8 @@ fn bits_read(at: usize, len: usize, place: Option<usize>) -> usize {
     len
 }
 
-/// How many looks a search takes from bit `at` on, to the back. They are as many as the parts up to
-/// that of its answer, all of which it has to read: so none is at what is behind.
+/// How many looks a search takes from bit `at` on, towards the end: one for each part up to the one
+/// that has its result, and none after it.
 fn looks_to(at: usize, len: usize, place: Option<usize>) -> u64 {
     looks_at(at, at, bits_read(at, len, place))
 }

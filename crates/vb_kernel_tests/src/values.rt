@@ -14,7 +14,7 @@ fn of_bytes<T: Element>(bytes: &[u8]) -> T {
     T::get(&bytes[..T::SIZE])
 }
 
-/// The bytes with their last one, of those of a type, as given.
+/// The value with these bytes, except that its last byte is `top`.
 fn with_top<T: Element>(mut bytes: [u8; 16], top: u8) -> T {
     if 0 < T::SIZE && T::SIZE <= 16 {
         bytes[T::SIZE - 1] = top;
@@ -22,8 +22,9 @@ fn with_top<T: Element>(mut bytes: [u8; 16], top: u8) -> T {
     of_bytes(&bytes)
 }
 
-/// The value with number `kind`: 0; the greatest one, unsigned, or -1; the least and the greatest
-/// one, signed; 1; and others that `state` says, few of them different or many.
+/// The value with number `kind`: 0; all bits set (the greatest unsigned value, or -1); the least
+/// and the greatest signed one; 1; one of four that `state` selects; and any one that `state`
+/// determines.
 pub(crate) fn value<T: Element>(kind: usize, state: u32) -> T {
     let [a, b, c, d] = state.to_le_bytes();
     match kind {
@@ -37,7 +38,7 @@ pub(crate) fn value<T: Element>(kind: usize, state: u32) -> T {
     }
 }
 
-/// Values without a pattern, which another seed makes others.
+/// Values without a pattern, determined by `seed`.
 pub(crate) fn values<T: Element>(
     rt: &impl Abort,
     alloc: Global,

@@ -67,7 +67,7 @@ fn bits_beside_views_are_not_compared(rt: HostRuntime) {
     equal(rt, *part == view(rt, &[0x92, 0x00], 0, 12), false);
 }
 
-/// A window that begins behind the first byte, and the same of its bytes and metadata.
+/// A window that begins after the first byte, and a view made again from its bytes and metadata.
 #[test]
 fn a_view_begins_with_the_byte_of_its_first_bit(rt: HostRuntime) {
     let rt = &rt;

@@ -21,7 +21,7 @@ fn plain_word(view: &BitBufferView<'_>, lead: usize, k: usize) -> u64 {
     word
 }
 
-/// The words are so many, and those of the view behind `lead` bits that are 0.
+/// There are `count` words, with the bits of the view after `lead` bits that are 0.
 fn words_are_plain<I: TrustedLen<Item = u64> + Drop>(
     rt: &impl Abort,
     view: &BitBufferView<'_>,
@@ -63,7 +63,7 @@ pub(crate) fn unaligned_is_plain(rt: &impl Abort, view: &BitBufferView<'_>) {
     words_are_plain(rt, view, unaligned.iter(), lead, digits / 64);
 }
 
-/// Words of a window, asked for with no chunks in hand.
+/// Words of a window, by the constructors of the iterators.
 #[test]
 fn words_end_with_the_window(rt: HostRuntime) {
     let rt = &rt;

@@ -34,8 +34,8 @@ pub(crate) trait Pairs {
     fn answer(&self, k: usize) -> Option<bool>;
 }
 
-/// The bits from bit `offset` on are what `pairs`, so many, answer, and those before and behind
-/// them those of [`STALE`].
+/// The `len` bits from bit `offset` on are what `pairs` answers, and the bits before and after them
+/// are those of [`STALE`].
 pub(crate) fn are_written(
     rt: &impl Abort,
     out: &[u8],

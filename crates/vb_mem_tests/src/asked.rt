@@ -1,4 +1,4 @@
-//! Which of two allocators is asked, by calls that have both at hand: no contract can say it.
+//! Which of two allocators is asked for memory by calls that have both. No contract can say it.
 use crate::compared::equal;
 use bytes::Bytes;
 use std::alloc::{AllocError, Allocator};
@@ -31,7 +31,7 @@ enum OfShared {
     FromByteBuffer,
 }
 
-/// A way to another buffer, beside a shared one that is gone then.
+/// A way to another buffer from a shared one, which is dropped then.
 enum Beside {
     IntoMut,
     ItemsMut,
@@ -232,7 +232,7 @@ const WAYS: &[(Way, Heaps, Heaps)] = &[
     (Way::Open(OfOpen::LeftByTake), GIVEN, VECTORS),
 ];
 
-/// These heaps were asked since this was looked at the last time.
+/// These heaps were asked since the last call of this function, and no others.
 fn are_asked<B: Allocator>(
     rt: &impl Abort,
     given: &Refusing<B>,

@@ -208,8 +208,8 @@ fn of_bytes<A: Allocator + Clone>(alloc: A, is_wide: bool) -> Result<Buffer<u32,
     }
 }
 
-/// The ways, each with the alignments of what it makes, the reported and the declared one, and how
-/// many requests it makes with those of what it is given.
+/// The ways, each with the reported and the declared alignment of what it makes, and how many
+/// requests it makes, including those for its input.
 const WAYS: &[(Way, (usize, usize), u64)] = &[
     (Way::Buffer(Form::AsBytes), (4, 256), 14),
     (Way::Buffer(Form::IntoByteBuffer), (4, 256), 14),

@@ -1,4 +1,4 @@
-//! Changes of a buffer: what stands after a refused one, and that none gives up while there is
+//! Changes of a buffer: what a refused request leaves, and that no change fails while there is
 //! memory.
 use crate::compared::{answers, counts, equal, holds};
 use crate::items::{TRIED, each, refusal};
@@ -62,7 +62,7 @@ fn try_extend<A: Allocator>(buffer: &mut BufferMut<u32, A>) -> Result<()> {
 
 /// A change in a state in which it takes memory.
 enum Trial {
-    /// Of sevens up to the capacity.
+    /// A change of a buffer that is full of sevens.
     Full(Change),
     /// Items are added one by one, and the room is made more than once.
     Extend,

@@ -1,5 +1,5 @@
-//! What calls ask of the allocator: nothing where they share or work in place, and at most twice
-//! the bytes that they need where they copy or grow.
+//! What calls ask of the allocator: an owner for `freeze`, nothing for other calls that share or
+//! work in place, and at most twice the bytes that they need where they copy or grow.
 use crate::compared::equal;
 use crate::makers::{Twin, cloned, frozen, opened};
 use crate::sharing::fill_items;

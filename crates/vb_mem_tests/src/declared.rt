@@ -18,7 +18,7 @@ fn fill_items<A: Allocator + Clone>(rt: &impl Abort, buffer: &mut Buffer<u32, A>
     items.as_mut_slice().fill(7);
 }
 
-/// The buffer is declared so, and once it is opened.
+/// The buffer has the declared alignment `shared`, and `opened` once it is opened.
 fn opens_declared<A: Allocator + Clone>(
     rt: &impl Abort,
     buffer: Buffer<u32, A>,
@@ -61,7 +61,8 @@ fn a_lone_owner_keeps_the_declared_alignment(rt: HostRuntime) {
     lone_part(&rt, declared_1024(rt.alloc()));
 }
 
-/// A buffer with other owners, which keep how it is declared.
+/// A buffer with other owners is copied if it is written or opened. The copy is declared with 256
+/// bytes, and the other owners keep 1024.
 fn copies_are_declared_256<A: Allocator + Clone>(rt: &impl Abort, made: Result<Buffer<u32, A>>) {
     let mut buffer = made.expect(rt, "a buffer");
     let twin = buffer.clone().expect(rt, "a clone");

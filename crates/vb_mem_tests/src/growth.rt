@@ -81,7 +81,7 @@ fn a_buffer_is_cut_filled_and_emptied(rt: HostRuntime) {
     resize_and_pop(&rt, BufferMut::copy_from(rt.alloc(), &[1, 2, 3]));
 }
 
-/// Two values about an error.
+/// Two values, with an error between them.
 const VALUES: &[Result<u32, &str>] = &[Ok(20), Err("bad"), Ok(30)];
 
 fn extend_to_an_error<A: Allocator>(rt: &impl Abort, made: Result<BufferMut<u32, A>>) {
@@ -104,7 +104,7 @@ fn has_counted<A: Allocator>(rt: &impl Abort, made: Result<BufferMut<usize, A>>,
     drop(buffer);
 }
 
-/// Stops what counts from 0 after so many numbers.
+/// Ends an iterator that counts from 0 after `N` numbers.
 fn is_below<const N: usize>(number: &usize) -> bool {
     *number < N
 }

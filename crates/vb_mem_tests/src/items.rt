@@ -7,10 +7,10 @@ pub const PAIR: &[u32] = &[1, 2];
 /// More of them.
 pub const FOUR: &[u32] = &[1, 2, 3, 4];
 
-/// One item, from where errors may come.
+/// An item of an iterator that may also give errors.
 pub const TRIED: &[Result<u32>] = &[Ok(8)];
 
-/// What a call that was given items, and maybe an error, refuses for.
+/// The error of a call that got items, and maybe an error among them.
 pub fn refusal(stopped: ExtendError<BufferError>) -> BufferError {
     match stopped {
         ExtendError::Memory => BufferError::OutOfMemory,
@@ -18,7 +18,7 @@ pub fn refusal(stopped: ExtendError<BufferError>) -> BufferError {
     }
 }
 
-/// Takes each item: what is filtered by it gives no hint of its length.
+/// Passes each item. An iterator that is filtered by it gives no hint of its length.
 pub fn each<T>(_item: &T) -> bool {
     true
 }

@@ -139,7 +139,7 @@ fn growing_buffers_compare_by_their_items(rt: HostRuntime) {
     drop(low);
 }
 
-/// What is hashed as 1 and 2 are.
+/// The buffer that was made has the hash of the items 1 and 2.
 fn hashes_as_items<A: Allocator>(rt: &impl Abort, made: Result<Buffer<u32, A>>) {
     let buffer = made.expect(rt, "a buffer");
     let (mut of_buffer, mut of_items) = (DefaultHasher::new(), DefaultHasher::new());

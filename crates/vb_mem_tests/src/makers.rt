@@ -98,7 +98,7 @@ impl Twin {
         }
     }
 
-    /// The second owner of a buffer that was made, which is gone then.
+    /// Returns the second owner of a buffer that was made, and drops the first one.
     pub fn of<A: Allocator + Clone>(&self, made: Result<Buffer<u32, A>>) -> Result<Buffer<u32, A>> {
         let whole = made?;
         let twin = self.make(&whole);

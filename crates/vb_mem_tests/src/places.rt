@@ -33,7 +33,8 @@ fn tail_of<A: Allocator + Clone>(rt: &impl Abort, made: Result<Buffer<u32, A>>) 
     tail
 }
 
-/// Four bytes on, no multiple of eight, the items are copied to be aligned to eight bytes.
+/// The tail begins four bytes on, which is no multiple of eight. To be aligned to eight bytes, its
+/// items are copied.
 fn tail_is_copied<A: Allocator + Clone>(
     rt: &impl Abort,
     tail: Buffer<u32, A>,
@@ -46,7 +47,7 @@ fn tail_is_copied<A: Allocator + Clone>(
     tail.aligned(eight)
 }
 
-/// Eight bytes on they are there.
+/// The half begins eight bytes on, so it is aligned to eight bytes in place.
 fn half_is_there<A: Allocator + Clone>(
     rt: &impl Abort,
     made: Result<Buffer<u32, A>>,
@@ -76,7 +77,7 @@ fn is_nothing<T: Element, A: Allocator>(rt: &impl Abort, nothing: Buffer<T, A>, 
     drop(nothing);
 }
 
-/// Slices of nothing of a buffer that is aligned to 64 bytes.
+/// Empty slices of a buffer that is aligned to 64 bytes.
 fn slices_of_nothing<A: Allocator + Clone>(rt: &impl Abort, made: Result<Buffer<u64, A>>) {
     let zeros = made.expect(rt, "zeros");
     let nothing = if zeros.can_slice(0..0, zeros.alignment()) {

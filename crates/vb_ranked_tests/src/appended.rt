@@ -178,7 +178,8 @@ fn append<A: Allocator + Clone>(
     len
 }
 
-/// What many bits take is asked for at once, and by few bits at once seldom. No bits take nothing.
+/// Memory for many bits is requested at once, and for a few bits at a time seldom. No bits need no
+/// memory.
 #[test]
 fn added_bits_ask_seldom(rt: HostRuntime) {
     let bits = Refusing::new(rt.alloc(), 0);
@@ -195,7 +196,7 @@ fn added_bits_ask_seldom(rt: HostRuntime) {
     equal(&rt, bits.asked_bytes() <= 100_000, true);
 }
 
-/// Room for bits that was made asks for nothing more.
+/// Appends bits within the capacity that was reserved before, without a request.
 fn fill<A: Allocator + Clone>(rt: &impl Abort, heap: &Refusing<Global>, ranked: &mut Ranked<A>) {
     let room = ranked.capacity();
     heap.refuse(1);

@@ -9,7 +9,7 @@ use vb_ranked::Ranked;
 use vb_set::{BitBufferMut, BufferError, Result};
 use vb_testing::Refusing;
 
-/// Adds bits to a directory and to a plain set, which it is then beside.
+/// Appends bits to a directory and to a plain set, and compares the two.
 fn lengthen<A: Allocator + Clone>(
     rt: &impl Abort,
     alloc: A,
@@ -21,7 +21,7 @@ fn lengthen<A: Allocator + Clone>(
     is_as_new(rt, alloc, ranked, plain);
 }
 
-/// Of no bits, of a block and more, and of a group of blocks and more.
+/// Directories of no bits, of about a block, and of a group of blocks and more.
 #[test]
 fn a_copy_is_edited_by_itself(rt: HostRuntime) {
     for len in [0, 500, 513, 65_536, 70_000] {
@@ -67,7 +67,8 @@ fn copy<A: Allocator + Clone + Copy>(
     Ok(())
 }
 
-/// The set and its counts ask once each, and so does the copy of either, which has room then.
+/// The set and its counts make one request each, and so does the copy of either. To fill the
+/// capacity of the copy takes none.
 #[test]
 fn a_refused_copy_leaves_the_directory(rt: HostRuntime) {
     let heap = Refusing::new(rt.alloc(), 0);

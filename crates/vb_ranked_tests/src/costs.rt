@@ -43,7 +43,8 @@ fn rows_take_at_most_three_probes(rt: HostRuntime) {
     drop(set);
 }
 
-/// How many probes a select in a table of so many blocks may make: as many as one more has digits.
+/// How many probes a select may make, by the number of blocks in the table: as many as the number
+/// of blocks plus 1 has binary digits.
 const PROBES: [u64; 6] = [1, 2, 2, 3, 3, 3];
 
 const RANKS: [usize; 6] = [0, 1, 255, 511, 700, 1400];
@@ -129,7 +130,7 @@ fn clones_ask_for_counts_alone(rt: HostRuntime) {
     }
 }
 
-/// A directory of one bit, of a set that has room for more, which are added.
+/// Fills a directory of one bit up to the capacity of its set, `room` bits.
 fn fill<A: Allocator + Clone>(rt: &impl Abort, (bits, counts): (A, A), room: usize) {
     let mut set = BitBufferMut::with_capacity(bits, room).expect(rt, "room");
     set.append(true).expect(rt, "room");

@@ -12,7 +12,7 @@ use vb_testing::Refusing;
 /// The requests for bits and their bytes, and those for counts and theirs.
 type Asked = (u64, usize, u64, usize);
 
-/// What two heaps were asked for since this was looked at the last time.
+/// What two heaps were asked for since the last call of this function.
 fn asked(bits: &Refusing<Global>, counts: &Refusing<Global>) -> Asked {
     let (ones, bytes) = (bits.asked(), bits.asked_bytes());
     let asked = (ones, bytes, counts.asked(), counts.asked_bytes());
@@ -72,7 +72,7 @@ const GROWN: &[(usize, usize, Asked)] = &[
     (5000, 100, (8, 159_375, 8, 6630)),
 ];
 
-/// The room of bits and of counts doubles. Bodies that grow to the least fail here.
+/// The capacity of bits and of counts doubles. Bodies that grow only to what they need fail here.
 #[test]
 fn bits_added_at_once_ask_seldom(rt: HostRuntime) {
     let (bits, counts) = (Refusing::new(rt.alloc(), 0), Refusing::new(rt.alloc(), 0));
@@ -109,7 +109,7 @@ fn edit<A: Allocator + Clone>(rt: &impl Abort, ranked: &mut Ranked<A>, places: &
     }
 }
 
-/// Makes a bit this value, and has it then.
+/// Sets a bit to this value, and reads it back.
 fn set_to<A: Allocator + Clone>(rt: &impl Abort, ranked: &mut Ranked<A>, i: usize, v: bool) {
     holds(rt, i < ranked.len());
     ranked.set_to(i, v);
@@ -146,8 +146,8 @@ fn edits_and_bits_within_the_room_ask_for_nothing(rt: HostRuntime) {
     drop(ranked);
 }
 
-/// A copy asks for its bytes, and for the counts of as many bits as these hold; to give the set
-/// away is free, and to share it asks for the count of its owners.
+/// A copy requests its bytes, and the counts of as many bits as these bytes hold. To take the set
+/// out is free, and to share it requests a count of its owners.
 #[test]
 fn copies_and_sets_ask_once(rt: HostRuntime) {
     let (bits, counts) = (Refusing::new(rt.alloc(), 0), Refusing::new(rt.alloc(), 0));

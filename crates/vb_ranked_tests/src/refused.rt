@@ -1,5 +1,5 @@
-//! Calls that take memory, with each of their requests refused in turn: what stands after a
-//! refusal, and that none gives up while there is memory.
+//! Calls that allocate, with each of their requests refused in turn: what a refusal leaves, and
+//! that no call fails while there is memory.
 use crate::compared::{answers_at, equal};
 use crate::made::ones;
 use std::alloc::Allocator;

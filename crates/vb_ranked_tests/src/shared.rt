@@ -107,8 +107,9 @@ fn cloned<A: Allocator + Clone>(
     Ok(())
 }
 
-/// How many bits are cloned, whether by the trait, and how many requests are made: copies of the
-/// allocators, and of bits their bytes, their counts and the owners of both.
+/// How many bits are cloned, whether by the trait, and how many requests are made: four copies of
+/// allocators and a count of owners; if there are bits, also their bytes, their counts and the copy
+/// of the counts.
 const CLONES: [(usize, bool, u64); 4] = [
     (0, false, 5),
     (9, false, 8),

@@ -5,8 +5,9 @@ use std::alloc::Global;
 use std::process::Abort;
 use vb_script::DriveError;
 
-/// Each answer is that of the plain machine. This is how a session over the lines then ends: at its
-/// first line that can't be read, or for want of memory where answers are missing.
+/// Compares each answer with that of the plain machine. Returns how a session over the lines then
+/// ends: at its first line that can't be read, or with `Memory` at the first answer that is
+/// missing.
 fn answers_are_plain(
     rt: &impl Abort,
     plain: &mut Plain,
@@ -28,7 +29,8 @@ fn answers_are_plain(
     end
 }
 
-/// What a command was told is the answer of the plain machine. Nothing is told for want of memory.
+/// Compares the answer that a command got with that of the plain machine. Returns `Memory` if the
+/// command got none.
 fn is_answered(
     rt: &impl Abort,
     plain: &mut Plain,
@@ -41,8 +43,8 @@ fn is_answered(
     Ok(())
 }
 
-/// A session over these lines is that of the plain machine. Where a request for memory was refused,
-/// one answer tells so, or the end.
+/// Compares a session over these lines with the plain machine. If a request for memory was refused,
+/// exactly one answer reports it, or else the end of the session does.
 pub(crate) fn is_plain(
     rt: &impl Abort,
     global: Global,

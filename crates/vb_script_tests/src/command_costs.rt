@@ -1,5 +1,6 @@
-//! What each command asks for: bytes for the bits or the numbers that it copies, one owner for each
-//! frozen set that it makes of bytes of its own, and nothing where it shares or works in place.
+//! What each command allocates: the bytes of the bits or numbers that it copies, and a count of
+//! owners for each frozen set with storage of its own. Sharing storage allocates nothing, and work
+//! in place no bytes.
 use crate::compared::equal;
 use crate::served::{Heap, Way, serve};
 use std::alloc::{AllocError, Global};
@@ -7,13 +8,13 @@ use std::process::Abort;
 use vb_pool::Pool;
 use vb_testing::Refusing;
 
-/// The block that counts owners takes fewer bytes than these.
+/// More bytes than the block that counts owners takes.
 const OWNER: usize = 256;
 
 /// The line of a command, how many bytes it asks for by one request, and how many owners.
 type Row = (&'static str, usize, usize);
 
-/// Sets of 80,000 bits take 10,000 bytes, and no bits none. A block has 8 bytes at least.
+/// Sets of 80,000 bits take 10,000 bytes, and sets of no bits none. A block has at least 8 bytes.
 const MADE: &[Row] = &[
     ("full 0 1 80000", 10_000, 0),
     ("full 1 0 0", 0, 0),
@@ -67,7 +68,7 @@ const SHARED: &[Row] = &[
     ("drop 0", 0, 0),
     ("thaw 2", 0, 0),
     ("freeze 2", 0, 1),
-    // It has no other bytes.
+    // The storage has no bytes outside of the set.
     ("sliced 2 5", 0, 0),
     ("slice 2 3 79003 6", 0, 0),
     ("sliced 6 7", 9_876, 1),
@@ -132,7 +133,8 @@ const ASKED: &[Row] = &[
     ("places 3", 40, 0),
 ];
 
-/// Carries out the command of a line, which is done.
+/// Carries out the command of a line, which isn't refused, and compares what it allocates with the
+/// row.
 fn asks<'a>(rt: &impl Abort, heap: Heap<'a>, pool: &mut Pool<Heap<'a>>, row: &Row, way: Way) {
     let (line, bytes, owners) = *row;
     equal(rt, (line, serve(rt, heap, pool, line, way)), (line, true));
@@ -160,8 +162,8 @@ fn commands_ask_for_what_they_copy(rt: HostRuntime) {
     }
 }
 
-/// The bytes of an `import` that is given away become those of its set. All else is as where a
-/// command is lent.
+/// An owned `import` gives its bytes to its set. The other commands allocate the same as if they
+/// are lent.
 const IMPORTED: &[Row] = &[
     ("import 0 3 16 f8ff07", 0, 1),
     ("import 1 0 0 -", 0, 1),

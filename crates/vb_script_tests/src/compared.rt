@@ -5,7 +5,7 @@ use std::fmt::Debug;
 use std::process::Abort;
 use vb_script::{DriveError, Sink, Source, ToWrite, drive};
 
-/// The two values are equal. In a case of many each stands beside what tells the case.
+/// The two values are equal. If there are many cases, both are tuples that also name the case.
 pub(crate) fn equal<T: Copy + PartialEq + Debug>(rt: &impl Abort, given: T, wanted: T) {
     assert_eq!(rt; given, wanted);
 }

@@ -17,8 +17,9 @@ fn asks(rt: &impl Abort, global: Global, lines: &[u8], wanted: (u64, usize)) {
     equal(rt, (lines.len(), ended, asked), (lines.len(), well, wanted));
 }
 
-/// The length of the only line, the number of requests that a session over it makes, and for how
-/// many times 65,536 bytes: once for the answers, the others until there is room behind the line.
+/// The length of the only line, the number of requests of a session over it, and their bytes in
+/// units of 65,536: one unit for the answers, and buffers for the line that double until it fits
+/// with a byte to spare.
 const ROOMS: &[(usize, u64, usize)] = &[
     (0, 2, 2),
     (1, 2, 2),
@@ -30,8 +31,8 @@ const ROOMS: &[(usize, u64, usize)] = &[
     (2_000_000, 7, 64),
 ];
 
-/// A body whose room grows by as many bytes each time fails here: it copies the line again for
-/// each of them.
+/// A body whose buffer grows by the same number of bytes each time fails here: it copies the line
+/// at each step.
 #[test]
 fn a_long_line_asks_for_room_that_doubles(rt: HostRuntime) {
     for (len, requests, rooms) in ROOMS {

@@ -30,8 +30,8 @@ fn asked(global: Global) -> u64 {
     asked
 }
 
-/// A session over these lines, whose request behind those of the first lines is refused, ends so
-/// and answers the first ones. It makes that request or not.
+/// Refuses the request after those of the first lines. A session over these lines answers the first
+/// ones and ends with `wanted`. `has_refused` is whether it makes that request.
 fn ends_after_first(
     rt: &impl Abort,
     global: Global,

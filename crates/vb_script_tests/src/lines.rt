@@ -1,11 +1,11 @@
-//! Which lines can be read, and what each kind of word says. What a line of each name asks for is
-//! seen by its answer, in the tests of sessions.
+//! Which lines can be read, and what each kind of word means. The tests of sessions show by the
+//! answers which command each name stands for.
 use crate::compared::equal;
 use std::alloc::Global;
 use std::process::Abort;
 use vb_command::{Command, Mode, Unread, command_of};
 
-/// A command of these fields, of which the list is lent.
+/// A command with these fields, of which a list is borrowed.
 enum Asked<'a> {
     Len(usize),
     Get(usize, usize),
@@ -165,7 +165,7 @@ fn empty_lines_and_comments_are_skipped(rt: HostRuntime) {
     }
 }
 
-/// Lines that no command is written as.
+/// Lines that are no command and aren't skipped.
 const UNREADABLE: &[&str] = &[
     "import 0 0 8 1",
     "import 0 0 8 1g",

@@ -1,6 +1,6 @@
-//! The outbox as it was while each piece of an answer was put by itself: a number, a comma, a dash,
-//! a line feed. Sessions are compared with it, since no contract says how wide a write is. So it
-//! goes over an answer by itself, and not by what is tried.
+//! The outbox as it was when each piece of an answer was written separately: a number, a comma, a
+//! dash, a line feed. Sessions are compared with it, since no contract says how wide a write is. It
+//! formats answers with code of its own, and not with the code under test.
 ghost use Rattle.std.specs.Prelude.{◌≡◌, ◌+◌, ◌≤◌, [], length, vec_capacity, OnOk};
 
 use itoa::Buffer;
@@ -172,7 +172,7 @@ fn push_digits(bytes: &mut Vec<u8>, bits: &[bool])
     write_digits(&mut bytes[len..], bits);
 }
 
-/// Makes as many bytes as there are truth values the codes of their binary digits.
+/// Sets each byte to the code of the binary digit of its truth value.
 fn write_digits(bytes: &mut [u8], bits: &[bool])
     requires { length bytes.old ≡ length bits.now }
 {

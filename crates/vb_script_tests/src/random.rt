@@ -1,4 +1,4 @@
-//! Random lines, told by a seed.
+//! Random lines, determined by a seed.
 use crate::machine::{FORMS, Kind, Line, Text, form_of, read};
 use std::alloc::Global;
 
@@ -80,7 +80,7 @@ const MODES: &[&str] = &["ref", "own"];
 /// What stands before indexes.
 const SIGNS: &[&str] = &["", "", "", "", "", "", "", "-"];
 
-/// Lines of numbers that follow one another as a seed tells.
+/// Generates lines from a sequence of numbers that a seed determines.
 #[derive(Drop)]
 pub(crate) struct Random {
     /// The seed, or what became of it.
@@ -123,8 +123,8 @@ impl Random {
         self.text.add_number(number);
     }
 
-    /// Adds lines up to the first one that can't be read, and at most so many, beside groups of
-    /// lines among them. Answers how many.
+    /// Adds up to `most` random lines, and stops after the first one that can't be read. Adds
+    /// groups of lines among them, which don't count. Returns the number of lines.
     pub(crate) fn add_session(&mut self, most: usize) -> usize {
         for count in 1..=most {
             if self.below(25) == 0 {

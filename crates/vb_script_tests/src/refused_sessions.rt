@@ -48,7 +48,7 @@ bits 16
 freeze 16
 ";
 
-/// The lines of a session behind some before it, with what follows each session.
+/// The lines before a session, its own lines, and then [`LOOKS`].
 pub(crate) fn with_looks(rt: &impl Abort, alloc: Global, before: &str, lines: &str) -> String {
     format!(in alloc; "{before}{lines}{LOOKS}").expect(rt, "memory")
 }

@@ -1,4 +1,4 @@
-//! Commands that are at hand, by `run`.
+//! Sessions by `run`, over commands that have been read before.
 use crate::answered::is_plain;
 use crate::compared::equal;
 use crate::refused_sessions::{SESSIONS, with_looks};
@@ -7,7 +7,8 @@ use std::process::Abort;
 use vb_script::{Answer, BufferError, Command, Pool, command_of, run};
 use vb_testing::{Handle, Refusing};
 
-/// A pool, of which a proof knows no more. So it doesn't look at each slot, and takes less time.
+/// A pool about which a proof knows only this. So the proof doesn't consider each slot, and is
+/// faster.
 trait Machine<A: Allocator> {
     fn run(&mut self, alloc: A, commands: &[Command<A>]) -> Result<Vec<Answer<A>, A>, BufferError>;
 }
@@ -44,8 +45,8 @@ fn commands<A: Allocator + Clone>(
 /// open one.
 const HELD: &str = "full 14 1 70\nfreeze 14\nimport 15 3 9 f8ff\n";
 
-/// Runs commands and writes their answers, one a line, unless the run is refused as a whole.
-/// Answers whether it wasn't.
+/// Runs commands and writes their answers, one a line. Returns false, and writes nothing, if the
+/// run is refused as a whole.
 fn answers<A: Allocator, M: Machine<A>>(
     rt: &impl Abort,
     text: &mut String,
@@ -63,11 +64,11 @@ fn answers<A: Allocator, M: Machine<A>>(
     true
 }
 
-/// A run of a session over slots of which two are held, with this request refused, is that of the
-/// plain machine. The whole lines are those before the session and its own.
+/// Compares a run of a session, with this request refused, with the plain machine. Two slots are
+/// filled before. `whole` has the lines that fill them, and then the lines of the session.
 ///
-/// Where the run is refused as a whole, the pool holds what it held, and so the same run after it
-/// answers all: then no answer tells of the refusal.
+/// If the run is refused as a whole, the pool is unchanged. The same run is then repeated and
+/// answers all lines, so no answer reports the refusal.
 fn run_is_plain(
     rt: &impl Abort,
     global: Global,
@@ -94,7 +95,7 @@ fn run_is_plain(
     drop(text);
 }
 
-/// A session is plain whatever request is refused. It makes so many.
+/// A session is plain whatever request is refused. It makes `requests` requests.
 fn each_is_refused(rt: &impl Abort, global: Global, (whole, lines): (&str, &str), requests: u64) {
     let heap = Refusing::new(global, 0);
     for request in heap.in_turn() {

@@ -1,4 +1,4 @@
-//! Commands that are read of lines, and served with memory that is counted.
+//! Commands that are read from lines, and served with counted memory.
 use std::alloc::{Allocator, Global};
 use std::process::Abort;
 use vb_command::{Answer, Command, command_of};

@@ -14,7 +14,7 @@ use vb_testing::{FaultyReader, FaultyWriter};
 /// Two lines, which are answered alike.
 const LINES: &[u8] = b"len 0\nlen 1\n";
 
-/// After how many bytes of the lines a read fails, and what the lines are answered that were read
+/// After how many bytes of the lines a read fails, and the answers to the lines that were read
 /// whole.
 const READS: &[(usize, &str)] = &[
     (0, ""),
@@ -126,8 +126,8 @@ fn a_failed_write_ends_the_session(rt: HostRuntime) {
     }
 }
 
-/// Answers `Interrupted` to its first call, then ends as a reader, and takes all as a writer. Where
-/// it were called again after that error, no error would be seen.
+/// Returns `Interrupted` from its first call, then ends as a reader, and takes all as a writer. If
+/// its caller retried after that error, the session would see no error.
 #[derive(Drop)]
 struct Interrupted {
     calls: usize,
@@ -176,8 +176,8 @@ fn each_error_of_a_writer_is_a_fault(rt: HostRuntime) {
     equal(&rt, ended, Err(DriveError::Write));
 }
 
-/// Takes no byte at its first write, and all at later ones. Where it were called again after that,
-/// no fault would be seen.
+/// Takes no byte at its first write, and all at later ones. If its caller retried the first write,
+/// the session would see no fault.
 #[derive(Drop)]
 struct Stuck {
     calls: usize,
@@ -205,8 +205,8 @@ fn a_write_that_takes_no_byte_is_a_fault(rt: HostRuntime) {
     equal(&rt, ended, Err(DriveError::Write));
 }
 
-/// What was written so far: how many bytes, in how many writes, the widest of these, and a number
-/// that tells how wide each was.
+/// What was written so far: how many bytes, in how many writes, the widest of these, and a hash of
+/// all widths in their order.
 #[derive(Default, Drop)]
 struct Written {
     bytes: Cell<usize>,
@@ -215,7 +215,7 @@ struct Written {
     widths: Cell<usize>,
 }
 
-/// The number that tells the widths so far, and one more.
+/// The hash of the widths so far and of one more.
 fn next_width(widths: usize, width: usize) -> usize {
     widths.wrapping_mul(65_599).wrapping_add(width)
 }
@@ -242,7 +242,7 @@ impl Write for Counting<'_> {
     }
 }
 
-/// Gives some lines a read, and only where all lines before them were answered.
+/// Gives the lines at each read. A read fails if the lines before aren't all answered.
 #[derive(Drop)]
 struct Asking<'a> {
     lines: &'a [u8],
@@ -267,7 +267,8 @@ impl Read for Asking<'_> {
     }
 }
 
-/// Lines that come by so many reads are answered by so many bytes a read, in one write a read.
+/// Lines that come in `reads` reads are answered by `answers` bytes per read, in one write per
+/// read.
 fn asked(rt: &impl Abort, alloc: Global, lines: &[u8], reads: usize, answers: usize) {
     let written = Written::default();
     let source = FromRead::new(Asking {
@@ -334,9 +335,9 @@ const SETS: &str = "indices 1 20000 5,6,7,10,12,99,100,101,1000,12345,12346\n\
 /// and by runs, in 132 bytes.
 const LAST_LINES: &str = "last 1\nlen 9\ntake 2 3 - 0,7\nplaces 1\nruns 1\n";
 
-/// Lines whose answers fill the room of 65,536 bytes up to so many, and the last ones.
+/// Lines whose answers leave `room` of the buffer's 65,536 bytes free, and then [`LAST_LINES`].
 fn lines_to_room(alloc: Global, room: usize) -> Result<String, AllocError> {
-    // Each `ok` takes three bytes, and so many bits one more.
+    // Each `ok` takes three bytes, and a list of bits one more than it has bits.
     let bits = 65_536usize.saturating_sub(4 * 3 + 1).saturating_sub(room);
     format!(in alloc; "{SETS}full 0 1 {bits}\nbits 0\n{LAST_LINES}")
 }
@@ -369,9 +370,9 @@ fn is_cut_between_pieces(rt: &impl Abort, alloc: Global, lines: &str) {
     equal(rt, (lines, ended, widths.0), (lines, Ok(()), widths.1));
 }
 
-/// Each piece of the last answers ends at the end of the room, and at each distance from it up to
-/// past 21 bytes, which a number and the byte beside it have at most. Each write has the bytes that
-/// it has where pieces come one by one.
+/// Each piece of the last answers ends at the end of the buffer, and at each distance from it up to
+/// more than 21 bytes, the most that a number and the byte next to it take. Each write has the
+/// bytes that it has if the pieces are written one by one.
 #[test]
 fn writes_are_cut_between_pieces(rt: HostRuntime) {
     for room in 0..160 {

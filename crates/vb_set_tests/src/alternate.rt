@@ -1,4 +1,4 @@
-//! Closures with a state, followed by proof.
+//! Proofs about closures that have a state.
 ghost use Rattle.std.specs.Prelude.{◌≡◌, ◌*◌, ◌%◌, ◌≤◌, ◌==◌, length, map};
 ghost use Rattle.vb_pack.specs.Asked.{span};
 ghost use Rattle.vb_pack.specs.Bits.{bits};

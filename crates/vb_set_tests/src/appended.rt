@@ -1,5 +1,6 @@
-//! Bits of other places added at the end, beside those added to a plain list: of a view, of bytes,
-//! of truth values, and of iterators. What an iterator leaves where it is refused memory.
+//! Bits appended from other sources, compared with bits appended to a plain list: bits of a view,
+//! of bytes, of truth values and of iterators. Also what a refused request for memory leaves of the
+//! set and of an iterator.
 use crate::compared::{equal, holds, same};
 use crate::edits::{LENGTHS, OFFSETS};
 use crate::made::window;
@@ -38,7 +39,7 @@ fn added(rt: &impl Abort, offset: usize, len: usize) -> BitBufferView<'_> {
 }
 
 impl Source {
-    /// Adds the bits of a view, which are those of the list too.
+    /// Appends the bits of the view from this source; `list` has the same bits.
     fn add<A: Allocator + Clone>(
         &self,
         set: &mut BitBufferMut<A>,
@@ -64,8 +65,8 @@ fn list_of<A: Allocator>(rt: &impl Abort, alloc: A, bits: BitBufferView<'_>) -> 
     list
 }
 
-/// Adds the bits to a window of bytes whose bits are all true, and to the list of its bits, twice.
-/// Of the bits that stood behind the window none shows.
+/// Appends the bits twice, to a window of bytes that are all ones and to the list of its bits. No
+/// bit after the window shows up in the result.
 fn is_joined<A: Allocator + Clone + Copy>(
     rt: &impl Abort,
     alloc: A,
@@ -124,9 +125,9 @@ fn long_lists_are_added(rt: HostRuntime) {
 /// The bits that are added to a few.
 const THOUSAND: [bool; 1000] = [true; 1000];
 
-/// Adds a thousand true bits to a few, by an iterator. Where it is refused memory, as many of them
-/// stand as there was room for. They are polled by 64: the last ones are the 64 of which some found
-/// no room, and those behind them are left.
+/// Appends a thousand true bits to a few, by an iterator. If a request for memory is refused, the
+/// set is filled up to its capacity. Bits are polled in groups of 64: the last group polled is the
+/// first that doesn't fit as a whole, and the bits after it are left.
 fn fill<A: Allocator + Clone>(rt: &impl Abort, made: Result<BitBufferMut<A>>) -> Result<()> {
     let mut set = made?;
     let before = set.len();
@@ -172,7 +173,7 @@ fn stays<A: Allocator + Clone>(
     heap.refuse(0);
 }
 
-/// Nor does it for a shared set that was made.
+/// Appending a shared set within the capacity doesn't allocate either, and keeps the capacity.
 fn stays_with_set<A: Allocator + Clone>(
     rt: &impl Abort,
     heap: &Refusing<Global>,

@@ -44,8 +44,8 @@ fn notes_of_calls<A: Allocator + Clone>(source: &BitBuffer<A>) -> Notes {
     (set, unset, bits)
 }
 
-/// The bits that say of each place whether it is even exactly where its bit is true, and how often
-/// the closure was asked.
+/// Returns for each place whether its bit equals `place % 2 == 0`, and how often the closure was
+/// called.
 #[tactic(auto, using(vb_pack::proofs::AnswersLemmas::CanAsk_always))]
 fn mapped<A: Allocator + Clone>(rt: &impl Abort, set: &BitBuffer<A>) -> (BitBuffer<A>, usize) {
     let mut asked = 0usize;
@@ -95,7 +95,8 @@ fn a_mapped_part_counts_its_places_from_0(rt: HostRuntime) {
     mapped_part(&rt, thirds(rt.alloc(), 20));
 }
 
-/// What a walk over the true places answers that ends at place `last`, and the places as digits.
+/// The result of a walk over the true places that ends at place `last`, and the places it visited
+/// as decimal digits.
 #[tactic(auto, using(vb_pack::proofs::AnswersLemmas::CanAsk_always))]
 fn walk_to<A: Allocator + Clone>(set: &BitBuffer<A>, last: usize) -> (Result<(), usize>, usize) {
     let mut asked = 0usize;

@@ -1,5 +1,6 @@
-//! Callers of loans and of appends. What a test asserts runs; that a caller can follow what is
-//! written through a view, and what is added within the room, is proved here.
+//! Callers of views that write, and of appends. A test only asserts what runs. Proved here is that
+//! a caller can reason about what is written through a view, and what is appended within the
+//! capacity.
 ghost use Rattle.std.specs.Prelude.{◌≡◌, ℕ, ◌+◌, ◌<◌, ◌≤◌, [], ◌∷◌, length, slice_set, take};
 ghost use Rattle.std.specs.Prelude.{true, false, IsOk, OnOk, OnErr};
 ghost use Rattle.vb_set.specs.Bits.{bits, count};
@@ -38,7 +39,7 @@ pub(crate) fn edit_bytes(bytes: &mut [u8])
     BitBufferMutView::new(bytes, 8).set_to(7, true);
 }
 
-/// Adds a shared set of up to 512 bits for which there is room, which stays.
+/// Appends a shared set of up to 512 bits within the capacity, which stays the same.
 pub(crate) fn append_within_room<A: Allocator + Clone>(
     set: &mut BitBufferMut<A>,
     block: &BitBuffer<A>,

@@ -1,4 +1,4 @@
-//! Edits that take memory: what stands after a refused one, and that none gives up while there is
+//! Edits that allocate: what a refused request leaves, and that no edit fails while there is
 //! memory.
 use crate::compared::equal;
 use crate::made::window;
@@ -85,7 +85,7 @@ pub(crate) fn is_left<A: Allocator + Clone>(
     equal(rt, set.as_view().true_count(), set.len());
 }
 
-/// True bits, to which true and false ones were added.
+/// The set has `len` true bits, and then the true bits or the false bits that were added.
 fn is_longer<A: Allocator + Clone>(
     rt: &impl Abort,
     set: &BitBufferMut<A>,
@@ -117,7 +117,7 @@ fn is_longer_or_left<A: Allocator + Clone>(
     answer
 }
 
-/// Edits a set of true bits up to its room.
+/// Fills a set with true bits up to its capacity, and then makes the edit.
 fn edit_ones<A: Allocator + Clone>(
     rt: &impl Abort,
     made: Result<BitBufferMut<A>>,

@@ -1,5 +1,5 @@
-//! Sets made of what a closure answers: worked rows, and each request for memory refused in turn,
-//! before the first question.
+//! Sets built from the results of a closure: worked rows, and each request for memory refused in
+//! turn, before the first call of the closure.
 ghost use Rattle.vb_set.specs.Asked.{CanAsk, span};
 
 use crate::compared::{equal, holds, shows};
@@ -103,7 +103,7 @@ fn each_place_is_asked_for_once_or_none(rt: HostRuntime) {
     }
 }
 
-/// The bits of a part of a view of twenty bits, and those of the same part of the set.
+/// Compares a part of a view of twenty bits with `bits`, and returns the same part of the set.
 fn part_of_twenty<A: Allocator + Clone>(
     rt: &impl Abort,
     made: Result<BitBuffer<A>>,

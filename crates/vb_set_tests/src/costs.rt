@@ -1,5 +1,5 @@
-//! What calls ask of the allocator: nothing where they share or work in place, and at most twice
-//! the bytes that they need where they copy or grow.
+//! What calls ask of the allocator: an owner for `freeze`, nothing for other calls that share or
+//! work in place, and at most twice the bytes that they need where they copy or grow.
 use crate::compared::equal;
 use crate::made::ones;
 use crate::makers::{cloned, copied, edited, frozen, opened, taken};
@@ -83,7 +83,7 @@ const OPEN: &[(Open, u64, usize, usize)] = &[
     (Open::Not, 0, 0, 0),
 ];
 
-/// What a call made are eight thousand true bits.
+/// The call made eight thousand true bits.
 fn are_ones<A: Allocator + Clone>(rt: &impl Abort, made: Result<BitBufferMut<A>>) {
     let set = made.expect(rt, "a set");
     equal(rt, set.len(), 8000);
@@ -136,7 +136,7 @@ fn count_opened<A: Allocator + Clone>(set: BitBuffer<A>) -> Option<usize> {
     }
 }
 
-/// The first of two owners of a set that was made is not given it to edit.
+/// One of two owners of a set can't open it for edits.
 fn is_not_opened<A: Allocator + Clone>(rt: &impl Abort, made: Result<BitBuffer<A>>, ones: usize) {
     let set = made.expect(rt, "a set");
     let twin = set.clone().expect(rt, "a set");

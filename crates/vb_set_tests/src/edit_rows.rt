@@ -27,7 +27,7 @@ impl Edit {
     }
 }
 
-/// How many true bits are edited, the edits, what the last one answers, and the bits behind it.
+/// How many true bits are edited, the edits, what the last one returns, and the bits after it.
 const EDITED: &[(usize, &[Edit], Result<()>, &[bool])] = &[
     (
         4,
@@ -99,7 +99,8 @@ fn open_place<A: Allocator + Clone>(set: &BitBufferMut<A>) -> (usize, usize, usi
     (set.offset(), set.len(), set.inner().len())
 }
 
-/// Adds so many bits to one at offset 13 that a `usize` has them, and not the offset too.
+/// Appends so many bits to one at offset 13 that the new length is a `usize`, but the end of the
+/// bits isn't: the offset adds to it.
 fn is_left_as_one<A: Allocator + Clone>(rt: &impl Abort, made: Result<BitBufferMut<A>>) {
     let mut set = made.expect(rt, "a set");
     let before = layout(&set);
@@ -117,8 +118,8 @@ fn append_n_past_usize_by_the_offset(rt: HostRuntime) {
     is_left_as_one(&rt, window(rt.alloc(), (0xFF, 2), 13, 1));
 }
 
-/// Cuts a set and fills it up within its room, which stays and for which the heap is asked for
-/// nothing.
+/// Shortens a set and fills it up to its capacity. The capacity stays the same, and nothing is
+/// allocated.
 fn is_resized<A: Allocator + Clone>(
     rt: &impl Abort,
     heap: &Refusing<Global>,

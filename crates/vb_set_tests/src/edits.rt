@@ -113,7 +113,7 @@ fn fill_room<A: Allocator + Clone>(
     same(rt, set, list);
 }
 
-/// The edits with bits `v`, and with the others.
+/// Makes the edits, some with bits `v` and some with the opposite ones.
 fn edited_is_plain<A: Allocator + Clone>(
     rt: &impl Abort,
     set: &mut BitBufferMut<A>,

@@ -1,5 +1,5 @@
-//! Of which allocator memory is asked, where two could be meant: by a call, and by all that is
-//! asked of what it made. No contract can say it.
+//! Which of two allocators is asked for memory, by a call and by later calls on its result. No
+//! contract can say it.
 //!
 //! One of two heaps is refused each of its requests in turn. The other one would refuse its first
 //! request, and is asked for nothing.
@@ -72,7 +72,7 @@ impl Copy {
 
 const PLACES: [u8; 9] = [8, 7, 6, 5, 4, 3, 2, 1, 0];
 
-/// The bits of nine at places that all count.
+/// The bits at [`PLACES`] of nine true bits, with a validity that is all true.
 fn taken_valid<A: Allocator + Clone>(set: &BitBuffer<A>, alloc: A) -> Result<BitBuffer<A>> {
     let view = set.as_view();
     if view.len() == 9 {
@@ -164,15 +164,15 @@ fn a_vector_is_asked_for_nothing(rt: HostRuntime) {
     }
 }
 
-/// A call of a set of nine true bits, and of another one.
+/// A call on a set of nine true bits; `Append` also gets another such set.
 enum Own {
     Append,
     Sliced,
     Opened,
 }
 
-/// The calls, how many true bits each makes, and how many requests it makes with what is asked of
-/// what it made.
+/// The calls, how many true bits each makes, and how many requests it makes together with the later
+/// calls on its result.
 const OWN: &[(Own, usize, u64)] = &[
     (Own::Append, 18, 11),
     (Own::Sliced, 9, 14),

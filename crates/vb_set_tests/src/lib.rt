@@ -1,9 +1,8 @@
-//! Tests of sets of bits that are made, shared, edited and asked: worked rows, answers beside those
-//! of the kernels, edits and bits that are added beside those of plain lists; truth values that are
-//! packed, and closures that are asked; what calls ask of the allocator, and of which one where two
-//! could be meant; what stands after a request for memory that is refused, and how far calls poll
-//! an iterator, or call a closure, where memory is refused or there is an error: no item behind it
-//! is gone.
+//! Tests of sets of bits that are made, shared, edited and queried: worked rows, results compared
+//! with those of the kernels, edits and appended bits compared with those of plain lists; truth
+//! values that are packed, and closures that are called; what calls allocate, and by which of two
+//! allocators; what a refused request for memory leaves; and how far calls poll an iterator, or
+//! call a closure, if memory is refused or there is an error: they lose no later item.
 #![tactic(auto)]
 
 pub mod alternate;

@@ -44,7 +44,7 @@ pub(crate) fn cloned<A: Allocator + Clone>(
     clone
 }
 
-/// A value with a set, whose copy std derives of that of the set.
+/// A value with a set. Std derives its `clone` from that of the set.
 #[derive(Clone, Drop)]
 struct Editing<A: Allocator + Clone> {
     set: BitBufferMut<A>,

@@ -19,7 +19,7 @@ fn each_kernel_packs_the_same_word(rt: HostRuntime) {
     equal(&rt, pack_bool_word_lanes(&bools), 0x9249_2492_4924_9249);
 }
 
-/// A word of so many places, each true where it has no bit of the mask; by both kernels.
+/// Packs `len` places into a word by both kernels; a place is true if it has no bit of the mask.
 #[tactic(auto, using(vb_pack::proofs::AnswersLemmas::CanAsk_always))]
 fn words(len: usize, mask: usize) -> (u64, u64)
     requires { len ≤ 64 }

@@ -1,5 +1,5 @@
-//! Calls that make a set of truth values: each of their requests for memory refused in turn, and
-//! that no closure is asked where one is.
+//! Calls that make a set of truth values, with each of their requests for memory refused in turn.
+//! No closure is called before a refusal.
 use crate::compared::{equal, shows_set};
 use std::alloc::Allocator;
 use std::process::Abort;
@@ -83,7 +83,7 @@ fn collected_shared<A: Allocator + Clone>(alloc: A) -> Result<BitBuffer<A>> {
     unasked(made, asked)
 }
 
-/// Four bits, each true where the bit that it was asked with is true exactly at an even place.
+/// Four bits: whether each bit of a set equals `place % 2 == 0`.
 #[tactic(auto, using(vb_pack::proofs::AnswersLemmas::CanAsk_always))]
 fn mapped<A: Allocator + Clone>(alloc: A) -> Result<BitBuffer<A>> {
     let set = BitBuffer::from_bools(alloc, &[true, false, false, true])?;
@@ -95,8 +95,8 @@ fn mapped<A: Allocator + Clone>(alloc: A) -> Result<BitBuffer<A>> {
     unasked(made, asked)
 }
 
-/// What was made, or the refusal, where nothing was asked; else another one, which no call here
-/// answers.
+/// Returns what was made, or the refusal if the closure wasn't called before it. If it was called,
+/// returns an error that no call here returns.
 fn unasked<S>(made: Result<S>, asked: u32) -> Result<S> {
     made.map_err(|error| if asked == 0 {
         error

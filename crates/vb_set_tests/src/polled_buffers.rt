@@ -14,7 +14,7 @@ const MANY: usize = 100;
 
 const FEW: &[u32] = &[7, 8, 9];
 
-/// Takes each item: what is filtered by it gives no hint of its length.
+/// Passes each item. An iterator that is filtered by it gives no hint of its length.
 fn each(_item: &u32) -> bool {
     true
 }
@@ -26,8 +26,8 @@ fn refusal(stopped: ExtendError<BufferError>) -> BufferError {
     }
 }
 
-/// Adds numbers to a few, by an iterator that gives no hint. Where it is refused memory, as many
-/// stand as there was room for, and one more is polled.
+/// Appends numbers to a few, by an iterator without a hint of its length. If a request for memory
+/// is refused, the buffer is filled up to its capacity, and one more number has been polled.
 fn fill<A: Allocator>(rt: &impl Abort, made: Result<BufferMut<u32, A>>) -> Result<()> {
     let mut buffer = made?;
     let mut numbers = 0..100u32;

@@ -79,7 +79,7 @@ fn a_refused_list_of_known_length_is_not_polled(rt: HostRuntime) {
     equal(&rt, (heap.has_refused(), heap.asked()), (false, 2));
 }
 
-/// How often a walk over true bits calls its closure that ends it at this place.
+/// How often a walk over true bits calls its closure, which ends the walk at place `last`.
 #[tactic(auto, using(vb_pack::proofs::AnswersLemmas::CanAsk_always))]
 fn calls_up_to<A: Allocator + Clone>(set: &BitBuffer<A>, last: usize) -> usize {
     let mut calls = 0usize;

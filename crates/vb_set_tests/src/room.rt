@@ -1,6 +1,6 @@
-//! Bits added within the room of a set, for which no memory is asked and the room stays; and bits
-//! added a few at a time, for which it is asked seldom. No clause counts requests, and of more than
-//! 512 bits none says that the room stays.
+//! Bits appended within the capacity of a set, which doesn't allocate and keeps the capacity; and
+//! bits appended a few at a time, which seldom allocates. No clause counts requests, and none says
+//! for more than 512 bits that the capacity stays the same.
 use crate::compared::equal;
 use crate::made::window;
 use std::alloc::{Allocator, Global};
@@ -34,7 +34,7 @@ const CALLS: &[Call] = &[
 ];
 
 impl Call {
-    /// Adds as many bits as a set has, which are those of the set, the list, or all true.
+    /// Adds as many bits as `added` has: the bits of `added`, those of the list, or true bits.
     fn add<A: Allocator + Clone>(
         &self,
         set: &mut BitBufferMut<A>,
@@ -94,7 +94,7 @@ fn roomy<A: Allocator + Clone>(alloc: A, offset: usize, len: usize) -> Result<Bi
     }
 }
 
-/// Bits are added within the room, which is asked for once more before, with no request.
+/// Appends bits within the capacity, after it has been reserved once more. Neither makes a request.
 fn stays(
     rt: &impl Abort,
     heap: &Refusing<Global>,
@@ -153,8 +153,8 @@ fn grow<A: Allocator + Clone>(
 /// How many requests there were, and for how many bytes in all.
 type Asked = (u64, usize);
 
-/// How many bits are added at a time, how many times, what is asked where they are added at once,
-/// and what where 64 of them are at most, as those of an iterator.
+/// How many bits are added at a time, how many times, the requests if they are added at once, and
+/// the requests if at most 64 are, as those of an iterator.
 const GROWN: &[(usize, usize, Asked, Asked)] = &[
     (1, 8, (1, 8), (1, 8)),
     (1, 65, (2, 24), (2, 24)),
@@ -164,7 +164,7 @@ const GROWN: &[(usize, usize, Asked, Asked)] = &[
     (1000, 100, (8, 31_875), (12, 32_760)),
 ];
 
-/// The room doubles. Bodies that grow to the least fail here.
+/// The capacity doubles. Bodies that grow only to what they need fail here.
 #[test]
 fn bits_added_a_few_at_a_time_ask_seldom(rt: HostRuntime) {
     let heap = Refusing::new(rt.alloc(), 0);

@@ -1,5 +1,5 @@
-//! An iterator of known length that counts the items that it gave. It can't be lent, since a call
-//! that is given its length takes it.
+//! An iterator of known length that counts the items that it gave. It counts because a call that
+//! relies on a known length takes it by value, so that a test can't see what is left.
 ghost use Rattle.std.specs.Prelude.{⊤};
 ghost use Rattle.std.specs.Iterator.{at_most};
 ghost use Rattle.vb_core.specs.Lengths.{CountsDown};

@@ -15,7 +15,7 @@ fn hash_of<T: Hash>(value: &T) -> u64 {
     state.finish()
 }
 
-/// The first value stands so to the second, and their hashes are equal exactly where they are.
+/// The first value compares so with the second, and their hashes are equal exactly if they are.
 fn compare<T: PartialOrd + Hash>(rt: &impl Abort, one: &T, two: &T, order: Ordering) {
     let is_equal = order == Ordering::Equal;
     equal(rt, one.partial_cmp(two), Some(order));

@@ -56,8 +56,8 @@ fn from_string_asks(rt: &impl Abort, heaps: &Heaps) {
     equal(rt, heaps.asked(), (0, 1));
     let twin = text.clone().expect(rt, "an owner");
     equal(rt, heaps.asked(), (0, 0));
-    // Shared, the text is copied where what made its buffer says; alone, its storage grows where it
-    // came from.
+    // If the text is shared, it is copied to the heap that was handed in. If it is alone, its
+    // storage grows in the heap that it came from.
     heaps.grow(rt, twin.into_inner(), (false, true));
     heaps.grow(rt, text.into_inner(), (true, false));
 }

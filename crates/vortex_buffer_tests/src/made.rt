@@ -8,8 +8,8 @@ use vortex_buffer::{
     ConstByteBuffer, Result, copy_to_const_aligned,
 };
 
-/// The allocator of the calls. What has a number in its type is proved for an allocator of known
-/// size.
+/// The allocator of the calls. Calls with a number in a type, such as those of `ConstByteBuffer`,
+/// are proved for an allocator of known size.
 type Heap<'a> = Handle<&'a Refusing<Global>>;
 
 /// A call that makes a buffer of the bytes of "hello".

@@ -119,8 +119,8 @@ fn bytes_are_read_from_the_front(rt: HostRuntime) {
     equal(&rt, four.remaining(), 1);
 }
 
-/// What is left of bytes of alignment 4: these, which report 4 in a storage declared with 256, and
-/// whether they are aligned to 8 and to 16.
+/// What is left of bytes of alignment 4 are these bytes. They report alignment 4, in storage that
+/// is declared with 256, and `aligned` says whether they are aligned to 8 and to 16.
 fn is_left(rt: &impl Abort, rest: &ByteBuffer<Global>, bytes: &[u8], aligned: (bool, bool)) {
     has(rt, rest, bytes, (4, 256));
     let (eight, sixteen) = (Alignment::new(8), Alignment::new(16));

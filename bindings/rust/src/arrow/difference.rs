@@ -20,8 +20,8 @@ pub(super) struct Between {
 /// wanted names of the columns from the outermost one on, and the two things that differ. Returns
 /// None if the rows have the type.
 ///
-/// Metadata may differ. Rows that may be null have a type that allows no null if no row is null.
-/// All other flags of the wanted type have to be flags of the rows.
+/// Metadata may differ. If no row is null, rows that may be null also have a type that allows no
+/// null. All other flags of the wanted type have to be flags of the rows.
 pub(super) fn difference(
     rows: &Export,
     wanted: &Field,

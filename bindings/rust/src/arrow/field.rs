@@ -13,7 +13,8 @@ use super::error::{ArrowError, Fault};
 use super::ffi::ArrowSchema;
 use super::layout::{self, Layout, Of};
 
-/// The greatest number of levels of children and dictionaries that this crate reads.
+/// The greatest number of levels that this crate reads: a type's own, and those of its children and
+/// dictionaries.
 pub(super) const DEPTH: usize = 64;
 /// The greatest number of children of a type. Other readers count them with 32 bits.
 const MOST_CHILDREN: usize = i32::MAX as usize;

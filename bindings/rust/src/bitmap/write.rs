@@ -58,7 +58,8 @@ impl<B: AsRef<[u8]>> Bitmap<B> {
         self.bits().write_set_indices(out)
     }
 
-    /// Does the same with indices of 32 bits, such as a selection vector.
+    /// Writes the indices of the set bits as `u32`, in ascending order, to the front of `out`, up
+    /// to its length: a selection vector. Returns the number of indices written.
     ///
     /// ```
     /// use vortex_bits::Bitmap;

@@ -1,4 +1,4 @@
-//! What each command is: the form of its line, and what a plain list becomes by it, or is answered.
+//! The form of each command's line, and how the command changes a plain list or what it answers.
 use crate::machine::answer::{add_bits, add_place, add_places, add_runs, add_shown};
 use crate::machine::form::Form;
 use crate::machine::form::Kind::{
@@ -70,7 +70,7 @@ pub(crate) struct Named<'a> {
     pub(crate) third: &'a [bool],
 }
 
-/// Makes of a list, that of a line's first slot or no bits, what the line makes of it.
+/// Applies the command to `bits`: the list of the first slot that the line names, or no bits.
 pub(crate) fn change(call: Call<'_>, named: Named<'_>, bits: &mut Vec<bool>) -> Result<(), Stop> {
     let (a, b, c) = (call.number(2), call.number(3), call.number(4));
     let items = call.items();
@@ -101,7 +101,7 @@ pub(crate) fn change(call: Call<'_>, named: Named<'_>, bits: &mut Vec<bool>) -> 
     }
 }
 
-/// Adds the answer of a question to an empty text. Another list is compared by `eq` alone.
+/// Adds the answer of a question to an empty text. Only `eq` reads the other list.
 pub(crate) fn answer(
     text: &mut Text,
     call: Call<'_>,

@@ -34,7 +34,7 @@ pub enum Then {
     Opens,
     /// It is put down as a frozen list.
     Freezes,
-    /// It is put down as what it was.
+    /// It is put down as open or frozen, as the first slot's list is.
     Keeps,
     /// It is gone.
     Empties,

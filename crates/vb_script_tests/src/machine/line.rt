@@ -12,7 +12,8 @@ fn is_not_empty(word: &&str) -> bool {
     !word.is_empty()
 }
 
-/// The number that a word says. What is none stands for no slot and for no place of a list.
+/// Returns the number that a word is. If it isn't one, returns `usize::MAX`, which is neither a
+/// slot nor a place of a list.
 pub(crate) fn number(word: &str) -> usize {
     word.parse().unwrap_or(usize::MAX)
 }
@@ -86,7 +87,7 @@ fn is_word(kind: Kind, word: &str) -> bool {
     }
 }
 
-/// Whether a word is two digits of each of some bytes.
+/// Whether a word is one or more bytes, of two hexadecimal digits each.
 fn is_hex(word: &str) -> bool {
     let are_digits = word.as_bytes().iter().all(u8::is_ascii_hexdigit);
     are_digits && !word.is_empty() && word.len().is_multiple_of(2)
@@ -111,7 +112,7 @@ impl Call<'_> {
         number(self.word(place))
     }
 
-    /// What stands in the list that is the last word: its items, which a dash has none of.
+    /// Returns the items of the list that is the last word; no items for a dash.
     pub(crate) fn items(&self) -> &str {
         match self.word(self.form.1.len()) {
             "-" => "",
@@ -129,7 +130,8 @@ impl Call<'_> {
         self.number(1)
     }
 
-    /// The place of the slot that gives its list away before memory is asked.
+    /// Returns which word names the slot whose list the command takes before it requests memory;
+    /// None if it takes none.
     pub(crate) fn given(&self) -> Option<usize> {
         match (self.name, self.word(1)) {
             ("freeze" | "thaw", _) => Some(1),

@@ -20,7 +20,7 @@ pub(crate) fn part(bits: &[bool], a: usize, b: usize) -> Result<&[bool], Stop> {
     bits.get(a..b).ok_or(OUT_OF_RANGE)
 }
 
-/// Makes the bits from `a` up to `b` `v`.
+/// Sets the bits from `a` up to `b` to `v`.
 pub(crate) fn fill(bits: &mut [bool], a: usize, b: usize, v: bool) -> Result<(), Stop> {
     bits.get_mut(a..b).ok_or(OUT_OF_RANGE)?.fill(v);
     Ok(())
@@ -67,7 +67,8 @@ pub(crate) fn window(bits: &mut Vec<bool>, o: usize, n: usize, digits: &str) -> 
     Ok(())
 }
 
-/// Adds `n` bits that are true at these places. One that isn't there is refused before memory.
+/// Adds `n` bits that are true at these places. A place that isn't below `n` is refused first, even
+/// if there is no memory.
 pub(crate) fn name_places(bits: &mut Vec<bool>, n: usize, places: &str) -> Result<(), Stop> {
     let lengthened = lengthen(bits, false, n);
     for item in places.split_terminator(',') {
@@ -82,7 +83,7 @@ pub(crate) fn name_places(bits: &mut Vec<bool>, n: usize, places: &str) -> Resul
     lengthened
 }
 
-/// Keeps the bits of a list at these indexes, and false where they don't count.
+/// Replaces the list by the bits of `from` at these indexes, and by false where `counts` is false.
 pub(crate) fn take(
     bits: &mut Vec<bool>,
     from: &[bool],

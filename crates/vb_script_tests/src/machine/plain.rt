@@ -15,15 +15,15 @@ enum Holds {
     Frozen,
 }
 
-/// A slot, whose bits count where it holds a list.
+/// A slot. Its bits have a meaning only if it holds a list.
 #[derive(Drop)]
 struct Slot {
     holds: Holds,
     bits: Vec<bool>,
 }
 
-/// Whether a word of this kind may name a slot that holds this. None of these is a slot that isn't
-/// there.
+/// Whether a word of this kind may name a slot that holds this; `holds` is None if there is no such
+/// slot.
 fn may_name(kind: Kind, holds: Option<Holds>) -> bool {
     match kind {
         Kind::Open => matches!(holds, Some(Holds::Open)),
@@ -42,7 +42,7 @@ pub struct Plain {
     list: Vec<bool>,
     /// Its answer.
     text: Text,
-    /// Whether a request for memory was refused that no answer has told yet.
+    /// Whether a request for memory was refused, and no answer has reported it yet.
     pub may_refuse: bool,
 }
 
@@ -62,8 +62,9 @@ impl Plain {
         })
     }
 
-    /// Carries out a command and answers it, unless there is no memory for the answer. The
-    /// command's own memory is refused where the pool told so, and where it asks for memory.
+    /// Carries out a command and returns its answer; None if the plain machine has no memory for
+    /// it. Refuses the command's memory if the pool's answer `told` says so, the command can
+    /// request memory, and `may_refuse` is set.
     pub fn serve(&mut self, call: Call<'_>, told: &str) -> Option<&str> {
         let is_told = told == "refused OutOfMemory";
         let asks = matches!(call.form.3, Memory::Asks);
@@ -92,7 +93,7 @@ impl Plain {
         Ok(())
     }
 
-    /// Makes of the list what the line makes of it, unless memory is refused.
+    /// Applies the command to the list, unless memory is refused.
     fn make(&mut self, call: Call<'_>, is_refused: bool) -> Result<(), Stop> {
         let named = Named {
             first: bits_of(&self.slots, call, 1),
@@ -100,7 +101,7 @@ impl Plain {
             third: bits_of(&self.slots, call, 3),
         };
         let changed = change(call, named, &mut self.list);
-        // The indexes of a `take` come after memory, all else before it.
+        // A `take` tests its indexes after it has memory. All other tests come first.
         if let Err(Stop::Refused(_) | Stop::TooLong) = changed {
             return changed;
         }

@@ -9,7 +9,7 @@ pub(crate) enum Stop {
     /// The list's new length is so near to 2^64 that the place of its first bit decides between
     /// two refusals.
     TooLong,
-    /// An index to take from a list is none of its places, at this position.
+    /// The index at this position of a `take` is out of range.
     Position(usize),
     /// There is no memory for the plain machine itself.
     Memory,

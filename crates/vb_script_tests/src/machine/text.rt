@@ -43,7 +43,7 @@ impl Text {
         self.add_number(number);
     }
 
-    /// Takes all that was added.
+    /// Removes all that was added.
     pub fn clear(&mut self) {
         self.text.clear();
     }
