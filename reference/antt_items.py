@@ -117,7 +117,8 @@ class Reader:
         self.file.sentence = " ".join(said) if said else first
 
     def chunk_end(self, i: int) -> int:
-        """The line behind what begins at line `i`: its deeper lines, and closers."""
+        """Returns the line after the part that begins at line `i`, with its deeper lines and
+        closing brackets."""
         own, j = indent_of(self.lines[i]), i + 1
         if self.lines[i].lstrip().startswith("module "):
             while not self.lines[j - 1].rstrip().endswith(" where"):

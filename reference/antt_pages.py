@@ -68,7 +68,7 @@ class AnttPages:
             hidden = "" if it.is_public else tag("span", "of this file alone", class_="from")
             page.add(tag("h3" if heading else "h2", f"{name} {hidden} {where}"))
             page.add(tag("p", self.fragments.plain(begun(it.sentence)), class_="sentence"))
-            # A step of a proof beside its definitions is of its file alone.
+            # A declaration for its file alone, such as a step of a proof, needs no sentence.
             if not it.sentence and folder == "specs" and it.is_public:
                 self.fragments.errors.append(f"{it.place}: `{it.name}` has no sentence above it")
             page.add(self.fragments.definition(page, self.stated(it, folder), scope))

@@ -22,8 +22,7 @@ CONSTANT = re.compile(r"^(?:#define |    )(V\w+)", re.MULTILINE)
 
 @dataclass
 class Declared:
-    """What is declared under a name: its text without a body, and the C functions that this names.
-    """
+    """What is declared under a name: its text without its body, and the C functions in the body."""
 
     name: str
     text: str

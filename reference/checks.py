@@ -70,7 +70,7 @@ class Checks:
         return bool(module) and not is_given and f"pub mod {module[0]};" not in text
 
     def exports(self) -> None:
-        """Each name that a crate's `pub use` lists is one that it is shown to give."""
+        """Tests that each name of a crate's `pub use` has an entry on the crate's page."""
         for crate in self.library.shown:
             path = crate.modules[()].file.source.path
             for text in EXPORTS.findall((self.site.root / path).read_text(encoding="utf-8")):
@@ -79,7 +79,7 @@ class Checks:
                         self.found.append(f"{path}: `{name}` of a `pub use` has no entry")
 
     def words(self) -> None:
-        """The facade gives the definitions that the contracts of what it gives cite."""
+        """Tests that the facade re-exports each definition that a contract of its items cites."""
         given = self.library.spec_files(FACADE)
         reached = {
             id(entry) for it in self.library.reached[FACADE].values()

@@ -12,7 +12,7 @@ CLASS = re.compile(r"\b(class|struct) (\w+)(?: : public \w+)?$")
 TEMPLATE = re.compile(r"template <")
 NAME = re.compile(r"(operator(?:\[\]|[^\w\s(]+| \w+)|\w+(?:::\w+)*)\(")
 VARIABLE = re.compile(r"(\w+) =")
-# From the list of what a constructor initializes on.
+# The list of what a constructor initializes, with all that follows.
 INITIALIZED = re.compile(r"(\)(?: const| noexcept)*)\s*:[^:].*", re.DOTALL)
 # What ends a declaration or is around a part of it; also comments and texts, which may have these.
 SIGN = re.compile(
@@ -59,7 +59,7 @@ def after_template(head: str) -> str:
 
 
 def name_of(head: str) -> str:
-    """The name that a head declares; none if it is a special case of another one."""
+    """The name that a head declares; an empty text for a specialization of another template."""
     rest = after_template(head)
     variable, call = VARIABLE.search(rest), NAME.search(rest)
     if variable and not (call and call.start() < variable.start()):
@@ -118,7 +118,8 @@ class Reader:
                 self.declare(entry, f"{owner}::{name}" if owner else name, found)
 
     def declare(self, entry: Entry, name: str, found: Statement) -> None:
-        """Adds it to the entry of its comment. A call of a C function without one has its own."""
+        """Adds the declaration to the entry of its comment. A call without a comment, whose body
+        calls a C function, gets its own entry."""
         uses = set(OF_C.findall(found.body)) if entry.kind == "call" else set()
         if uses and not entry.comment:
             entry = self.entry("", entry.owner)

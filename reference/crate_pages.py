@@ -150,7 +150,7 @@ class CratePages:
 
 
 def is_for_examples(name: str, deps: Dependencies) -> bool:
-    """Whether each crate that stands on this one, and on which none stands, is an example."""
+    """Whether all top crates that need this one are examples. No crate needs a top crate."""
     below = {it for found in deps.values() for it in found}
     tops = [it for it in deps if it not in below and name in reached(it, deps)]
     return bool(tops) and all(it.startswith(EXAMPLES) for it in tops)
@@ -159,13 +159,13 @@ def is_for_examples(name: str, deps: Dependencies) -> bool:
 HOW_TO_READ = """<div class="docs">
 <p>The search finds the names of all languages below. A call links to the same call in the
 others.</p>
-<p>In Rattle a call has its contract: what it asks of its caller, <code>requires</code>, and what
-then holds, <code>ensures</code>. The compiler proves both: a caller that hasn't shown the first is
-refused, and so is a body that doesn't give the second.</p>
+<p>In Rattle a call has its contract: what its caller must ensure, <code>requires</code>, and what
+then holds, <code>ensures</code>. The compiler proves both: it rejects a caller that doesn't ensure
+the first, and a body that doesn't give the second.</p>
 <p>A word of a clause is a link to its definition, which has a sentence above it. The words of the
-standard library are listed with their paths under each contract. In a clause a value is what its
-type's page says that a clause sees of it: <code>buffer.list</code> is the list of a buffer's items.
-Of what a reference lends, <code>x.now</code> is the value, and of a <code>&amp;mut</code>
+standard library are listed with their paths under each contract. The page of a type says what a
+clause sees of its values: <code>buffer.list</code> is the list of a buffer's items. Behind a
+reference <code>x</code>, <code>x.now</code> is the value; behind a <code>&amp;mut</code>,
 <code>x.old</code> and <code>x.new</code> are the values before and after the call.</p>
 <p class="scripted-only">Press <kbd>/</kbd> to search, <kbd>↑</kbd> <kbd>↓</kbd> to choose,
 <kbd>Enter</kbd> to open.</p>

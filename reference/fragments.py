@@ -24,7 +24,7 @@ def clause_text(item: Item, clause: Clause) -> str:
 
 
 def words_of_std(linked: Iterable[Linked]) -> dict[str, str]:
-    """The words of the standard library, each with its path, for who has no pointer."""
+    """The words of the standard library with their paths, for readers who can't see titles."""
     found = [it for it in linked if it.target is not None and it.target.kind == "std"]
     return {it.word.text: it.target.title for it in found if it.target.title}
 

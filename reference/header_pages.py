@@ -36,7 +36,7 @@ class HeaderPages:
         return f"{entry.path}:{entry.declared[0].line}"
 
     def docs(self, entry: Entry) -> str:
-        """What the comment says; without one, what that of the C function says which it calls."""
+        """The comment; without one, the first sentence on the C function that the entry calls."""
         if entry.comment:
             return entry.docs
         used = [self.entry_of[it] for it in sorted(entry.declared[0].uses) if it in self.entry_of]
@@ -76,7 +76,7 @@ class HeaderPages:
         return page
 
     def parts(self, header: Header) -> list[tuple[str, Entry | None, list[Entry]]]:
-        """The entries by class, each with the entry of this; then calls, then types."""
+        """The entries by class, each class with its own entry; then other calls, then types."""
         classes = [it for it in header.entries if it.kind == "type" and header.language == "C++"]
         found: list[tuple[str, Entry | None, list[Entry]]] = [
             (f"class {it.declared[0].name}", it,

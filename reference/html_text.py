@@ -27,7 +27,7 @@ def tag(name: str, content: str, **attributes: str) -> str:
 
 
 def name_html(name: str) -> str:
-    """A name, which may be broken behind its underscores alone where a line is short."""
+    """A name as HTML. A browser may break it after an underscore only."""
     return escape(name).replace("_", "_<wbr>")
 
 

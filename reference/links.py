@@ -117,7 +117,8 @@ class Linker:
                 return
 
     def shapes_beside(self, i: int) -> list[Shape] | None:
-        """The shapes of what the `λ` at `i` is of, as of `result` in `IfOk result (λ s. ..)`."""
+        """The shapes of the value that is passed to the `λ` at `i`: those of `result` in
+        `IfOk result (λ s. ..)`."""
         words = [it for it in self.words[:i] if it.kind != "space"]
         if not words or words[-1].text != "(":
             return None

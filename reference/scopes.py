@@ -177,7 +177,8 @@ class Scopes:
         return scope
 
     def add_self(self, scope: Scope, block: Item) -> None:
-        """In an implementation a value of its type is seen as its model, but in that of the model."""
+        """In an implementation a value of the type is seen as its model, except in that of `Model`.
+        """
         trait, kind = impl_parts(" ".join(block.head_text.split()))
         if trait != "Model":
             scope.shapes["Self"] = self.shapes_in(block, kind, None)

@@ -10,11 +10,11 @@ use crate::measure::{Contender, best};
 use crate::row::{Measured, NOISE, Row, grouped};
 use crate::times::{Placed, Times};
 
-/// How many times the first size the later ones of a growth row are.
+/// The sizes of a growth row, as multiples of the first one.
 const GROWTH: [usize; 4] = [1, 10, 100, 1_000];
 
-/// What an item may cost at most, over an item of the first size, less what a copy of it costs more
-/// there than at that size.
+/// The greatest cost of an item, over its cost at the first size. The growth of the cost of a copy
+/// of the item is subtracted first.
 const GROWN: f64 = 1.1;
 
 const GROWTH_HEAD: &str = "| call | first size | ns an item at 1, 10, 100, 1,000 times it | a copy of \
@@ -103,8 +103,8 @@ impl Bench {
         writeln!(self.lines, "{line}").expect("the file of lines can be written");
     }
 
-    /// Measures a call at 1, 10, 100 and 1,000 times its first size, in turn, beside copies of as
-    /// many bytes: an item isn't asked to cost less than caches and memory do by their sizes.
+    /// Measures a call at 1, 10, 100 and 1,000 times its first size, in turn, and copies of as many
+    /// bytes. The growth of a copy's cost, which comes from caches and memory, is subtracted.
     pub fn growth<'a>(
         &mut self,
         call: &str,

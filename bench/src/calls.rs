@@ -42,7 +42,8 @@ pub type OfTable = unsafe extern "C" fn(
     usize,
 ) -> usize;
 
-/// A directory's call whose questions come in turn, with a mask.
+/// A call of a directory in which each question waits for the answer before it; the last number is
+/// the mask, which library/src/directory.rt.in explains.
 pub type OfTableInTurn = unsafe extern "C" fn(
     Bytes,
     usize,
@@ -62,7 +63,7 @@ pub type SelectRounds =
 /// A call on a set that is made of a window, in so many rounds.
 pub type InRounds = unsafe extern "C" fn(Bytes, usize, usize, usize, usize) -> usize;
 
-/// Whether the bits of a window are in some way.
+/// A test of the bits of a window.
 pub type Whether = unsafe extern "C" fn(Bytes, usize, usize, usize) -> bool;
 
 /// Finds the `n`-th true or false bit of a window.

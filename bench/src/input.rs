@@ -73,7 +73,7 @@ impl Input {
         Input(vec![line; size.div_ceil(64) + 1])
     }
 
-    /// The bits of another input from its first one on, as a list that begins at a bit below 64.
+    /// The bits of another input, behind `offset` false bits, fewer than 64.
     pub fn shifted(other: &Input, offset: usize) -> Self {
         let mut before = 0;
         let mut words = other.words().iter();

@@ -99,7 +99,7 @@ pub fn previous_set(w: Window, before: usize) -> usize {
     usize::MAX
 }
 
-/// The words of a window of whole ones, from its first bit on.
+/// The words of a window that has a multiple of 64 bits, from its first bit on.
 fn realigned(input: &Input, offset: usize, len: usize) -> impl Iterator<Item = u64> {
     let words = &input.words()[offset / 64..];
     let shift = offset % 64;
@@ -174,7 +174,7 @@ pub fn iter(w: Window) -> usize {
     (w.offset..w.offset + w.len).fold(0, |sum, at| sum + bit(at))
 }
 
-/// The sum of the words of a window of whole ones.
+/// The sum of the words of a window that has a multiple of 64 bits.
 #[inline(never)]
 pub fn chunks(input: &Input, offset: usize, len: usize) -> usize {
     realigned(input, offset, len).fold(0, u64::wrapping_add) as usize

@@ -5,13 +5,13 @@
 use std::hint::black_box;
 use std::time::{Duration, Instant};
 
-/// For each so much of the time that rounds go on there is at least one, however long it takes.
+/// There is at least one round for each such part of the time of a row, however long a round takes.
 const ROUND: Duration = Duration::from_millis(25);
 
 /// What a contender's part of a round takes at least, so that the clock is fine enough.
 const PART: Duration = Duration::from_micros(20);
 
-/// How many times longer the questions of a round take at least than what is made before them.
+/// The least ratio of the time of a round's questions to the time of making its sets before them.
 const SHARE: u32 = 4;
 
 /// A function that answers a number, the same as every other contender.
@@ -37,8 +37,8 @@ impl<'a> Contender<'a> {
         }
     }
 
-    /// A function that makes its sets, and then answers so many times as it is told. The time of
-    /// the making, which is that of no answers, isn't counted.
+    /// A function that makes its sets, and then answers the given number of times. The time of
+    /// making them isn't counted: it is measured with 0 answers, and subtracted.
     pub fn in_rounds(ask: impl Fn(usize) -> usize + 'a) -> Self {
         Contender {
             ask: Box::new(move |times| black_box(ask(times))),

@@ -22,7 +22,7 @@ mod walks;
 
 use crate::bench::Bench;
 
-/// An expression where vortex-buffer is there.
+/// `Some` of an expression over vortex-buffer with the feature `upstream`, else `None`.
 macro_rules! upstream {
     ($other:expr) => {{
         #[cfg(feature = "upstream")]

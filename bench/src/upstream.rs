@@ -129,7 +129,7 @@ pub fn operator(number: usize) -> fn(&BitBuffer, &BitBuffer) -> usize {
     }
 }
 
-/// The set in a cell made another one.
+/// Replaces the set in a cell by the one that `make` returns for it. Returns the new length.
 fn replaced(cell: &Cell<Option<BitBuffer>>, make: impl Fn(BitBuffer) -> BitBuffer) -> usize {
     let made = make(cell.take().expect("a set was put back"));
     let len = made.len();

@@ -207,7 +207,7 @@ fn extracted(bits: u64, mask: u64) -> u64 {
     }
 }
 
-/// The lowest bits at the ones of a mask, one of each.
+/// A word with the lowest bits deposited at the ones of a mask, and 0 elsewhere.
 #[inline(always)]
 fn deposited(bits: u64, mask: u64) -> u64 {
     #[cfg(target_feature = "bmi2")]
@@ -269,7 +269,7 @@ pub fn and_kleene(outs: [&mut [u8]; 2], to: usize, left: [Window; 2], right: [Wi
     valid.finish();
 }
 
-/// Which values are above a number: of each 64 a byte each, which are packed by eights.
+/// Which values are above a number: a byte for each of 64 values, and eight bytes packed at a time.
 #[inline(never)]
 pub fn above<T: PartialOrd + Copy>(out: &mut [u8], to: usize, values: &[T], number: T) {
     let mut out = Writer::new(out.as_mut_ptr(), to);

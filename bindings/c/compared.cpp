@@ -10,14 +10,14 @@ using vortex_bits::bits;
 using vortex_bits::bits_mut;
 using buffer = std::vector<std::uint8_t>;
 
-/* Each number of 64 bits, whole or not, is one. */
+/* A type that represents each number of 64 bits, whole or float, exactly. */
 using number = long double;
 static_assert(std::numeric_limits<number>::digits >= 64);
 
 static const std::array<vb_comparison, 6> all_ops = {
     VB_EQUAL, VB_NOT_EQUAL, VB_LESS, VB_LESS_OR_EQUAL, VB_GREATER, VB_GREATER_OR_EQUAL};
 enum fruit { apple, pear = 100'000 };
-/* test.c tests the same in C. */
+/* compared.c tests the same in C. */
 static_assert(sizeof(vb_comparison) == sizeof(unsigned int));
 
 static int failures = 0;

@@ -5,7 +5,7 @@
  *     geopackage FILE [ROWS]
  *
  * ../gdal/make_parcels.py writes FILE. GDAL passes its tables by Arrow's C stream interface, in
- * batches of at most ROWS rows, by default 65,536. It prints each query with its rows;
+ * batches of at most ROWS rows, by default 65,536. The program prints each query with its rows;
  * ../gdal/compare compares them with those of SQLite.
  */
 #include "query_columns.hpp"
@@ -190,7 +190,7 @@ template <class T> static mask passed(const column &of, vb_comparison op, T numb
     return made;
 }
 
-/* Evaluates a condition with a `not`, up to which a null must stay null. */
+/* Evaluates a condition with a `not`. A null must stay null until the `not` is applied. */
 static mask neither_near_nor_light(const parcels &of)
 {
     const mask near = compared<std::int32_t>(of.days, VB_LESS_OR_EQUAL, 3);

@@ -47,7 +47,7 @@ static bool is_answer(vb_taken it)
     return past == rows ? !it.out_of_range : it.out_of_range && it.position == past;
 }
 
-/* Adds to each total what `added` has for the rows of its group, unless a row has none. */
+/* Adds to each total what `added` has for the rows of its group; nothing if a row has no group. */
 static void add_rows(uint64_t *totals, const uint64_t *added)
 {
     if (first_past() < rows) {

@@ -21,7 +21,7 @@
 #define LEFT 3
 #define RIGHT 6
 #define OUT 5
-/* How far from the window's begin, or end, a search begins. */
+/* The distance of the start of a search from the window's start, or from its end, in bits. */
 #define NEAR 77
 
 /* Inputs: bits at random, none and all set, values, and indices below the size. */

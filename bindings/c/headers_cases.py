@@ -145,8 +145,9 @@ ACCEPTED_SINCE_20 = [
     "static_assert(!can_be<bits_mut, std::span<const std::uint8_t>>);",
 ]
 
-# What must not: windows over bytes that end before them, that can't be written, or over other items;
-# a number in the place of a comparison; and answers that nobody looks at. Both compilers say it so.
+# Code that must not compile: windows over bytes that are freed before them, writable windows over
+# const bytes, and windows over other items; a number in place of a comparison; and results that are
+# ignored. Both compilers have these words in their errors.
 DELETED, NONE, UNUSED = "deleted (function|constructor)", "no matching", "ignoring return value"
 REFUSED = [
     ("bits it(buffer(4), 0, 8); (void)it;", DELETED),

@@ -15,7 +15,7 @@ static uint64_t number_at(size_t i)
     return (i + 1) * 0x9E3779B97F4A7C15u;
 }
 
-/* How many bits an operator makes true of two windows: digit 2 * left + right of the table. */
+/* The counts of an operator over two windows. Bit 2 * left + right of `table` is its result. */
 static const struct {
     size_t (*plain)(const uint8_t *, size_t, size_t, const uint8_t *, size_t, size_t, size_t);
     bool (*checked)(const uint8_t *, size_t, size_t, const uint8_t *, size_t, size_t, size_t,

@@ -42,7 +42,10 @@ static const struct {
 };
 enum { ALL = sizeof all / sizeof all[0] };
 
-/* The place that is `value` and nearest to place n, or len. */
+/*
+ * Returns the index of the bit that search k of `all` has to find: the nearest one of its value, at
+ * or after index n, or before it; `len` if there is none.
+ */
 static size_t wanted(const uint8_t *bytes, size_t offset, size_t len, size_t k, size_t n)
 {
     size_t at = n < len ? n : len;

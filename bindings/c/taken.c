@@ -12,7 +12,7 @@ enum { VALUES = 100, POSITIONS = 200, BYTES = POSITIONS / 8 + 2, ROUNDS = 300 };
 
 static uint8_t validity[BYTES];
 
-/* A value of a whole number of bytes, each of which is its own. */
+/* Writes value i, of `size` bytes, whose bytes differ from each other. */
 static void make(void *value, size_t size, size_t i)
 {
     for (size_t k = 0; k < size; k++) {

@@ -17,7 +17,10 @@
 static uint64_t values[8], others[8], out[8];
 static const uint8_t mask[1] = {0xFF};
 
-/* Sizes that no value, no index or neither has, including some whose multiples are known sizes. */
+/*
+ * Sizes that neither a value nor an index has, including some whose multiples wrap around to known
+ * sizes.
+ */
 static const size_t SIZES[] = {0, 3, 5, 6, 7, 9, 12, 15, 17, 18, 20, 24, 31, 32, 33, 34, 48, 64,
     128, 255, 256, 257, SIZE_MAX / 16, SIZE_MAX / 16 + 1, SIZE_MAX / 16 + 2, SIZE_MAX / 2 + 1,
     SIZE_MAX - 15, SIZE_MAX - 14, SIZE_MAX};

@@ -58,11 +58,12 @@
  *
  * The functions of each level are proved. The code in front of them is written by hand, and tested.
  * It selects the level. It replaces a null pointer to no items by one that they accept; checked
- * forms reject other null pointers. Plain forms stop at an `op` or a size of values that doesn't
- * exist. vb_set_indices, vb_set_indices_u32, vb_set_slices and their checked forms process one page
- * of memory after the other, and join runs that cross page ends. Bools are packed and unpacked as
- * bytes. vb_filter_values, vb_retain_values, vb_scatter_values and vb_take_values choose a function
- * by the sizes, and the functions of validities choose one by which validities are missing.
+ * forms reject other null pointers. Plain forms crash with SIGILL at an `op` or a size of values
+ * that doesn't exist, except vb_take_values, which reports position 0. vb_set_indices,
+ * vb_set_indices_u32, vb_set_slices and their checked forms process one page of memory after the
+ * other, and join runs that cross page ends. Bools are packed and unpacked as bytes.
+ * vb_filter_values, vb_retain_values, vb_scatter_values and vb_take_values choose a function by the
+ * sizes, and the functions of validities choose one by which validities are missing.
  * vb_set_slices_u32 narrows the indices of runs. The C++ classes are also written by hand, and
  * tested.
  */
@@ -279,8 +280,8 @@ VB_CHECKED bool vb_try_all_set(const uint8_t *bytes, size_t size, size_t offset,
 
 /*
  * Returns whether the `len` bits of `left` from bit `left_offset` on equal those of `right` from
- * bit `right_offset` on. Reads up to 64 bytes, and then no block of 512 bytes after the one with
- * the first difference.
+ * bit `right_offset` on. Compares up to 64 bytes first, and then blocks of 512 bytes, up to the one
+ * with the first difference.
  *
  *     const uint8_t rows[] = {0xE8, 0x06};
  *     assert(vb_equal_bits(rows, 2, 5, rows, 2, 9, 2));

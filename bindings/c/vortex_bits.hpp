@@ -11,11 +11,11 @@
  *
  * A window is tested once, by its constructor. It owns no bytes, so over a temporary container it
  * does not compile. Calls test lengths, single indices and capacity, and throw std::out_of_range
- * before a write, or abort without exceptions. Takes and calls by group return the first index out
- * of range instead; set_indices_into and set_slices_into write items up to the capacity of their
- * output. No output may overlap an input or another output. A call may read all bytes of its
- * windows' containers: vortex_bits.h says what threads may do. All parts of a program need one
- * version of C++, and exceptions in all or in none.
+ * before a write, or abort without exceptions. Takes and calls by group instead return the position
+ * of the first index or code out of range; set_indices_into and set_slices_into write items up to
+ * the capacity of their output. No output may overlap an input or another output. A call may read
+ * all bytes of its windows' containers: vortex_bits.h says what threads may do. All parts of a
+ * program need one version of C++, and exceptions in all or in none.
  */
 #ifndef VORTEX_BITS_HPP
 #define VORTEX_BITS_HPP
@@ -91,7 +91,7 @@ public:
     std::size_t count_ones() const { return vb_count_ones(bytes_, size_, offset_, len_); }
     std::size_t count_zeros() const { return len_ - count_ones(); }
 
-    /* Returns the number of bits set in both; the windows have one length, as in all calls here. */
+    /* Returns the number of bits set in both, any, just one, or here alone. All need one length. */
     std::size_t and_count(bits right) const { return by_another(vb_and_count, right); }
     std::size_t or_count(bits right) const { return by_another(vb_or_count, right); }
     std::size_t xor_count(bits right) const { return by_another(vb_xor_count, right); }

@@ -17,8 +17,9 @@ extern "C" {
 #endif
 
 /*
- * A signed number of 128 bits: low + high * 2^64. If `high` is 0, it is `low`; if it is negative, so
- * is the number. With __int128 it is (__int128)((unsigned __int128)it.high << 64 | it.low).
+ * A signed number of 128 bits: low + high * 2^64. If `high` is 0, the number is `low`; if `high` is
+ * negative, so is the number. As an __int128 the number of `it` is
+ * (__int128)((unsigned __int128)it.high << 64 | it.low).
  */
 typedef struct {
     uint64_t low;
@@ -267,8 +268,8 @@ VB_CHECKED bool vb_try_masked_sum_f64(const double *values, size_t values_count,
 /* To here. */
 
 /*
- * Returns the minimum or the maximum of the selected floats, or no value if none of them is a number.
- * They skip NaN, and -0.0 is less than 0.0.
+ * Returns the minimum or the maximum of the selected floats, or no value if none of them is a
+ * number. Skips NaN; -0.0 is less than 0.0.
  *
  *     const float weights[] = {0.5f, -7.0f, NAN, -0.5f};
  *     const uint8_t mask[] = {0x0D};
@@ -334,8 +335,8 @@ VB_CHECKED bool vb_try_group_counts_u32(uint64_t *counts, size_t counts_count,
 
 /*
  * Adds each selected value to the sum at the index that is the code of its row. Sums have 64 bits,
- * and wrap around. There must be a value for each code; rows, codes, the mask and the result are as
- * above.
+ * and wrap around. `values_count` must equal `codes_count`; the checked form tests it too. Rows,
+ * codes, the mask and the result are as above; if a row is returned, the sums are unchanged.
  *
  *     int64_t totals[2] = {0, 1000};
  *     const uint32_t groups[] = {1, 0, 1};

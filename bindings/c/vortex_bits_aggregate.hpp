@@ -157,9 +157,9 @@ struct aggregate {
     }
 
     /*
-     * Calls `call` with the codes, and then with a mask; without one each row is selected. A
-     * negative code is read as one that is too large, so it gets no more totals than its type has
-     * numbers.
+     * Calls `call` with the totals, the codes and the mask; without a mask each row is selected.
+     * The C function reads a negative code as a large one. So it gets no more totals than the codes
+     * from 0 on can index, and a negative code is out of range.
      */
     template <class Totals, class Codes, class Call>
     static std::optional<std::size_t> by_group(Totals &totals, const Codes &codes,

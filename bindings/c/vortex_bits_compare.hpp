@@ -120,9 +120,10 @@ template <class Value, class Number> bound<Value> bound_of(Number number)
 } // namespace detail
 
 /*
- * Writes to `out` which of the values compare with `number` by `op`: VB_EQUAL, VB_LESS, .. of
- * vortex_bits_compare.h. Values are whole numbers of 8 to 64 bits, floats or doubles. `number` is
- * of any type of numbers, and a whole number if the values are. The comparison is exact, even if
+ * Writes to `out`, which has one bit per value, which of the values compare with `number` by `op`:
+ * VB_EQUAL, VB_LESS, .. of vortex_bits_compare.h. Throws std::out_of_range if the lengths differ,
+ * or `op` is none of these. Values are whole numbers of 8 to 64 bits, floats or doubles. `number`
+ * is of any type of numbers, and a whole number if the values are. The comparison is exact, even if
  * their type can't represent `number`: all values of 8 bits are below 300, and no float equals 0.1.
  */
 template <class Values, class Number>

@@ -116,8 +116,8 @@ template <class F, class... Item> bool goes_on(F &f, Item &&...item)
 }
 
 /*
- * The type of the C functions for items of `Size` bytes, or void, their filter, its reverse, and
- * the filter in place.
+ * For items of `Size` bytes: the type that the C functions take, void if there are none, and the C
+ * functions that filter, scatter and filter in place.
  */
 template <class Type> using masked = std::size_t (*)(Type *, std::size_t, const Type *, std::size_t,
     const std::uint8_t *, std::size_t, std::size_t);

@@ -27,10 +27,11 @@ VB_CHECKED bool vb_try_block_counts(size_t *table, size_t table_count, const uin
         size_t size, size_t offset, size_t len, size_t *written);
 
 /*
- * Returns the number of set bits among the first `index` bits of the window; `index` is at most
- * `len`. Reads one entry of the table and the bits of one block. Here and below the table has
- * ceil(len / 512) entries, which the checked forms test. They cannot test that these are those of
- * vb_block_counts: with others the result is meaningless, but harmless.
+ * Returns the number of set bits among the first `index` bits of the window. `index` must be at
+ * most `len`; the checked form tests it too. Reads one entry of the table and the bits of one
+ * block. Here and below the table has ceil(len / 512) entries, which the checked forms test. They
+ * cannot test that vb_block_counts wrote the entries: with others the result is meaningless, but
+ * harmless.
  *
  *     uint8_t rows[128];
  *     memset(rows, 0x11, sizeof rows);

@@ -261,7 +261,7 @@ fn two_outputs_to_one_file() {
     assert!(error(&file, &["--out", loops.to_str().unwrap()]).contains("loop: Too many"));
 }
 
-/// Rows at the end of the file that is read would be read too.
+/// Standard output that is appended to the CSV file is refused: its rows would be read too.
 #[test]
 #[cfg(unix)]
 fn standard_output_at_the_end_of_another_file() {

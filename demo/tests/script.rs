@@ -1,4 +1,5 @@
-//! Whether the script `demo/query` builds and runs the right program, in a copy with a small one.
+//! Tests that the script `demo/query` builds and runs the right program, in a copy of the folders
+//! with a small program.
 #![cfg(unix)]
 
 mod support;
@@ -113,7 +114,7 @@ fn settings_of_cargo_change_nothing() {
     assert!(!elsewhere.exists());
 }
 
-/// A target that is this machine has a folder of its own in cargo's.
+/// If cargo's settings name this machine as the target, cargo builds in a folder of that name.
 #[test]
 fn the_target_of_this_machine() {
     let copied = Copied::new();

@@ -13,13 +13,14 @@ CALLED = (USER, "    counter.add(1);\n", "    counter.add(1);\n    counter.step(
 
 
 def step_of(kind: str) -> str:
-    """What says how far a type steps."""
+    """Returns an implementation of `Step` for a type."""
     ghosts = "    ghost far = { λ n. n };\n\n"
     return f"impl Step for {kind} {{\n{ghosts}    fn step(&mut self, n: usize) {{}}\n}}\n\n"
 
 
 def shown(before: str, own: str = "") -> list[str]:
-    """Which `step` shows the call of it, where this stands before the methods of the type."""
+    """Returns the heads of the blocks whose `step` has an example. `before` and `own` are texts
+    before the methods of the type and among them."""
     methods = (COUNTER, "impl Counter {\n", f"{before}impl Counter {{\n{own}")
     with Repository(IMPORTED, methods, CALLED) as root:
         examples = Site(Path(root)).fragments.examples

@@ -1,11 +1,12 @@
-"""Whether the documents are short: those that have a limit of their own, and all together except
-the one that shows what a program draws. Words are counted as `wc -w` counts them."""
+"""Checks that some documents have no more words than their own limits, and all together no more
+than one limit. The sum leaves out demo/README.md, which shows the output of a program. Words are
+counted as `wc -w` does."""
 from documents.files import Document, Repository
 
 MOST = 13_000
 OF_DRAWINGS = "demo/README.md"
 LIMITS = {"README.md": 900, "docs/PERF.md": 2_500, "bench/README.md": 1_500, OF_DRAWINGS: 750}
-# A document that the other checks leave alone, since it stands in bench/.
+# A document in bench/, which Repository.documents leaves out.
 OF_BENCH = "bench/README.md"
 
 

@@ -5,7 +5,7 @@ from collections.abc import Collection, Mapping
 FACADE = "vortex_buffer"  # the crate that users name
 PROGRAM = "vbits"  # the program that runs commands
 EXAMPLES = ("use_", "run_")
-FOR_C = "vb_c_"  # what the crates that are linked into C have in common
+FOR_C = "vb_c_"  # the prefix of crates that are linked into C
 
 Dependencies = Mapping[str, Collection[str]]
 

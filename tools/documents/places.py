@@ -22,8 +22,8 @@ IMPORT = re.compile(r"\s*(?:ghost )?use ")
 class Task:
     """A task, with its files and lines: each is a pattern of a path and one of a text.
 
-    NAME stands for the name in any of its forms. A place without a text is the file itself, and so
-    is a template, whose text is what it writes.
+    NAME stands for the name in any of its forms. If the pattern of the text is empty, the place is
+    the file. A template is one place too: the pattern is searched for in what it writes.
     """
 
     text: str
@@ -56,7 +56,7 @@ KERNEL = [
     Task("What it answers, over lists of truth values", [
         (r"crates/\w+/specs/(?!Lib\.antt)", r"\bNAME\b"),
     ]),
-    Task("Names that are given on, by `pub use` and by specs/Lib.antt", [
+    Task("Names that are re-exported, by `pub use` and by specs/Lib.antt", [
         (r"crates/(?!vb_c(?:_\w+)?/)\w+/src/lib\.rt$", r"(?<![.\w])NAME(?=[,;} ]|$)"),
         (r"crates/vortex_buffer_tests/src/reached\.rt$", r"\bNAME\b"),
         (r"crates/\w+/specs/Lib\.antt$", r"\bNAME$"),

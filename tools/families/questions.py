@@ -25,8 +25,9 @@ PLACE = Answer("Place", "vb_place", "std::optional<std::size_t>", "Option<usize>
 
 
 class Question:
-    """What the functions of a question have in common. It has a name, an answer, its `value`, an
-    index that is a parameter too, or an empty text, and `told`, what its functions return."""
+    """What the functions of a question have in common. It has a `name` and an `answer`; `value`,
+    the name of an index that is a parameter too, or an empty text; and `told`, the docstring of its
+    C function."""
 
     def __str__(self) -> str:
         return self.name

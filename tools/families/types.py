@@ -146,7 +146,7 @@ class Number:
 
     @property
     def total_c(self) -> str:
-        """That type in C."""
+        """The type `total` in C."""
         return f"vb_{self.total}"
 
     @property
@@ -188,7 +188,7 @@ SUMMED = {name: [it for it in AGGREGATED if it in numbers] for name, numbers in 
 OPTIONAL = [*AGGREGATED, *FLOATS]
 # The least and the greatest value: the name of the call, the word for it, and its definition.
 EXTREMES = [("min", "least", "LeastOf"), ("max", "greatest", "GreatestOf")]
-# The same of floats, with the order whose first number it is.
+# The same of floats, with the order in which the result is the first number.
 FLOAT_EXTREMES = [("min", "least", "upwards"), ("max", "greatest", "downwards")]
 # The types that processors have vectors of.
 LANES = {name: [it for it in numbers if it.bits < 128] for name, numbers in WHOLE.items()}
@@ -207,8 +207,8 @@ class Operator:
     # The names of the operator in vb_pair: in calls, and as a type.
     kernel: str
     merged: str
-    # The condition under which the result is true, in the words of docstrings: for a bit and
-    # another one, and for both.
+    # The condition under which the result is true, in the words of docstrings: `one` as a sentence
+    # about the first bit, and `both` as one about both bits.
     one: str
     both: str
 

@@ -67,7 +67,7 @@ def put(file: Written, template: str, part: Target, before: int) -> None:
         how = "Written" if part.kind == "file" else "Written in part"
         line = f"{mark} {how} by tools/write-lists from {template}.\n"
         rest = file.text.removeprefix(line).removeprefix("\n")
-        # A comment about what the file has is another one.
+        # An empty line separates this line from a comment about the file.
         gap = "\n" if rest.startswith(f"{mark} ") else ""
         file.text = line + gap + rest
 

@@ -13,7 +13,7 @@ SVG = "{http://www.w3.org/2000/svg}"
 
 
 class Charts(unittest.TestCase):
-    """Returns the pictures of bench/results."""
+    """The pictures of bench/results."""
 
     def test_the_pictures_are_those_of_the_tables(self):
         with tempfile.TemporaryDirectory() as folder:

@@ -30,9 +30,9 @@ fn and_are_or_null(rows: &mut Bitmap, column: &Array, test: impl Fn(&Texts) -> B
     Ok(())
 }
 
-/// Returns the rows that `loops::is_kept` selects. `a and not (b and c)` are the rows of `a` but for
-/// those where `b` is true or null, and of these `c`. So a mask of what is true is enough, and no
-/// text is read of 64 rows of which none is left.
+/// Returns the rows that `loops::is_kept` selects. `a and not (b and c)` selects the rows of `a`,
+/// except those in which `b` and `c` are each true or null. So masks of true rows are enough, and
+/// no text is read in 64 rows of which none is left.
 pub fn kept(batch: &Array, limit: f64) -> Result<Bitmap> {
     let number = batch.column("number")?;
     let mut kept = are(&batch.column("price")?, Comparison::Greater, limit)?;

@@ -108,7 +108,7 @@ fn run(rows: u32, batch: usize, turns: usize) -> Result<()> {
     Ok(())
 }
 
-/// The compiler knows no text of a loop, as in an engine.
+/// The compiler doesn't know the texts to search for, as in an engine.
 fn texts(of: Timed<'_>) -> Result<()> {
     let [equal, start, part] = black_box(["orange juice with pulp", "honey", "with pulp"]);
     let set = black_box(["fig", "lemon", "kiwi", "pear", "quince", "date 7"]);

@@ -60,7 +60,7 @@ pub fn measure(bench: &mut Bench) {
     }
 }
 
-/// Beside the values from the other end on.
+/// Values compared with the same values in reverse order.
 fn with_others<'a, T: PartialOrd + Copy + 'a>(
     call: &str,
     values: &'a [T],
@@ -126,8 +126,8 @@ fn row<'a, T: PartialOrd + Copy + 'a>(
         .plain(Contender::of(plain))
 }
 
-/// Those of some values in the middle, where that of the first value is bit `offset`: contenders
-/// are held against each other by them.
+/// The results for some values in the middle, as a number, by which the contenders are compared.
+/// The result for the first value is bit `offset`.
 fn some_answers(bits: &[u8], offset: usize) -> usize {
     let middle = bits[MILLION / 16..].first_chunk().expect("eight bytes");
     (u64::from_le_bytes(*middle) >> offset) as u32 as usize

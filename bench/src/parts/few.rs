@@ -379,7 +379,7 @@ fn of_values<'a>(c: &'a Case) -> Vec<Row<'a>> {
             true
         },
     ));
-    // Without one there is no offset.
+    // A call without a validity has no offset, so its row is added once.
     if c.to == 0 {
         rows.push(row(
             c,

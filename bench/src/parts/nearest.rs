@@ -155,7 +155,7 @@ fn sum(places: &[usize], find: impl Fn(usize) -> usize) -> usize {
         .fold(0, |sum, &place| sum.wrapping_add(find(place)))
 }
 
-/// Bits of which those of a window are false, but for the one at a place, and those around true.
+/// Bits that are false in a window, except the one at a place, and true outside of it.
 fn alone(size: usize, offset: usize, place: usize) -> Input {
     let len = Input::random(size).window(size, offset).len;
     let inside = offset..offset + len;

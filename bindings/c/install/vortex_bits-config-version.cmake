@@ -1,4 +1,5 @@
-# Before 1.0.0 a second number is as a first one: 0.91.3 stands for 0.91.1, and 0.92.0 doesn't.
+# A version can replace an earlier one if their first two numbers are equal: 0.91.3 can replace
+# 0.91.1, and 0.92.0 can't.
 set(PACKAGE_VERSION "@VERSION@")
 string(REGEX MATCH "^[0-9]+\\.[0-9]+" _have "${PACKAGE_VERSION}")
 string(REGEX MATCH "^[0-9]+\\.[0-9]+" _want "${PACKAGE_FIND_VERSION}")

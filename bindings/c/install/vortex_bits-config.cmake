@@ -1,6 +1,6 @@
-# vortex_bits::vortex_bits is the library that takes the processor level itself, linked into the
-# program, and vortex_bits::shared the same as a shared library; vortex_bits::x86-64-v2 and
-# vortex_bits::x86-64-v3 have one level, and are linked in.
+# vortex_bits::vortex_bits is the static library that selects the processor level at run time, and
+# vortex_bits::shared is the shared one. vortex_bits::x86-64-v2 and vortex_bits::x86-64-v3 are
+# static libraries of one level.
 get_filename_component(_vortex_bits_prefix "${CMAKE_CURRENT_LIST_DIR}/../../.." ABSOLUTE)
 
 function(_vortex_bits_library target kind file)

@@ -1,7 +1,8 @@
 /*
  * The functions of vortex_bits.h. Each calls the function of a processor level, such as
- * vb_v2_count_ones. It replaces a null pointer to no items by one that this accepts. A checked form
- * returns false for a null pointer to more items. by_hand.h has the functions that do more.
+ * vb_v2_count_ones. It replaces a null pointer to no items by one that the called function accepts.
+ * A checked form returns false for a null pointer to one item or more. by_hand.h has the functions
+ * that do more.
  *
  * With VB_LEVEL (2, 3 or 4) they call that level only. Without it they call the higher one of v2
  * and v3 that the processor has.

@@ -6,7 +6,7 @@ use crate::ask::same;
 use crate::case::{Case, bit};
 use crate::random::Random;
 
-/// Numbers of a type: of half of the cases any, of the others few, and those at its ends.
+/// Numbers of a type: any in half of the cases, else those at its ends and near the greatest one.
 macro_rules! column {
     ($value:ty, $case:ident, $random:ident) => {
         (0..$case.len)
@@ -38,7 +38,7 @@ macro_rules! wide {
     };
 }
 
-/// Those of any type.
+/// The calls for a type of any width: the wrapping sum, the least and the greatest.
 macro_rules! narrow {
     ($case:ident, $random:ident, $value:ty) => {{
         let column = column!($value, $case, $random);

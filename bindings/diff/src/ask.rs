@@ -59,7 +59,8 @@ fn nearest(case: &Case, list: &[bool]) -> Result<u64, String> {
     Ok(calls)
 }
 
-/// What a walk with room for `room` items writes before the items that stay as they were.
+/// Returns the number of items that a walk writes to an output of `room` items, and this output:
+/// the items after them are `usize::MAX`, as before.
 fn filled(items: &[usize], room: usize) -> (usize, Vec<usize>) {
     let mut out = items[..room.min(items.len())].to_vec();
     let count = out.len();
@@ -109,8 +110,8 @@ fn walks(case: &Case, list: &[bool], trues: &[usize]) -> Result<u64, String> {
         )?)
 }
 
-/// Ranks over a table, which has one entry more than there are blocks, and over one of no use,
-/// whose answers say nothing.
+/// Compares ranks over a table, which has one entry more than there are blocks. Calls over a table
+/// of wrong counts must end; their results are meaningless.
 fn ranks(case: &Case, list: &[bool], trues: &[usize], falses: &[usize]) -> Result<u64, String> {
     let (bits, n) = (case.left(), case.n);
     let mut table = vec![usize::MAX; blocks(case.len) + 1];

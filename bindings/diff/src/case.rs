@@ -1,4 +1,4 @@
-//! Two windows of one length over bytes of their own, and what else the calls ask.
+//! Two windows of one length over bytes of their own, and the other arguments of the calls.
 
 use vortex_bits::Bits;
 
@@ -39,7 +39,7 @@ fn bytes(random: &mut Random, offset: usize, len: usize) -> Vec<u8> {
 }
 
 impl Case {
-    /// Most are short; of a hundred one has some ten thousand bits.
+    /// Returns a random case. Most are short; one in a hundred has up to 70,000 bits.
     pub fn new(random: &mut Random, number: u64) -> Case {
         let most = match number % 100 {
             0 => 70_000,

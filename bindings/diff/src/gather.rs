@@ -16,8 +16,8 @@ fn room(case: &Case, len: usize) -> Vec<u8> {
     case.right.iter().copied().cycle().take(size).collect()
 }
 
-/// What a take of these places writes, where those count that `counts` names; or the first position
-/// that counts and whose place isn't one.
+/// Returns the bytes after a take at these places, if only the positions count for which `counts`
+/// is true; or the first such position whose place is out of range.
 fn taken(case: &Case, places: &[usize], counts: impl Fn(usize) -> bool) -> Result<Vec<u8>, usize> {
     let past = |&p: &usize| counts(p) && places[p] >= case.len;
     if let Some(position) = (0..places.len()).find(past) {
@@ -48,7 +48,7 @@ fn answer(
     }
 }
 
-/// By a type of indices, in which a place past the window is `past`.
+/// Compares takes by a type of indices, in which a place past the window becomes the index `past`.
 fn takes<I: BitIndex + TryFrom<usize> + Debug>(
     case: &Case,
     places: &[usize],
@@ -168,7 +168,7 @@ fn keeps<T: Value + Copy + PartialEq + Debug>(
         + same("scatter_into", (put, back), (kept.len(), scattered))?)
 }
 
-/// Which values compare so, with a number and with others, in each way there is.
+/// Compares values with a number and with other values, by each comparison.
 fn compares<T: Compare + Debug>(case: &Case, value: impl Fn(usize) -> T) -> Result<u64, String> {
     let column: Vec<T> = (0..case.len)
         .map(|i| value(3 * usize::from(bit(&case.left, case.l + i)) + i % 3))
@@ -203,7 +203,7 @@ fn compares<T: Compare + Debug>(case: &Case, value: impl Fn(usize) -> T) -> Resu
     Ok(calls)
 }
 
-/// Of each type that is compared, near the ends of what it holds.
+/// Compares comparisons of values of each type, near the ends of its range.
 fn comparisons(case: &Case) -> Result<u64, String> {
     Ok(compares(case, |i| (i as u8).wrapping_sub(2))?
         + compares(case, |i| i as i8 - 3)?
@@ -227,8 +227,8 @@ fn comparisons(case: &Case) -> Result<u64, String> {
         })?)
 }
 
-/// By types of few indices, of the bits that these can name. Half of the cases have one that is past
-/// these.
+/// Compares takes by narrow types of indices, from as many bits as these can index. In half of the
+/// cases an index may be past these bits.
 fn narrow<I, J>(case: &Case, random: &mut Random, past: I, negative: J) -> Result<u64, String>
 where
     I: BitIndex + TryFrom<usize> + Debug + Copy,
@@ -249,7 +249,7 @@ where
     Ok(takes(&few, &places, past)? + takes(&few, &places, negative)?)
 }
 
-/// Of two cases one has indices past the window among its own.
+/// In half of the cases an index may be past the window.
 pub fn compare(case: &Case, random: &mut Random) -> Result<u64, String> {
     let most = case.len + random.below(2);
     let count = if most == 0 {

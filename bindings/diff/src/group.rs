@@ -27,7 +27,7 @@ fn plain(
     Ok((counts, sums))
 }
 
-/// The bitmaps of the codes, of which `refused` is the first that has none.
+/// Compares the bitmaps by code. `refused` is the first selected row whose code has no bitmap.
 fn by_code<I: BitIndex>(
     case: &Case,
     mask: Option<Bits<'_>>,
@@ -75,7 +75,8 @@ fn extremes<I: BitIndex>(
         + same("group_max", (above.err(), greatest), (refused, max))?)
 }
 
-/// All calls with codes of each type, all of groups in half of the cases, and else few of none.
+/// All calls with codes of each type. In half of the cases each code has a group; in the others a
+/// few codes may have none.
 macro_rules! grouped {
     ($case:ident, $random:ident: $($code:ty)*) => {{
         let mut calls = 0;

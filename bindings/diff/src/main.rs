@@ -1,10 +1,9 @@
-//! Random calls of `vortex_bits`, whose answers are compared with loops over single bits, and with
-//! those of vortex-buffer where it is built with it.
+//! Makes random calls of `vortex_bits`, and compares their results with those of loops over single
+//! bits; with the feature `upstream` also with those of vortex-buffer.
 //!
 //!     diff [CALLS [SEED]]
 //!
-//! CALLS is how many calls are made at each level that there is code for, two million unless it is
-//! said.
+//! CALLS is the number of calls at each level that there is code for, 2,000,000 by default.
 
 mod aggregate;
 mod ask;

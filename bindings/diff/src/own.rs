@@ -97,7 +97,7 @@ fn unset(bits: Bits<'_>, n: usize, left: &[bool]) -> Result<u64, String> {
         )?)
 }
 
-/// Growth in bytes of its own and in shared ones, of which another one keeps a part.
+/// Compares bitmaps that grow: one in its own bytes, and one in bytes that other bitmaps share.
 fn grows(case: &Case, random: &mut Random, left: &[bool], right: &[bool]) -> Result<u64, String> {
     let start = random.below(left.len() + 1);
     let mut shared = Bitmap::new(case.left.as_slice(), case.l, case.len);
@@ -148,7 +148,7 @@ fn grows(case: &Case, random: &mut Random, left: &[bool], right: &[bool]) -> Res
         + lists("share", list(&owned.share()), &wanted)?)
 }
 
-/// The bits of a validity that was made, or as many true ones.
+/// Returns the bits of a validity that a call returned; `len` true bits if it is missing.
 fn filled(made: Option<Bitmap>, len: usize) -> Vec<bool> {
     made.map_or(vec![true; len], |made| list(&made))
 }

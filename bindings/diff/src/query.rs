@@ -8,7 +8,7 @@ use crate::case::{Case, bit, put};
 use crate::plain;
 use crate::random::Random;
 
-/// The bits on the left by those on the right.
+/// Compares the counts of set bits on the left: those that are set on the right, and the others.
 fn counts(case: &Case) -> Result<u64, String> {
     let (left, right) = (plain::bits(case.left()), plain::bits(case.right()));
     let count = |with| {
@@ -20,7 +20,7 @@ fn counts(case: &Case) -> Result<u64, String> {
     same("split_count", case.left().split_count(case.right()), wanted)
 }
 
-/// Which values have a set bit on the left. Some aren't among the bits.
+/// Compares which values are the index of a set bit on the left. Some values are out of range.
 fn members<I: BitIndex + Copy>(
     case: &Case,
     random: &mut Random,

@@ -3,7 +3,7 @@
 pub struct Random(u64);
 
 impl Random {
-    /// Of seed 0 as of seed 1, since 0 gives 0 for ever.
+    /// Returns the numbers of a seed. Seed 0 gives those of seed 1: xorshift would stay at 0.
     pub fn new(seed: u64) -> Random {
         Random(seed.max(1))
     }

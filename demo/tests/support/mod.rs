@@ -99,7 +99,7 @@ pub fn error(file: &Path, args: &[&str]) -> String {
 /// The columns of random tables: two of whole numbers, two of floats, two of texts.
 pub const COLUMNS: [&str; 6] = ["a", "B", "x", "y z", "t", "u\"v"];
 
-/// Whole numbers, some at the ends and where floats have none.
+/// Whole numbers, some at the ends of 64 bits, and some that no float equals.
 pub const WHOLES: [&str; 12] = [
     "0",
     "1",

@@ -250,7 +250,7 @@ class Checked(unittest.TestCase):
         self.assertEqual({it: kind_of(it, deps, linked) for it in wanted}, wanted)
 
     def test_the_kinds_of_the_crates_of_the_repository(self):
-        """A kernel whose user is C alone is of the library, and what C alone stands on is not."""
+        """A kernel that only crates for C need is of the library; the crates for C are not."""
         text = (Path(__file__).resolve().parents[3] / "crates.txt").read_text(encoding="utf-8")
         deps, linked = dependencies(text), statics(text)
         kinds = {it: kind_of(it, deps, linked) for it in deps}

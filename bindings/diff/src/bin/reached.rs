@@ -1,9 +1,10 @@
-//! From which length on a call of `vortex_bits` runs proved code, as its README says. It is linked
-//! with archives whose functions end the program, so each call is made by a program of its own.
+//! Tests that each call of `vortex_bits` runs proved code from the length on that README names. It
+//! is linked with archives whose functions end the program, so it makes each call in its own
+//! process.
 //!
 //!     reached
 //!
-//! A call that runs proved code where it shouldn't, or runs none where it should, is named.
+//! It names each call that runs proved code where it shouldn't, or runs none where it should.
 
 use std::env;
 use std::os::unix::process::ExitStatusExt;
@@ -12,7 +13,7 @@ use std::process::{Command, ExitCode, Stdio};
 use vortex_bits::{Bitmap, Bits, BitsMut, Comparison, Ranks, values};
 
 const NEVER: usize = usize::MAX;
-/// More bits than any call here is made of.
+/// The greatest number of bits, values or indices of a call.
 const MOST: usize = 600;
 static BYTES: [u8; 100] = [0xA7; 100];
 
