@@ -56,7 +56,7 @@ class Linker:
 
     # ---- the walk
     def run(self) -> Iterator[Linked]:
-        depth, i, text_start = 0, 0, True
+        depth, i = 0, 0
         while i < len(self.words):
             word = self.words[i]
             if word.kind == "bracket":

@@ -10,6 +10,7 @@ is BOOLEAN: GDAL 3.6.2 sets wrong bits for one in the stream of a GeoPackage.
 """
 import csv
 import random
+import re
 import sqlite3
 import subprocess
 import sys
@@ -68,7 +69,8 @@ def make(file: Path, rows: int) -> None:
 
 def main() -> int:
     words = sys.argv[1:]
-    if len(words) not in (1, 2) or (len(words) == 2 and not words[1].isdigit()):
+    # isdigit() also holds for digits that int() doesn't read, as a superscript.
+    if len(words) not in (1, 2) or not all(re.fullmatch("[0-9]{1,18}", it) for it in words[1:]):
         print(__doc__)
         return 2
     make(Path(words[0]), int(words[1]) if len(words) == 2 else 120)

@@ -36,7 +36,7 @@ impl<A: Allocator + Clone> Hidden<A> {
 
 
 class Untested(unittest.TestCase):
-    def said(self, test: str) -> tuple[int, list[str]]:
+    def said(self, test: str, *words: str) -> tuple[int, list[str]]:
         """Returns the status and the lines if this text is the only test."""
         sources = {
             "vortex_buffer": "pub use low::{Set,\n    join};\n",
@@ -52,7 +52,7 @@ class Untested(unittest.TestCase):
             command = Path(folder, "tools/untested")
             command.parent.mkdir()
             shutil.copy(COMMAND, command)
-            ended = subprocess.run([command], capture_output=True, text=True)
+            ended = subprocess.run([command, *words], capture_output=True, text=True)
         return ended.returncode, ended.stdout.splitlines()
 
     def test_public_calls_that_ask_for_memory_are_listed(self):
@@ -70,6 +70,12 @@ class Untested(unittest.TestCase):
     def test_a_longer_name_is_another_one(self):
         status, lines = self.said("set.append_all(true)?;\nself.join(alloc)?;\nSet::newer();\n")
         self.assertEqual((status, lines[-1]), (1, "3 calls, 3 in no test"))
+
+    def test_an_unknown_argument_is_refused(self):
+        status, lines = self.said("", "--al")
+        self.assertEqual((status, lines[-1]), (2, ""))
+        self.assertIn("usage: tools/untested [--all]", lines)
+        self.assertEqual(self.said("", "--all")[0], 1)
 
 
 if __name__ == "__main__":
