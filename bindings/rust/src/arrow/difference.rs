@@ -7,6 +7,8 @@ use super::array::Array;
 use super::error::{ArrowError, Of};
 use super::export::Export;
 use super::field::{Field, NULLABLE};
+use super::layout::Layout;
+use crate::Validity;
 
 /// The words for two types in an error.
 pub(super) struct Between {
@@ -121,10 +123,13 @@ impl Between {
     }
 }
 
-/// Returns the number of null rows. Unions and run-end-encoded arrays have their nulls in the
-/// children only.
+/// Returns the number of null rows, counted anew: a producer's number may be wrong, and slices don't
+/// have it. Unions and run-end-encoded arrays have their nulls in the children only.
 fn null_count(rows: &Array) -> usize {
-    rows.null_count().unwrap_or(0)
+    match rows.field().layout {
+        Layout::Nulls => rows.len(),
+        _ => rows.validity().map_or(0, Validity::count_zeros),
+    }
 }
 
 /// Returns the name of a column within another one.

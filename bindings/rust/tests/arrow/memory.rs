@@ -21,6 +21,8 @@ const LARGE: usize = 2048;
 thread_local! {
     /// The number of large requests before the one that is refused.
     static LEFT: Cell<usize> = const { Cell::new(usize::MAX) };
+    /// A request of more bytes is refused.
+    static MOST: Cell<usize> = const { Cell::new(usize::MAX) };
     /// The bytes of the last request that was refused.
     static REFUSED: Cell<usize> = const { Cell::new(0) };
     /// The bytes of all requests.
@@ -33,7 +35,7 @@ unsafe impl GlobalAlloc for Refusing {
         ASKED.with(|asked| asked.set(asked.get() + layout.size()));
         let is_refused = layout.size() > LARGE
             && LEFT.with(|left| left.replace(left.get().saturating_sub(1)) == 0);
-        if is_refused {
+        if is_refused || layout.size() > MOST.get() {
             REFUSED.set(layout.size());
             return ptr::null_mut();
         }
@@ -72,6 +74,34 @@ fn refused(call: impl Fn() -> Result<Export, ArrowError>) -> usize {
         }
     };
     (0..usize::MAX).take_while(is_refused).count()
+}
+
+#[test]
+fn bytes_of_null_texts_need_no_memory() {
+    const LONG: i64 = 1 << 20;
+    let none = Count::default();
+    let ends: Vec<u8> = [0, 1, 1 + LONG, 2 + LONG]
+        .iter()
+        .flat_map(|it: &i64| it.to_ne_bytes())
+        .collect();
+    let mut bytes = vec![b'n'; 2 + (1 << 20)];
+    (bytes[0], bytes[1 + (1 << 20)]) = (b'x', b'y');
+    let buffers = vec![
+        Some(Buffer::new(&[0b101], 0)),
+        Some(Buffer::new(&ends, 0)),
+        Some(Buffer::new(&bytes, 0)),
+    ];
+    let texts = raw::import_as(raw::Array::new(3, buffers, &none), "U").unwrap();
+    let parts = [texts.clone(), texts.clone()];
+    MOST.set(1 << 16);
+    let all = texts.filter(None::<Bits>);
+    let joined = Export::concat(texts.field(), &parts);
+    MOST.set(usize::MAX);
+    for (rows, times) in [(all, 1), (joined, 2)] {
+        let rows = rows.unwrap().into_array();
+        let wanted = [Some(&b"x"[..]), None, Some(b"y")].repeat(times);
+        assert!(rows.texts().unwrap().iter().eq(wanted));
+    }
 }
 
 /// Returns the result, and the bytes of all requests.

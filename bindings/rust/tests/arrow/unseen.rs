@@ -2,6 +2,7 @@
 //! neither a result nor an error depends on them.
 use vortex_bits::arrow::{Array, Export};
 
+use crate::export::raw_of;
 use crate::raw::{self, Buffer, Count, Schema, import};
 
 /// Numbers of 32 bits as bytes.
@@ -245,6 +246,71 @@ fn null_list_views_have_any_numbers() {
     let joined = Export::concat(both[0].field(), &both).unwrap();
     let joined = joined.into_array();
     assert_eq!((joined.len(), joined.null_count()), (6, Ok(2)));
+}
+
+#[test]
+fn items_of_null_list_views_are_left_out() {
+    let none = Count::default();
+    let lists = |valid: u8, offset: i32, items: i64| {
+        let items = raw::Array::new(items, vec![], &none).nulls(-1);
+        let buffers = vec![
+            Some(Buffer::new(&[valid], 0)),
+            Some(ints(&[offset])),
+            Some(ints(&[1])),
+        ];
+        let array = raw::Array::of(1, buffers, vec![items], None, &none);
+        let items = vec![Schema::new("item", "n", &none)];
+        import(array, Schema::of("", "+vl", items, None, &none)).unwrap()
+    };
+    // More items than numbers of 32 bits can represent, if they were joined.
+    let (null, one) = (lists(0, 5, i32::MAX.into()), lists(1, 0, 1));
+    for parts in [[&null, &one, &null, &one], [&null, &null, &one, &one]] {
+        let parts = parts.map(Array::clone);
+        let (rows, _schema) = raw_of(Export::concat(one.field(), &parts).unwrap());
+        assert_eq!((rows.length, rows.null_count), (4, 2));
+        // SAFETY: a list view has one child.
+        assert_eq!(unsafe { (**rows.children).length }, 1);
+    }
+    let joined = Export::concat(one.field(), &[null.clone(), null]).unwrap();
+    assert_eq!(joined.into_array().null_count(), Ok(2));
+}
+
+#[test]
+fn a_wrong_number_of_nulls_refuses_no_rows() {
+    let none = Count::default();
+    let bits = |nulls| {
+        let valid = Some(Buffer::new(&[0b11], 0));
+        let values = Some(Buffer::new(&[7, 7], 0));
+        raw::import_as(
+            raw::Array::new(2, vec![valid, values], &none).nulls(nulls),
+            "C",
+        )
+        .unwrap()
+    };
+    let runs = |nulls| {
+        let ends = raw::Array::values(1, None, &[2, 0, 0, 0], &none);
+        let values = raw::Array::values(1, None, &[7], &none);
+        let array = raw::Array::of(2, vec![], vec![ends, values], None, &none).nulls(nulls);
+        let fields = vec![
+            Schema::new("ends", "i", &none),
+            Schema::new("values", "C", &none),
+        ];
+        import(array, Schema::of("", "+r", fields, None, &none)).unwrap()
+    };
+    for nulls in [-1, 0, 2] {
+        for rows in [bits(nulls), runs(nulls)] {
+            let field = rows.field().clone().nullable(false);
+            let parts = [rows.slice(..1), rows.slice(1..)];
+            for parts in [&[rows.clone()][..], &parts] {
+                let joined = Export::concat(&field, parts);
+                assert_eq!(joined.map(|it| it.len()), Ok(2), "{nulls} {field:?}");
+            }
+            assert!(
+                Export::from(rows).with_field(&field).is_ok(),
+                "{nulls} {field:?}"
+            );
+        }
+    }
 }
 
 #[test]

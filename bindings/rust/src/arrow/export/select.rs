@@ -225,9 +225,9 @@ impl Export {
     ///
     /// It copies the rows as [`Array::filter`] does. Slices of one array continue to share its
     /// dictionary, the items of its list views and the buffers of its views. Otherwise the
-    /// dictionaries and the items of list views are copied, those of each array once and one array
-    /// after the other, and the indices and offsets are adjusted. The items of a dictionary are
-    /// then in no order, whatever the field's flags say.
+    /// dictionaries and the items of list views are copied, those of each array with a valid row
+    /// once and one array after the other, and the indices and offsets are adjusted. The items of a
+    /// dictionary are then in no order, whatever the field's flags say.
     ///
     /// ```
     /// use vortex_bits::arrow::{Export, Field};

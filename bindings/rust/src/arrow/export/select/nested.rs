@@ -50,8 +50,8 @@ pub(super) fn fixed_lists(
     Ok(made)
 }
 
-/// Selects rows of list views: their offsets and sizes. The items are those of all arrays. `valid`
-/// has a bit per row.
+/// Selects rows of list views: their offsets and sizes. The items are those of all arrays with a
+/// valid row. `valid` has a bit per row.
 pub(super) fn list_views(
     field: &Field,
     width: usize,
@@ -59,8 +59,13 @@ pub(super) fn list_views(
     rows: Rows<'_>,
     valid: Option<Bits<'_>>,
 ) -> Result<Made, ArrowError> {
-    let items = || of.iter().map(|it| &it.node.children[0]);
-    if let Some(items) = only(items()) {
+    let used = with_valid_rows(field, of.len(), rows, valid)?;
+    let items = || {
+        let used = of.iter().zip(&used).filter(|(_, is_used)| **is_used);
+        used.map(|(it, _)| &it.node.children[0])
+    };
+    let one = only(items());
+    if let Some(items) = one.filter(|_| used.iter().all(|is_used| *is_used)) {
         let numbers = of.iter().map(|it| it.list_view_numbers(width));
         let numbers = numbers.map(|[offsets, sizes]| (offsets, sizes));
         let (offsets, sizes): (Vec<&[u8]>, Vec<&[u8]>) = numbers.unzip();
@@ -70,16 +75,24 @@ pub(super) fn list_views(
         return Ok(made);
     }
     let items = Nodes::of(items());
-    let before: Vec<usize> = items.before(Array::len).collect();
+    let mut before = items.before(Array::len);
+    let before = used
+        .iter()
+        .map(|is_used| if *is_used { before.next() } else { None });
+    let before: Vec<usize> = before.map(Option::unwrap_or_default).collect();
     let number = items.each.iter().map(Array::len);
     let number = number.fold(0, usize::saturating_add);
-    if width == 4 && i32::try_from(number).is_err() {
+    if width == 4 && one.is_none() && i32::try_from(number).is_err() {
         return Err(too_long(field, "items of lists", number, i32::MAX.into()));
     }
     let mut offsets = zeroed(field, rows.len(), width)?;
     let mut sizes = zeroed(field, rows.len(), width)?;
     move_lists(of, width, rows, valid, &before, [&mut offsets, &mut sizes])?;
     let mut made = Made::of([offsets, sizes]);
+    if let Some(items) = one {
+        made.below.push(shared(items, items.offset, items.len));
+        return Ok(made);
+    }
     let all = all_rows(field, &items.each)?;
     made.children(field, |_| &items.each[..], |_| all.rows())?;
     Ok(made)

@@ -33,14 +33,16 @@ pub(super) fn texts(
     let joined = of.iter().map(Array::joined);
     let (ranges, bytes): (Vec<_>, Vec<_>) =
         joined.collect::<Result<Vec<_>, _>>()?.into_iter().unzip();
-    // With the bytes of null rows there are fewer runs to copy, but they may be too many.
-    let all = offsets(field, width, &ranges, rows, None);
-    let (offsets, parts) = match all {
-        Err(_) if valid.is_some() => offsets(field, width, &ranges, rows, valid)?,
-        all => all?,
+    let copied = |valid| {
+        let (offsets, parts) = offsets(field, width, &ranges, rows, valid)?;
+        let bytes = fixed::values(field, 1, &bytes, parts.rows())?;
+        Ok(Made::of([offsets, bytes]))
     };
-    let bytes = fixed::values(field, 1, &bytes, parts.rows())?;
-    Ok(Made::of([offsets, bytes]))
+    // With the bytes of null rows there are fewer runs to copy, but they may be too many.
+    match copied(None) {
+        Err(_) if valid.is_some() => copied(valid),
+        made => made,
+    }
 }
 
 /// Selects rows of lists: new offsets, and the items of the rows. `valid` has a bit per row.
