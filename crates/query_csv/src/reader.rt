@@ -70,7 +70,7 @@ impl<R: Read + Drop> Reader<R> {
         Ok(false)
     }
 
-    /// Reads the number of bytes of a byte-order mark, unless the input ends before.
+    /// Reads at least as many bytes as a byte-order mark has, unless the input ends before.
     fn read_start(&mut self) -> io::Result<()> {
         for _ in 0..BYTE_ORDER_MARK.len() {
             let space = self

@@ -13,7 +13,7 @@ pub struct Rows {
 }
 
 impl Rows {
-    /// Returns no rows, which will have `width` fields each.
+    /// Returns an empty list of rows, for rows of `width` fields each.
     pub fn new(alloc: Global, width: usize) -> Result<Rows, AllocError> {
         Ok(Rows {
             bytes: Vec::new(alloc),

@@ -60,15 +60,17 @@ impl Step {
     }
 }
 
-/// Returns whether most numbers of a range are in the first of many bins of equal width.
+/// Returns whether the numbers of a range are at least 0, span a factor of [`DECADES`] or more, and
+/// have their mean in the first of [`BINS`] bins of equal width. Most of them are then likely in
+/// that bin.
 fn is_skewed(least: f64, greatest: f64, mean: f64) -> bool {
     let start = if least == 0.0 { 1.0 } else { least };
     least >= 0.0 && greatest / start >= DECADES && mean - least < (greatest - least) / BINS
 }
 
 /// Returns the number at which each bin of whole numbers begins, from the least on. The last bin
-/// has no end. The bins have equal width, or grow with the numbers if most of these would be in
-/// the first bin.
+/// has no end. The bins have equal width, or grow with the numbers if these are skewed
+/// (`is_skewed`).
 pub fn wholes(alloc: Global, least: i64, greatest: i64, mean: f64) -> Result<Vec<i64>, AllocError> {
     let (low, high) = (nearest_i64_to_f64(least), nearest_i64_to_f64(greatest));
     if is_skewed(low, high, mean) {

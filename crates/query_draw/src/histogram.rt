@@ -110,7 +110,7 @@ impl Histogram {
         Ok(line)
     }
 
-    /// Takes the next batch, with a bit per row that is kept.
+    /// Takes the next batch. `kept` has a bit per row, which is set if the row is kept.
     pub fn take(&mut self, alloc: Global, batch: &Batch<'_>, kept: &BitBuffer) -> Result<()> {
         let column = batch.column(self.column)?;
         let Some(keys) = column.keys() else {

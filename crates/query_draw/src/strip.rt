@@ -56,7 +56,8 @@ impl Strip {
         Ok(line)
     }
 
-    /// Takes the next batch, as a bit per row that is kept, and the number of rows before it.
+    /// Takes the next batch: `kept` has a bit per row, which is set if the row is kept, and
+    /// `before` is the number of rows before the batch.
     pub fn take(&mut self, before: u64, kept: &BitBuffer) {
         for cell in 0..self.kept.len() {
             let from = within(self.start(cell), before, kept.len());

@@ -16,7 +16,7 @@ pub struct Batch<'a> {
 }
 
 impl<'a> Batch<'a> {
-    /// Reads the columns of rows that `uses` marks.
+    /// Reads the columns that `uses` marks, for these rows.
     ///
     /// Fails if a field isn't of its column's type, since the file has changed.
     pub fn read(

@@ -1,4 +1,4 @@
-//! Conditions and lists of answers, by their steps.
+//! Conditions, by their steps.
 use crate::{Condition, Step, parse_condition};
 use query_csv::{Failure, Source};
 use std::alloc::{AllocError, Global};

@@ -153,7 +153,7 @@ fn put_edit(lines: &mut Vec<u8>, random: &mut Random) -> Added {
 
 /// Lines that freeze a set of 100,000 bits or more, share it whole and by two windows of one
 /// length, and thaw it while the others share it. Operators combine the windows: into a new set, in
-/// a set with two owners, and in one with one owner.
+/// a set whose storage others share, and in one with one owner.
 const SHARED: &str = "count 0\nfreeze 0\nclone 0 1\nslice 0 5 90005 2\nslice 0 8 90008 3\neq 0 1\n\
     thaw 0\ntruncate 0 100000\nand ref 2 3 4\nxor own 3 2 3\nor own 4 2 4\nnot ref 4 5\n\
     count 3\ncount 4\nlast 5\ndrop 1\ndrop 2\ndrop 3\ndrop 4\ndrop 5\n";

@@ -53,7 +53,7 @@ pub(crate) fn len_of<A: Allocator + Clone>(made: Result<BitBuffer<A>>) -> Result
     Ok(len)
 }
 
-/// Whether the set that was made is equal to the other one is as wanted.
+/// The set that was made is equal to the other one or not, as `wanted` says.
 pub(crate) fn compares<A: Allocator + Clone>(
     rt: &impl Abort,
     set: &BitBuffer<A>,

@@ -7,7 +7,7 @@ use vb_core::{BufferError, Result};
 use vb_mem::ByteBuffer;
 use vb_testing::{Handle, Refusing};
 
-/// A call that makes a set, of nine true bits where it is made of another one.
+/// A call that makes a set. If it makes the set of another one, that has nine true bits.
 enum Call {
     NewSet,
     NewUnset,

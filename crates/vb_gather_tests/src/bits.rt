@@ -13,7 +13,7 @@ pub(crate) fn bits(row: &Row) -> Row {
     Row(row.0, 2, Kept::OneIn(3))
 }
 
-/// Whether these are the bits that a plain loop keeps of a row's.
+/// Whether these are the bits of a row that a plain loop keeps by its mask.
 fn are_plain<A: Allocator + Clone>(made: Result<BitBuffer<A>>, row: &Row) -> Result<bool> {
     let given = made?;
     let bits = bits(row);

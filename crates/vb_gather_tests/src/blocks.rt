@@ -11,7 +11,7 @@ use vb_view::BitBufferView;
 /// How many positions there are: blocks alone, one fewer and one more.
 const LENGTHS: &[usize] = &[0, 1, 63, 64, 65, 128];
 
-/// Which positions count: all, none, and numbers of each 64 on both sides of the threshold of 20.
+/// Which positions count: all, none, and of each 64 positions 20, the threshold, or more.
 const COUNTING: &[Kept] = &[
     Kept::OneIn(1),
     Kept::OneIn(5000),
@@ -47,7 +47,7 @@ fn named<T: Copy, I: BitIndex>(values: &[T], index: I) -> Option<T> {
     values.get(index.place()?).copied()
 }
 
-/// So many items.
+/// 130 copies of an item.
 fn copies<T: Copy>(rt: &impl Abort, alloc: Global, item: T) -> Vec<T> {
     let mut items = Vec::new(alloc);
     for _ in 0..130 {
@@ -83,7 +83,7 @@ fn leaves_what_a_loop_leaves<T: Element + PartialEq + Debug, I: BitIndex>(
     drop((out, wanted));
 }
 
-/// So many of the five indices in turn, and one at a position that names no value.
+/// So many indices: the five in turn, but at position `at` one that names no value.
 fn indices<I: BitIndex>(
     rt: &impl Abort,
     alloc: Global,

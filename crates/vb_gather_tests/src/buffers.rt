@@ -16,7 +16,7 @@ enum Call {
     Filtered,
     /// The items at the numbers from 0 on, as many as the set has bits.
     Taken,
-    /// Those of them that are true in the set.
+    /// The same where the set is true, and 0 elsewhere.
     TakenWhereValid,
 }
 

@@ -26,7 +26,7 @@ const ROWS: &[(Comparison, &str, &str)] = &[
     (Comparison::GreaterOrEqual, "011111", "010111"),
 ];
 
-/// The set has these bits where the validity has, and false elsewhere.
+/// The set has these bits where the validity is true, and false elsewhere.
 fn shows(
     rt: &impl Abort,
     made: Result<BitBuffer<Heap<'_>>>,

@@ -76,7 +76,7 @@ const MASKS: [Kept; 4] = [
     Kept::AllButOneIn(64),
 ];
 
-/// The first items are those that a mask keeps, as many as are answered.
+/// The first items are those that a mask keeps. Returns their number.
 fn are_kept(rt: &impl Abort, items: &[Wide], mask: Kept) -> usize {
     let mut kept = 0usize;
     for place in 0..MANY {

@@ -43,7 +43,7 @@ fn place(truth: Truth) -> usize
     }
 }
 
-/// Truth values of which those are null where a validity, if there is one, is false.
+/// Truth values, which are null where a validity, if there is one, is false.
 #[derive(Clone, Copy)]
 struct Column {
     values: Row,

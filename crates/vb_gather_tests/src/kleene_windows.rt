@@ -22,7 +22,7 @@ struct Side {
     validity: Option<usize>,
 }
 
-/// The bits with which the windows begin that are written, and the columns.
+/// The bits with which the written windows begin, and the columns.
 #[derive(Clone, Copy)]
 struct Windows {
     trues: usize,

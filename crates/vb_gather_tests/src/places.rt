@@ -20,7 +20,7 @@ const PLACES: &[(usize, &[usize], Result<&str>)] = &[
     ),
 ];
 
-/// A set to be shared, made as it is or by way of one to edit.
+/// A set to be shared, made directly or by way of one to edit.
 fn made<A: Allocator + Clone>(
     alloc: A,
     is_shared: bool,

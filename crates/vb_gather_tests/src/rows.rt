@@ -34,7 +34,7 @@ const AT_0: Result<&str> = Err(BufferError::TakeOutOfRange { position: 0 });
 
 const AT_2: Result<&str> = Err(BufferError::TakeOutOfRange { position: 2 });
 
-/// From which bits is taken and at which indices, and the answer.
+/// The bits that are taken from, the indices, and the answer.
 const TAKEN: &[(&str, Indices, Result<&str>)] = &[
     ("1111", Indices::U8(&[9]), AT_0),
     ("0101", Indices::I64(&[3, 0, -1]), AT_2),

@@ -17,7 +17,7 @@ enum Call {
     IntersectByRank,
     /// The bits at the numbers from 0 on, as many as the other set has bits.
     Taken,
-    /// Those of them that are true in the other set.
+    /// The same where the other set is true, and false elsewhere.
     TakenWhereValid,
 }
 

@@ -13,7 +13,7 @@ use vb_testing::{Handle, Refusing};
 /// The squares that are taken from.
 const SQUARES: &[u32] = &[0, 1, 4, 9, 16];
 
-/// A take at the positions that are valid, of which there are as many as indices.
+/// A take at the positions that are valid. The validity has a bit per index.
 fn taken<A: Allocator + Clone, I: BitIndex>(
     values: &Buffer<u32, A>,
     indices: &[I],
@@ -41,7 +41,7 @@ fn squares<A: Allocator + Clone, I: BitIndex>(
     taken
 }
 
-/// Squares 4, 0 and 4 once more are taken by these indices of a type.
+/// The squares of 4, 0 and 4 are taken by these indices of a type.
 fn takes<I: BitIndex>(rt: &impl Abort, alloc: Global, indices: &[I]) {
     let values = Buffer::copy_from(alloc, SQUARES).expect(rt, "memory");
     let taken = values.taken(indices, None);
@@ -100,7 +100,7 @@ fn taken_where<A: Allocator + Clone>(
     taken
 }
 
-/// The first of the positions from one on that counts.
+/// The first position from `from` on that counts.
 fn first_counting(row: &Row, from: usize) -> Option<usize> {
     (from..row.0).find(|position| row.has(*position))
 }

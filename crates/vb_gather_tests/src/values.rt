@@ -10,7 +10,7 @@ use vb_mem::Buffer;
 use vb_testing::{Handle, Refusing};
 use vb_view::BitBufferView;
 
-/// Whether these are the places that a plain loop keeps of a row's.
+/// Whether these are the places of a row that a plain loop keeps by its mask.
 fn is_plain(given: &[u32], row: &Row) -> bool {
     let places = (0..row.0).filter(|place| row.has(*place));
     given.iter().map(|value| *value as usize).eq(places)

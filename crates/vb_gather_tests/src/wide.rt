@@ -5,10 +5,10 @@ ghost use Rattle.vb_gather_tests.specs.WideLaws.{IsWide, wide_bytes, wide_of, wi
 
 use vb_core::Element;
 
-/// Its bytes.
+/// An element of 128 KiB.
 #[derive(Clone, Copy)]
 pub struct Wide {
-    /// So many.
+    /// Its bytes.
     pub bytes: [u8; 131_072],
 }
 

@@ -41,8 +41,8 @@ struct Bytes {
 }
 
 impl Bytes {
-    /// So many bytes of each. Values repeat after seven bits, which shows one that is taken for
-    /// another up to six places off.
+    /// So many bytes of each. Values repeat after seven bits, so that a shift by up to six places
+    /// shows.
     fn new(rt: &impl Abort, alloc: Global, count: usize, mask: Kept) -> Bytes {
         Bytes {
             out: bytes_of(rt, alloc, count, Kept::AllButOneIn(3)),

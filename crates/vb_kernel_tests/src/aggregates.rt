@@ -28,7 +28,8 @@ struct Row<T, S> {
     greatest: Option<T>,
 }
 
-/// The row is that of the values whose bit from bit 3 of the bytes on is true.
+/// The row is that of the values whose bit of the mask is true. The mask begins at bit 3 of the
+/// bytes.
 fn answers<T: WideSummand<Total = S> + PartialEq + Drop, S: PartialEq + Drop>(
     rt: &impl Abort,
     values: &[T],

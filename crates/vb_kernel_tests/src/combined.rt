@@ -90,7 +90,7 @@ pub(crate) fn looks_tell(
     equal_at(rt, within, andnot == 0, (l, r, len));
 }
 
-/// Windows from these bits on, of each length up to `most`.
+/// Windows from these bits on, of each length below `most`.
 fn counts_are_plain(rt: &impl Abort, left: &[u8], l: usize, right: &[u8], r: usize, most: usize) {
     holds(rt, window_fits(left, l, most));
     holds(rt, window_fits(right, r, most));
@@ -134,7 +134,8 @@ fn counts_of_long_windows_are_plain(rt: HostRuntime) {
     }
 }
 
-/// Windows of which all bits but the last one, or all, are true on one side alone.
+/// A window whose only true bit is bit 203, if it has that bit, beside one of true bits and one of
+/// false bits. So bit 203 alone decides.
 #[test]
 fn windows_are_told_by_their_last_bit(rt: HostRuntime) {
     let (clear, full) = (&[0; 40], &[0xFF; 40]);

@@ -19,7 +19,7 @@ fn count_is_plain(rt: &impl Abort, bytes: &[u8], offset: usize, len: usize) {
     equal_at(rt, is_within, true, (offset, len));
 }
 
-/// Lengths of windows from each bit on up to bit 30.
+/// Lengths of the windows that begin at each bit up to bit 30.
 const SHORT: [usize; 21] = [
     0, 1, 2, 7, 8, 9, 15, 16, 17, 31, 32, 33, 63, 64, 65, 127, 128, 255, 256, 257, 513,
 ];

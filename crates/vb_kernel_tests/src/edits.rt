@@ -56,7 +56,8 @@ pub(crate) fn combined_bit(how: Combined, left: bool, right: bool) -> bool {
     }
 }
 
-/// Where a window begins that is written, where one that is read, and how long both are.
+/// Where the window that is written begins, where the one that is read begins, and how long both
+/// are.
 type Windows = (usize, usize, usize);
 
 fn combined_is_plain(

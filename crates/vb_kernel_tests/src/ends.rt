@@ -12,7 +12,8 @@ const MOST: usize = 20;
 /// The bytes that are written, and those that are read.
 type Sides = ([u8; MOST], [u8; MOST + 2]);
 
-/// Where a window begins that is written, where one that is read, and how long both are.
+/// Where the window that is written begins, where the one that is read begins, and how long both
+/// are.
 type Windows = (usize, usize, usize);
 
 /// What a plain loop makes of the window that is written.

@@ -90,7 +90,8 @@ fn bytes_of(kind: usize) -> [u8; ROOM] {
     bytes
 }
 
-/// All lengths below 201 at each offset within a byte, and some long ones, for each kind of mask.
+/// All lengths below 201, at offsets from 0 to 8 in turn, and some long ones, for each kind of
+/// mask.
 fn scattered_beside_a_loop<T: Element + PartialEq + Debug>(rt: &impl Abort, alloc: Global) {
     let kept = values::<T>(rt, alloc, ITEMS, 1);
     let mut items = values::<T>(rt, alloc, ITEMS, 2);

@@ -145,8 +145,8 @@ fn byte(kind: usize, k: usize) -> u8 {
     }
 }
 
-/// The bits of a float: one of [`ByBits::BITS`], or a number between 2^-8 and 2^8, whose sums are
-/// rounded.
+/// The bits of a float: one of [`ByBits::BITS`], or a number of either sign whose absolute value is
+/// between 2^-8 and 2^8, so that sums are rounded.
 fn some_bits<T: Term>(is_any: bool, state: u32) -> u64 {
     if is_any {
         return bits_of::<T>((state >> 20) as usize);
@@ -158,7 +158,8 @@ fn some_bits<T: Term>(is_any: bool, state: u32) -> u64 {
     one.wrapping_add(size) ^ (digits % (1 << (T::DIGITS % 64))) ^ sign
 }
 
-/// All lengths below 201 at each offset within a byte, and some long ones, for each kind of mask.
+/// All lengths below 201, at offsets from 0 to 8 in turn, and some long ones, for each kind of
+/// mask.
 fn beside_a_loop<T: Term>(rt: &impl Abort, alloc: Global, is_any: bool) {
     let (mut floats, mut orders) = (Vec::new(alloc), Vec::new(alloc));
     let mut state = 1u32;

@@ -16,7 +16,8 @@ pub(crate) trait ByBits: FloatLanes {
     const BITS: &'static [u64];
 
     /// The float with these bits. Bits of a NaN, quiet or signalling, give the NaN of the language,
-    /// which has no sign and no payload: bindings/c/compared.c compares NaNs by their bits.
+    /// which has no sign and no payload. NaNs with a sign or a payload are tested by
+    /// bindings/c/compared.c.
     fn of_bits(bits: u64) -> Self;
 }
 

@@ -1,4 +1,4 @@
-//! Comparisons of floats beside those that are written out by the bits of IEEE 754.
+//! Comparisons of floats, beside the answers that IEEE 754 gives for their bits.
 use crate::float_values::{ByBits, Rank, Ranks, bits_of, rank};
 use crate::written::{ALL, ROOM, STALE, are_written, holds};
 use std::alloc::Global;
@@ -71,7 +71,7 @@ fn with_number<T: ByBits>(
     drop(same);
 }
 
-/// Numbers of floats around those of eight, of one block and of more.
+/// Numbers of floats: around eight, around a block of 64, and around more blocks.
 const LENGTHS: [usize; 15] = [0, 1, 7, 8, 9, 20, 63, 64, 65, 81, 127, 128, 129, 191, 200];
 
 /// Offsets within a byte and around 64.

@@ -20,7 +20,8 @@ struct Found<T> {
     greatest: Option<T>,
 }
 
-/// The values whose bit from bit `offset` on is true, one after the other.
+/// The values whose bit of the mask is true, one after the other. The bit of the first value is bit
+/// `offset`.
 fn found_by_loop<T: Term>(values: &[T], mask: &[u8], offset: usize) -> Found<T> {
     let mut found: Found<T> = Found {
         sum: 0,
@@ -86,7 +87,8 @@ fn byte(kind: usize, k: usize) -> u8 {
     }
 }
 
-/// All lengths below 201 at each offset within a byte, and some long ones, for each kind of mask.
+/// All lengths below 201, at offsets from 0 to 8 in turn and at 0, and some long ones, for each
+/// kind of mask.
 fn beside_a_loop<T: Term>(rt: &impl Abort, alloc: Global) {
     let all = values::<T>(rt, alloc, 1027, 1);
     for kind in 0..7 {

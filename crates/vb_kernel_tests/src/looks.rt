@@ -57,8 +57,8 @@ pub(crate) fn looks_at(at: usize, l: usize, len: usize) -> u64 {
         .looks
 }
 
-/// Neither window is looked at more often than the bound says, nor the right one more than once
-/// more than the left one.
+/// Neither window is looked at more often than the bound says, and the right one is looked at most
+/// one time more than the left one.
 fn looks_are_few(rt: &impl Abort, l: usize, r: usize, len: usize) {
     let (left, right) = (looks_at(l, l, len), looks_at(r, l, len));
     let most = most_looks(len) as u64;
@@ -67,7 +67,7 @@ fn looks_are_few(rt: &impl Abort, l: usize, r: usize, len: usize) {
     equal_at(rt, 512 < len || right <= 16, true, (l, r, len));
 }
 
-/// Windows from these bits on, of each length up to `most`.
+/// Windows from these bits on, of each length below `most`.
 fn looks_are_exact(rt: &impl Abort, left: &[u8], l: usize, right: &[u8], r: usize, most: usize) {
     holds(rt, window_fits(left, l, most));
     holds(rt, window_fits(right, r, most));
@@ -91,8 +91,8 @@ fn looks_at_short_windows_are_exact(rt: HostRuntime) {
     }
 }
 
-/// The counts are compared with those of slices, and at one offset of the right window for each of
-/// the left one with a plain loop.
+/// The counts are compared with those of slices. For each offset of the left window they are also
+/// compared with a plain loop, at one offset of the right window.
 #[test]
 fn looks_at_long_windows_are_exact(rt: HostRuntime) {
     let left = &mut [0; 12_501];
@@ -113,8 +113,9 @@ fn looks_at_long_windows_are_exact(rt: HostRuntime) {
     }
 }
 
-/// Where two windows begin, how long they are, and how often each is looked at. The most looks are
-/// those of a head, seven words, seven bytes and a tail, and of a byte before the right one's head.
+/// Where two windows begin, how long they are, and how often each is looked at. In a window without
+/// a chunk the most looks are those of a head, seven words, seven bytes and a tail, and of a byte
+/// before the right one's head.
 const LOOKS: [(usize, usize, usize, u64, u64); 10] = [
     (0, 0, 513, 2, 2),
     (0, 3, 513, 2, 2),

@@ -29,7 +29,7 @@ fn place_is_plain(rt: &impl Abort, (bytes, offset, len): Window<'_>, place: usiz
     equal_at(rt, given, wanted, (offset, len, place));
 }
 
-/// The whole window: its last true bit, and whether any is true, and each.
+/// The whole window: its last true bit, whether any bit is true, and whether all bits are.
 fn window_is_plain(rt: &impl Abort, (bytes, offset, len): Window<'_>) {
     holds(rt, window_fits(bytes, offset, len));
     let given = (
@@ -97,7 +97,7 @@ fn places_in_equal_bytes(rt: HostRuntime) {
     }
 }
 
-/// One byte of the many that are passed by eight words at once, by four, and one by one.
+/// One byte differs among many, which are passed by eight words at once, by four, and one by one.
 #[test]
 fn places_behind_many_words(rt: HostRuntime) {
     for equal in [0, u8::MAX] {
@@ -118,8 +118,8 @@ fn places_behind_many_words(rt: HostRuntime) {
 /// or have words between these.
 const MOST_BITS: usize = 200;
 
-/// The bits of the window are equal but for the one at a place, in the fewest bytes that have it,
-/// whose other bits are as that one.
+/// The bit at `place` differs from the other bits of the window, and equals the bits outside of it.
+/// The bytes are the fewest that have the window.
 fn one_bit_is_plain(rt: &impl Abort, offset: usize, len: usize, place: usize) {
     holds(rt, offset < 8);
     holds(rt, len <= MOST_BITS);

@@ -241,7 +241,7 @@ fn looks_of_searches_are_known(rt: HostRuntime) {
     let src = &mut Tally::new(bytes);
     equal(rt, next_set_by(src, 3, 3000, 0), Some(1041));
     equal(rt, src.looks(), 4);
-    // The last 2155 bits are one byte in part, four chunks and 104 bits.
+    // The last 2155 bits are 7 bits of a byte, four chunks, and 100 bits of a fifth one.
     let src = &mut Tally::new(bytes);
     equal(rt, last_set_index_by(src, 0, 3199), Some(1044));
     equal(rt, src.looks(), 6);

@@ -205,7 +205,7 @@ const WAYS: &[(Way, Heaps, Heaps)] = &[
     (Way::Shared(OfShared::IntoMut), GIVEN, VECTORS),
     (Way::Shared(OfShared::TryIntoMut), GIVEN, VECTORS),
     (Way::Shared(OfShared::ItemsMut), GIVEN, VECTORS),
-    // What is copied is the buffer's.
+    // A copy has memory of the buffer's allocator, which was given.
     (Way::Shared(OfShared::Beside(Beside::IntoMut)), GIVEN, GIVEN),
     (
         Way::Shared(OfShared::Beside(Beside::ItemsMut)),

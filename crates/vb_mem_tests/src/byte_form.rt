@@ -88,7 +88,7 @@ fn has_items<T: Element + PartialEq + Debug, A: Allocator>(
     drop(buffer);
 }
 
-/// The bytes of two numbers, made of a growing buffer, with a wide alignment.
+/// Two numbers, read with a wide alignment from the bytes of a growing buffer.
 fn read_wide<A: Allocator + Clone>(
     rt: &impl Abort,
     made: Result<BufferMut<i64, A>>,

@@ -17,7 +17,7 @@ fn are_sevens(rt: &impl Abort, items: &[u32]) {
     equal(rt, SEVENS.starts_with(items), true);
 }
 
-/// A call on a growing buffer of a thousand sevens, which fill a storage that is declared with
+/// A call on a growing buffer of a thousand sevens, which fill storage with a declared alignment of
 /// 256 bytes.
 enum Growing {
     Freeze,

@@ -6,7 +6,7 @@ use std::process::Abort;
 use vb_core::{Alignment, Result};
 use vb_mem::Buffer;
 
-/// Four numbers, of which the storage is declared with 1024 bytes.
+/// Four numbers, whose storage has a declared alignment of 1024 bytes.
 fn declared_1024<A: Allocator + Clone>(alloc: A) -> Result<Buffer<u32, A>> {
     let (four, wide) = (Alignment::of::<u32>(), Alignment::from_exponent(10));
     Buffer::copy_from_preferred_aligned(alloc, &[1u32, 2, 3, 4], four, Some(wide))

@@ -116,7 +116,7 @@ fn buffers_compare_by_their_items(rt: HostRuntime) {
     drop(low);
 }
 
-/// Whether two growing buffers are equal is as wanted.
+/// Two growing buffers are equal or not, as `wanted` says.
 fn are_equal<A: Allocator>(
     rt: &impl Abort,
     one: &BufferMut<u32, A>,

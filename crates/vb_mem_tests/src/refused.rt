@@ -7,7 +7,7 @@ use vb_core::{Alignment, BufferError, Result};
 use vb_mem::{Buffer, BufferMut};
 use vb_testing::{Handle, Refusing};
 
-/// The numbers below 256, of which the storage is declared with 1024 bytes.
+/// The numbers below 256, whose storage has a declared alignment of 1024 bytes.
 fn numbers<A: Allocator + Clone>(alloc: A) -> Result<Buffer<u32, A>> {
     let (four, wide) = (Alignment::of::<u32>(), Alignment::from_exponent(10));
     let made = BufferMut::with_capacity_preferred_aligned(alloc, 256, four, Some(wide));

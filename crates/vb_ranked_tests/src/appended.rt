@@ -58,8 +58,8 @@ fn lengthen_by<A: Allocator + Clone>(
     equal(rt, ranked.as_view() == plain.as_view(), true);
 }
 
-/// Offsets and lengths of views: of no bits, of some beside a block, of blocks, and of more than a
-/// group of blocks.
+/// Offsets and lengths of views: of no bits, of one, of about a block, of some blocks, and of more
+/// than a group of blocks.
 const VIEWS: [(usize, usize); 7] = [
     (0, 0),
     (7, 1),
@@ -86,7 +86,7 @@ fn directories_with_views_added_are_as_new(rt: HostRuntime) {
     }
 }
 
-/// True bits behind an offset.
+/// True bits: enough for 1,000 of them from bit 5 on.
 const TRUE: [u8; 126] = [0xFF; 126];
 
 /// A call that needs room for bits.
@@ -178,8 +178,8 @@ fn append<A: Allocator + Clone>(
     len
 }
 
-/// Memory for many bits is requested at once, and for a few bits at a time seldom. No bits need no
-/// memory.
+/// Memory for many bits is requested at once. If a few bits are added at a time, memory is
+/// requested seldom; if none are added, it isn't requested.
 #[test]
 fn added_bits_ask_seldom(rt: HostRuntime) {
     let bits = Refusing::new(rt.alloc(), 0);

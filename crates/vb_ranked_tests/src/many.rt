@@ -76,8 +76,8 @@ fn shared_answers_each(
     drop(places);
 }
 
-/// No bits, one, a block, and up to one more than two groups, whose last blocks lie at the end of
-/// the bytes, or don't begin with a byte.
+/// No bits, one, a block, and from one group to three groups and more. The last blocks are at the
+/// end of the bytes, or don't begin with a byte.
 const SETS: [(usize, usize); 8] = [
     (0, 0),
     (0, 1),

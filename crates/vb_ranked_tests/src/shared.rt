@@ -1,4 +1,5 @@
-//! Directories over shared sets, beside views of the bits, and what else a directory hands on.
+//! Directories over shared sets, beside views of the bits, and the calls that a directory forwards
+//! to its set.
 use crate::compared::{Row, equal, holds, viewed_at};
 use crate::made::{by_fives, mixed, ones};
 use crate::rows::BY_FIVES;

@@ -4,7 +4,7 @@ use std::alloc::Global;
 use std::process::Abort;
 use vb_command::{Answer, Refusal};
 
-/// An answer is printed so, and given up.
+/// Asserts that an answer is printed as `text`, and drops the answer.
 fn prints(rt: &impl Abort, alloc: Global, answer: Answer, text: &str) {
     let printed = format!(in alloc; "{answer}").expect(rt, "memory");
     drop(answer);

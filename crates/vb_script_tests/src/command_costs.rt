@@ -1,6 +1,6 @@
 //! What each command allocates: the bytes of the bits or numbers that it copies, and a count of
-//! owners for each frozen set with storage of its own. Sharing storage allocates nothing, and work
-//! in place no bytes.
+//! owners for each frozen set with storage of its own. Sharing storage allocates nothing. Work in
+//! place allocates no bytes for bits.
 use crate::compared::equal;
 use crate::served::{Heap, Way, serve};
 use std::alloc::{AllocError, Global};
@@ -200,8 +200,9 @@ fn a_long_import_that_is_given_away_copies_nothing(rt: HostRuntime) {
     drop((pool, line));
 }
 
-/// Commands that are refused before any memory is asked for, behind those that fill slots: an open
-/// set of nine bits in 0, a frozen one in 1, a frozen one of eight bits in 2.
+/// Commands that are refused before any memory is asked for. They follow the lines of [`FILLED`],
+/// which put an open set of nine bits in slot 0, a frozen one in 1, and a frozen one of eight bits
+/// in 2.
 const REFUSED: &[&str] = &[
     "full 0 1 80000",
     "full 16 1 80000",

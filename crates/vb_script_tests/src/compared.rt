@@ -1,5 +1,5 @@
-//! Sessions, and comparisons of what is given with what is wanted. Each is proved once here, where
-//! `assert_eq!` is proved again, with all that it prints, wherever it stands.
+//! Sessions, and comparisons of what is given with what is wanted. Each is proved once here,
+//! whereas an `assert_eq!` is proved again, with all that it prints, wherever it stands.
 use std::alloc::{Allocator, Global};
 use std::fmt::Debug;
 use std::process::Abort;
@@ -32,7 +32,7 @@ pub(crate) fn session<A: Allocator + Clone, S: Source + Drop>(
     (ended, sink.into_inner())
 }
 
-/// A session in this case ended so, and wrote this.
+/// Asserts that the session of a case ended with `wanted` and wrote `answered`.
 pub(crate) fn ends<C: Copy + PartialEq + Debug>(
     rt: &impl Abort,
     case: C,

@@ -6,7 +6,8 @@ use std::process::Abort;
 use vb_script::{DriveError, FromRead};
 use vb_testing::Refusing;
 
-/// Lines of which the first takes memory for its bytes too, and what they are answered.
+/// Lines and their answers. The first line takes memory for its bytes, as the refused line of
+/// [`IMPORT`] does.
 const LINES: &[u8] = b"import 0 0 8 14\ncount 0\nlen 1\n";
 
 const ANSWERED: &str = "ok\n2\nrefused BadSlot\n";

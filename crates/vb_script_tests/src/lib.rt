@@ -1,7 +1,8 @@
 //! Tests of commands and of whole sessions: which lines can be read, what commands and answers look
 //! like, and what a line and a command ask of the allocator; what goes in by lines and what comes
-//! out, streams that fail, and memory that is refused; and sessions of all commands and random ones
-//! beside the plain machine, with ample memory and with each request refused in turn.
+//! out, streams that fail, and memory that is refused. Sessions of all commands and random sessions
+//! are compared with a plain machine (`machine`), with ample memory and with each request refused
+//! in turn.
 #![tactic(auto)]
 
 #[cfg(test)]

@@ -88,8 +88,8 @@ fn each_kind_of_word_is_read(rt: HostRuntime) {
     }
 }
 
-/// Words and items of about 16 bytes: a separator is sought among so many at once, and one by one
-/// where fewer follow.
+/// Words and items of about 16 bytes: a separator is sought in 16 bytes at once, or byte by byte if
+/// fewer follow.
 const LONG_PARTS: &[(&str, Asked<'static>)] = &[
     ("get 0000000000003 7", Asked::Get(3, 7)),
     ("get 00000000000003 7", Asked::Get(3, 7)),

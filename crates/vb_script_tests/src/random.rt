@@ -22,11 +22,10 @@ const OTHER_WORDS: &[&str] = &[
     "0 #",
 ];
 
-/// Lengths at the ends of words.
+/// Lengths around the ends of words, and two others.
 pub(crate) const LENGTHS: &[&str] = &["63", "64", "65", "127", "128", "129", "200", "007", "512"];
 
-/// Lengths at the ends of words, and ones for which there is no memory, or that aren't numbers of
-/// bits.
+/// The same lengths, and ones for which there is no memory, or that aren't numbers of bits.
 pub(crate) const ALL_LENGTHS: &[&str] = &[
     "63",
     "64",

@@ -17,7 +17,7 @@ const SHOWN: &[(&str, &str)] = &[
     ("take 0 4 - -", "Take(0, 4, None, [])"),
 ];
 
-/// The command that a line asks for is shown so, and given up.
+/// Asserts that the command of a line is shown as `text`, and drops the command.
 fn shows(rt: &impl Abort, alloc: Global, line: &str, text: &str) {
     let read = command_of(&alloc, line.as_bytes()).expect(rt, line);
     let command = read.expect(rt, line);

@@ -370,9 +370,9 @@ fn is_cut_between_pieces(rt: &impl Abort, alloc: Global, lines: &str) {
     equal(rt, (lines, ended, widths.0), (lines, Ok(()), widths.1));
 }
 
-/// Each piece of the last answers ends at the end of the buffer, and at each distance from it up to
-/// more than 21 bytes, the most that a number and the byte next to it take. Each write has the
-/// bytes that it has if the pieces are written one by one.
+/// Over all values of `room`, each piece of the last answers ends at the end of the buffer, and at
+/// each distance before it up to more than 21 bytes, the most that a number and the byte next to it
+/// take. Each write has the same width as when the pieces are written one by one.
 #[test]
 fn writes_are_cut_between_pieces(rt: HostRuntime) {
     for room in 0..160 {
@@ -382,8 +382,8 @@ fn writes_are_cut_between_pieces(rt: HostRuntime) {
     }
 }
 
-/// Lines that list as many bits as the room has bytes, and more, before other answers and behind
-/// them; and places, for which the room grows by steps.
+/// Lines that list as many bits as the buffer has bytes, and more, before and after other answers;
+/// and lines that list places, for which the buffer grows step by step.
 const LONG_LISTS: &[&str] = &[
     "full 0 1 65536\nfreeze 0\nbits 0\nlen 0\n",
     "full 0 1 65537\nbits 0\nlen 0\n",

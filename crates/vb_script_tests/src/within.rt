@@ -1,10 +1,11 @@
-//! Lines that other bytes stand behind: each is read as it is by itself.
+//! Lines with other bytes behind them: each is read as it is by itself.
 use crate::compared::equal;
 use std::alloc::Global;
 use std::process::Abort;
 use vb_command::{command_of, command_within};
 
-/// What may stand behind a line: nothing, less than what makes 32 bytes, and enough for that.
+/// What may stand behind a line: nothing, too few bytes to make 32 with the line, and enough for
+/// that.
 const BEHIND: &[&[u8]] = &[
     b"",
     b"\n",
@@ -69,7 +70,8 @@ fn lines_are_read_alike_whatever_stands_behind(rt: HostRuntime) {
     }
 }
 
-/// A question with so many of one byte in it: at its front, between its words, or before a number.
+/// A question with `times` bytes of one value in it: at its front, between its words, before a
+/// number or at its end.
 fn stretched(rt: &impl Abort, alloc: Global, parts: (&str, u8, &str), times: usize) {
     let mut line = Vec::new(alloc);
     line.extend_from_slice(parts.0.as_bytes())

@@ -126,8 +126,8 @@ fn no_bit_is_lost_where_memory_runs_out(rt: HostRuntime) {
     }
 }
 
-/// Within the capacity an appender does not allocate. The bit after it fails, and so does the next
-/// one, but all those before are kept.
+/// Within the capacity an appender does not allocate. The bit after it fails, but all those before
+/// are kept.
 #[test]
 fn an_appender_fills_the_capacity(rt: HostRuntime) {
     let heap = Refusing::new(rt.alloc(), 0);

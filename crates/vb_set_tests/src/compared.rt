@@ -13,7 +13,7 @@ pub(crate) fn equal<T: Copy + PartialEq + Debug>(rt: &impl Abort, given: T, want
     assert_eq!(rt; given, wanted);
 }
 
-/// The condition holds, as calls behind it ask for.
+/// The condition holds, as later calls require.
 pub(crate) fn holds(rt: &impl Abort, condition: bool)
     ensures { condition ≡ true }
 {

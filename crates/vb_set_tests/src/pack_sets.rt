@@ -49,7 +49,7 @@ fn a_slice_of_a_packed_set_keeps_its_bits(rt: HostRuntime) {
     shows_thirds(&rt, thirds(rt.alloc(), 20));
 }
 
-/// Bits that are true at even places, and whether their closure was asked once for each.
+/// Bits that are true at even places. Asserts that their closure was asked once for each.
 #[tactic(auto, using(vb_pack::proofs::AnswersLemmas::CanAsk_always))]
 fn alternating<A: Allocator + Clone>(rt: &impl Abort, alloc: A) -> BitBufferMut<A> {
     let mut asked = 0usize;

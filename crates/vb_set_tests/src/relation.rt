@@ -44,7 +44,7 @@ fn answer<A: Allocator + Clone>(
     equal(rt, given, wanted);
 }
 
-/// Sets of these bytes, at each two offsets within a byte.
+/// Sets of these bytes, at each pair of offsets within a byte.
 fn answer_of(rt: &impl Abort, alloc: Global, (left, right): (u8, u8), lens: (usize, usize)) {
     for l in 0..8 {
         for r in 0..8 {

@@ -68,7 +68,7 @@ fn append_each<A: Allocator + Clone>(
     Ok(())
 }
 
-/// True values, of which a call may add as many as it adds bits.
+/// True values: a call that adds truth values adds the first of these.
 const TRUES: [bool; 5000] = [true; 5000];
 
 /// So many true bits, the first at this bit of their bytes.
@@ -117,8 +117,8 @@ fn stays(
     drop((added, set));
 }
 
-/// The bits begin at one place of their byte on both sides, or at two. A body that makes room for
-/// more than 512 bits, whether there is room or not, fails here.
+/// The bits begin at the same place of a byte on both sides, or at different ones. A body that
+/// makes room for more than 512 bits, whether there is room or not, fails here.
 #[test]
 fn long_appends_within_the_room_ask_for_nothing(rt: HostRuntime) {
     let heap = Refusing::new(rt.alloc(), 0);

@@ -1,4 +1,5 @@
-//! Equality, order, hash and text of the buffers of the facade: those of their buffers.
+//! Equality, order, hash and text of `ConstBuffer` and `BufferString`: those of their inner
+//! buffers.
 use crate::compared::equal;
 use std::alloc::{Allocator, Global};
 use std::cmp::Ordering;

@@ -1,5 +1,5 @@
-//! Tests of the crate that users depend on, which names no other crate of the library: worked rows,
-//! and calls whose requests for memory are refused.
+//! Tests of the crate that users depend on: worked rows, and calls whose requests for memory are
+//! refused. Besides `vb_testing`, they name no other crate of the library.
 #![tactic(auto)]
 
 #[cfg(test)]

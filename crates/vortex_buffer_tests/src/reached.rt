@@ -1,5 +1,5 @@
-//! Every public item is reached under the name of one crate: this file isn't checked where one is
-//! missing.
+//! Every public item is reached under the name of one crate: if one is missing, the check of this
+//! file fails.
 pub use vortex_buffer::AlignedBuf;
 pub use vortex_buffer::Alignment;
 pub use vortex_buffer::BitAppender;

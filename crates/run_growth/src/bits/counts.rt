@@ -1,4 +1,4 @@
-//! Counts of bits, and comparisons.
+//! Counts of bits, a single bit, and a slice.
 ghost use Rattle.std.specs.Prelude.{◌≡◌, length};
 ghost use Rattle.vb_view.specs.View.{bits_of};
 

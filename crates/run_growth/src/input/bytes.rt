@@ -1,5 +1,5 @@
-//! Bytes for inputs. Each has eight bytes more than its bits need, so that a window may begin at
-//! any bit of the first byte.
+//! Bytes for inputs. Each has at least eight bytes more than its bits need, so that a window may
+//! begin at any bit of the first byte.
 ghost use Rattle.std.specs.Prelude.{◌≤◌, ◌+◌, ◌*◌};
 
 use crate::input::case::Case;

@@ -51,6 +51,7 @@ pub enum Memory {
     Never,
 }
 
-/// The name of a command, its other words, what becomes of its list, and of its memory.
+/// The name of a command, its other words, what becomes of its list, and whether it can be refused
+/// memory.
 #[derive(Clone, Copy)]
 pub struct Form(pub &'static str, pub &'static [Kind], pub Then, pub Memory);

@@ -18,7 +18,7 @@ pub(crate) fn number(word: &str) -> usize {
     word.parse().unwrap_or(usize::MAX)
 }
 
-/// The place that an index names. One below 0 stands for no place of a list.
+/// The place that an index names. An index below 0 gives `usize::MAX`, which is no place of a list.
 pub(crate) fn index(word: &str) -> usize {
     usize::try_from(word.parse().unwrap_or(-1i64)).unwrap_or(usize::MAX)
 }

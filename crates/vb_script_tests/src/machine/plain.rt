@@ -124,8 +124,8 @@ impl Plain {
         Ok(())
     }
 
-    /// What the slot holds that a word names. The one that gives its list away is empty for the
-    /// other words.
+    /// What the slot that a word names holds. For the other words, the slot that gives its list
+    /// away is empty.
     fn holds(&self, call: Call<'_>, place: usize) -> Option<Holds> {
         let named = call.number(place);
         let given = call.given().unwrap_or(place);
