@@ -1,11 +1,11 @@
 """The reference: pages of all crates and headers, made from their sources.
 
-rust_text, rust_items, rust_heads read .rt files, antt_text and antt_items .antt files, c_headers
-and cpp_headers headers, rustdoc what cargo doc writes; library knows the crates and what a name
-stands for in each, languages which calls of C, C++, Rust and Rattle are the same. scopes and links
-say of each word of a clause what it is, examples find a call of each item in the tests. fragments,
-item_pages, sight, crate_pages, antt_pages, header_pages and site make the pages; checks looks
-through them. browser and browser_test read them.
+rust_text, rust_items and rust_heads read .rt files. antt_text and antt_items read .antt files.
+c_headers and cpp_headers read headers, and rustdoc reads the output of cargo doc. library knows the
+crates, and what a name stands for in each. languages knows which calls of C, C++, Rust and Rattle
+are the same. scopes and links find what each word of a clause stands for. examples finds a call of
+each item in the tests. fragments, item_pages, sight, crate_pages, antt_pages, header_pages and site
+make the pages; checks looks through them. browser and browser_test read them.
 """
 import sys
 from pathlib import Path

@@ -41,7 +41,8 @@ class AnttPages:
         return page
 
     def imports(self, file: AnttFile, crate: str, folder: str, name: str) -> list[str]:
-        """How its names are brought in: from the crate that users name, if it gives them."""
+        """The imports of the file's names: from the crate that users name, if it re-exports them,
+        and from their own crate."""
         library = self.fragments.library
         given = FACADE in library.crates and library.antt_file(FACADE, folder, name) is file
         owners = [FACADE] if given and crate != FACADE else []

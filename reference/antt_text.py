@@ -24,7 +24,8 @@ TOKEN = re.compile(
 
 @dataclass(frozen=True)
 class Word:
-    """A token; `kind` is comment, space, bracket, stop, dot, keyword, number or name."""
+    """A token; `kind` is comment, space, string, rust, bracket, stop, dot, keyword, number or
+    name."""
 
     kind: str
     text: str

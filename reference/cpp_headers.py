@@ -131,7 +131,7 @@ class Reader:
 
 
 def is_shown(head: str, entry: Entry) -> bool:
-    """Whether a user may call it, and it isn't what each class has."""
+    """Whether a user may call it, and it isn't a default without a comment."""
     return not head.endswith("= delete") and bool(entry.comment or not head.endswith("= default"))
 
 

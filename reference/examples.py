@@ -259,7 +259,7 @@ class Examples:
     def methods_of(self, owner: Item) -> dict[str, Item]:
         """The methods of a type by name, as a call finds them: its own before those of traits.
 
-        What a trait says of references to the type is no method of it.
+        The implementations of traits for references to the type are left out.
         """
         of_type = [it for it in self.library.impls if it[4] is owner and not it[2].startswith("&")]
         found: dict[str, Item] = {}

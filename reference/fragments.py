@@ -30,7 +30,7 @@ def words_of_std(linked: Iterable[Linked]) -> dict[str, str]:
 
 
 class Fragments:
-    """Makes parts of pages, and keeps what they found wrong and which words they cite."""
+    """Makes parts of pages, and keeps their errors and the definitions that they cite."""
 
     def __init__(
         self, library: Library, urls: Urls, examples: Examples, languages: Languages

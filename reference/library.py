@@ -207,7 +207,7 @@ class Library:
         return found
 
     def impls_of(self, item: Item) -> list[tuple[Item, str]]:
-        """The implementations for a type, each with its trait; none for those of its own."""
+        """The implementations for a type, each with its trait; that is empty for inherent ones."""
         found = [(impl, trait) for impl, trait, _, _, of in self.impls if of is item]
         return sorted(found, key=lambda it: self.rank(it[0], item))
 
@@ -257,7 +257,8 @@ class Library:
         return None
 
     def rust_of(self, path: list[str]) -> Item | None:
-        """The item that `CRATE.specs.declared.MODULE.ITEM` names, or its `contracts`."""
+        """The item that `CRATE.specs.declared.MODULE.ITEM` names, or the same with `contracts` in
+        place of `declared`."""
         crate, _, _, *steps = path
         return self.find(crate, tuple(steps[:-1]), steps[-1])
 

@@ -22,7 +22,8 @@ class Linked:
 
 @dataclass
 class Binding:
-    """A name that is bound until its brackets close, with the shapes of a value in `result`."""
+    """A name that is bound until its brackets close, with its shapes if it is the value in
+    `result`."""
 
     depth: int
     name: str

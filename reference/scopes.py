@@ -87,7 +87,7 @@ class Scopes:
                     scope.imported[part] = target
 
     def import_of(self, path: str, name: str) -> Target | None:
-        """What a module gives under a name; None where it is a module of ours that has no such."""
+        """What a module gives under a name; None if it is a module of ours without that name."""
         steps = path.split(".")
         if steps[0] != "Rattle" or steps[1] not in self.library.crates:
             return Target("std", title=f"{path}.{name}", path=f"{path}.{name}")
@@ -110,7 +110,7 @@ class Scopes:
     def import_of_rust(self, steps: list[str], name: str) -> Target | None:
         if steps[-1] in ("TheVariants", "TheConstants"):
             owner = self.library.rust_of(steps[:-1])
-            # Without a type the path is that of a module, whose constants they are.
+            # If the path is that of no type, it is that of a module, which has the constant.
             member = owner.member(name) if owner else self.library.rust_of([*steps[:-1], name])
             return self.of_item(member) if member else None
         item = self.library.rust_of(steps)

@@ -1,4 +1,4 @@
-"""What a clause sees of a type: its model, the definitions that ask it, or its own parts."""
+"""What a clause sees of a type: its model, the definitions over its values, or its own parts."""
 from html import escape
 
 from reference.antt_items import AnttFile, Declaration
@@ -69,7 +69,7 @@ class Sight:
             page.add(tag("p", "That there is one."))
 
     def part(self, page: Page, field: Item) -> str:
-        """A field with its type, which a clause sees whoever may read it in code."""
+        """A field with its type. A clause sees it even if it is private."""
         kind = field.head_text.partition(":")[2].strip()
         shown = tag("code", rust_html(kind, self.fragments.code_link(page, field)))
         says = self.fragments.docs(page, field) if field.docs else ""

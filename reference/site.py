@@ -180,8 +180,8 @@ class Site:
         """What can be found: name, kind, address, sentence, crate or header, `users`, other words
         and language.
 
-        The sixth is `users` where users name it: in Rattle, where the facade gives it; else it is
-        empty. The seventh has the words of the field that find it too.
+        The sixth is `users` for each name of C, C++ and Rust, and for those of Rattle that the
+        facade gives; else it is empty. The seventh has the words of the field that find it too.
         """
         reached = self.library.reached.get(FACADE, {})
         given = {self.urls.of(it.item) for it in reached.values()}

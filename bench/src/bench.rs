@@ -181,7 +181,7 @@ fn copy_of<'a>(size: usize) -> Contender<'a> {
     })
 }
 
-/// What an item costs of so many.
+/// The time of a call on so many items, for each item.
 fn each((time, items): (&Placed, &usize)) -> f64 {
     time.median() / *items as f64
 }

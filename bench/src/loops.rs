@@ -160,7 +160,7 @@ pub fn iter_bits(w: Window) -> usize {
     })
 }
 
-/// Which bits aren't those of their places' parity.
+/// Which bits differ from true at even places, and from false at odd ones.
 #[inline(never)]
 pub fn map_cmp(w: Window) -> usize {
     let bit = |place: usize| w.bytes[(w.offset + place) / 8] >> ((w.offset + place) % 8) & 1 == 1;
@@ -280,7 +280,8 @@ pub fn collect_truthy(bytes: &[u8]) -> usize {
     collect(bytes.len(), |i| bytes[i] != 0)
 }
 
-/// Truth values put behind so many bits of words, by words; the answer is how many bits these are.
+/// Truth values appended to the first `before` bits of words, word by word; the answer is the
+/// number of all bits.
 #[inline(never)]
 pub fn append_bools(words: &mut Vec<u64>, before: usize, bools: &[bool]) -> usize {
     let packed = |bools: &[bool]| {

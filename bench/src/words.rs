@@ -62,8 +62,8 @@ fn by_ones(mut word: u64, mut call: impl FnMut(usize)) {
     }
 }
 
-/// Calls a closure with each value that a mask selects: all of a word of the mask whose bits are all
-/// set, else those of its ones.
+/// Calls a closure with each value that a mask selects: a word of the mask whose bits are all set
+/// selects 64 values in a row, any other one those at its ones.
 #[inline(always)]
 fn by_selected<T: Copy>(values: &[T], mask: Window, mut call: impl FnMut(usize, T)) {
     by_words(mask.len, |at, many| {
@@ -114,7 +114,7 @@ impl Writer {
         self.used = used % 64;
     }
 
-    /// Stores what is held, behind which the bits of the last byte stay.
+    /// Stores what is held. The bits after it in its last byte are unchanged.
     #[inline(always)]
     fn finish(self) {
         let (whole, left) = (self.used / 8, self.used % 8);

@@ -1,8 +1,8 @@
 /*
  * Compares the comparisons of vortex_bits.h with a loop over values: each function and each
- * comparison over random values near the ends of their type, of floats with NaN, both infinities
- * and both zeros, into random windows, and each checked form with numbers past every limit; and of
- * floats by their bits. It is C and C++ alike.
+ * comparison, into random windows, and each checked form with numbers past every limit. The values
+ * are random ones near the ends of their type. Floats include NaN, both infinities and both zeros,
+ * and are also compared by their bits. It is C and C++ alike.
  */
 #include "tests.h"
 #include "vortex_bits.h"

@@ -201,6 +201,6 @@ def accepted(standard: str) -> str:
 
 
 def refused() -> tuple[str, dict[int, str]]:
-    """One of all that does not, and what the first error of each of its lines says."""
+    """A program of all that must not compile, and what the first error of each line says."""
     lines = {line: error for line, (_, error) in enumerate(REFUSED, 1001)}
     return program([code for code, _ in REFUSED]), lines

@@ -1,7 +1,8 @@
 /*
  * Compares the writes at a bit offset of vortex_bits_gather.h with a loop over single bits: over
  * random windows of some blocks of 4,096 bits, and each checked form with numbers at and past every
- * limit. Batches that are joined are those that a loop joins. It is C and C++ alike.
+ * limit. Also joins batches into one column, and compares it with that of a loop. It is C and C++
+ * alike.
  */
 #include "tests.h"
 #include "vortex_bits.h"

@@ -1,7 +1,7 @@
 /*
  * Compares the values at indices of vortex_bits.h with a loop over positions: each function over
- * random values, indices and validities, with an index that names nothing at a random position, and
- * each checked form with numbers past every limit. It is C and C++ alike.
+ * random values, indices and validities, in some rounds with an index out of range at a random
+ * position, and each checked form with numbers past every limit. It is C and C++ alike.
  */
 #include "tests.h"
 #include "vortex_bits.h"

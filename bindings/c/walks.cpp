@@ -30,7 +30,7 @@ template <class Call> static void refused(Call call, const char *what)
     }
 }
 
-/* Bytes of another, as a std::span of C++20. */
+/* A view of bytes that it doesn't own, like std::span of C++20. */
 struct view {
     std::uint8_t *first;
     std::size_t count;

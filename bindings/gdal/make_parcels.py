@@ -3,10 +3,10 @@
 
 usage: bindings/gdal/make_parcels.py FILE.gpkg [ROWS]
 
-ROWS is 120 unless it is given. The parcels are those of demo/make_parcels.py, with three columns
-more: the day when a parcel was sent, whether it goes by express, and its truck, which may be null
-or a number that no truck has. Some columns are NOT NULL; the city may be null here too. No column
-is BOOLEAN: GDAL 3.6.2 sets wrong bits for one in the stream of a GeoPackage.
+ROWS is 120 unless it is given. The parcels are those of demo/make_parcels.py, but some cities and
+cents are null. They have three columns more: the day when a parcel was sent, whether it goes by
+express, and its truck, which may be null or a number that no truck has. Some columns are NOT NULL.
+No column is BOOLEAN: GDAL 3.6.2 sets wrong bits for one in the stream of a GeoPackage.
 """
 import csv
 import random

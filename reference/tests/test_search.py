@@ -37,7 +37,7 @@ def row(name: str, kind: str, users: str = "", words: str = "", says: str = "",
 
 
 def found(rows: list[list[str]], *typed: str, part: int = 0) -> list[list[str]]:
-    """The names that the search lists for each text, or another part of each, the first first."""
+    """For each text, the names that the search lists, in its order; or the field `part` of each."""
     program = f"{PAGE}globalThis.window = {{ NAMES: {json.dumps(rows)} }};\n"
     program += (HERE.parent / "search.js").read_text(encoding="utf-8")
     program += f"const TYPED = {json.dumps(typed)}, PART = {part};\n{ASKED}"

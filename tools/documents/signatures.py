@@ -11,7 +11,8 @@ OF_NUMBERS = {it.c: it.crossing for it in [*UNSIGNED, *SIGNED, *FLOATS] if it.c}
 MISSING = {f"vb_optional_{it}": f"Optional{it.camel}" for it in OPTIONAL}
 OTHERS = {"vb_place": "Place", "vb_taken": "Taken", "vb_run": "Run", "void": "()"}
 TYPES = OF_NUMBERS | MISSING | OTHERS
-# Names of the crate's parameters of one letter, except the first letter of the window before.
+# What a parameter of one letter stands for in the crate. If it is the first letter of the slice
+# before it, it is the offset in that instead.
 LETTERS = {"v": "value"}
 
 OF_CRATE = re.compile(r'^pub extern "C" fn (\w+)\(([^)]*)\)(?: -> (\w+))?', re.MULTILINE)

@@ -8,7 +8,7 @@ from pathlib import Path
 from shutil import copy
 
 TOP = Path(__file__).resolve().parent.parent.parent
-# It ends at the build of the libraries, after all that the test is about.
+# A bindings/build that fails: bindings/release ends there, after all that the test is about.
 BUILD = "#!/bin/sh\necho builds >&2\nexit 3\n"
 BUILDS = "failed: libraries\n    builds\n"
 # Programs that compile and find nothing, but for the flags of a package in a path with a space.

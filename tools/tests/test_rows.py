@@ -4,8 +4,8 @@ import unittest
 
 from tests.test_parts import Folder
 
-# An `rt` that builds an empty library for each crate, and a compiler for C that makes a program of
-# benchmarks of what it links.
+# An `rt` that builds an empty library for each crate, and a compiler for C whose output is always a
+# script in place of the benchmarks.
 EMPTY = """[ "$1" != doc ] || { echo kit/START-HERE.md; exit 0; }
 name=$(basename "$PWD")
 echo "rt: chose --jobs 1 for $name"

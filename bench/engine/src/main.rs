@@ -51,8 +51,8 @@ fn time<A, B>(
     Ok(())
 }
 
-/// Times a query: the answer of the engine, that of loops, and whether they are equal, unless `==`
-/// compares them.
+/// Times a query, given the answer of the engine, that of loops, and a comparison of both; without
+/// one, `==` compares them.
 macro_rules! query {
     ($of:ident, $name:literal, $engine:expr; $loops:expr) => {
         query!($of, $name, $engine; $loops; |a, b| a == b)

@@ -63,7 +63,7 @@ pub fn measure(bench: &mut Bench) {
     }
 }
 
-/// A list of bytes for a validity; none has no bits that count.
+/// The bytes of a validity; `None` if there is no validity.
 fn mask(validity: Validity) -> Option<Vec<u8>> {
     match validity {
         Validity::None => None,

@@ -38,7 +38,7 @@ fn walk<'a>(call: &str, ours: OnWindow, w: Window<'a>) -> Row<'a> {
         .offsets(&[w.offset])
 }
 
-/// From a tenth on the loop is what it is held against, below a tenth upstream is too.
+/// The target is over the loop; if less than a tenth of the bits is set, over upstream too.
 fn places<'a>(input: &'a Input, w: Window<'a>, share: f64) -> Row<'a> {
     let row = walk("`set_indices`, summed", calls::bench_set_indices, w)
         .set(share)

@@ -7,8 +7,8 @@
 #define VORTEX_BITS_MADE_H
 
 /*
- * Writes the runs of a window with indices of 32 bits, a block at a time. Each block begins after
- * the last run.
+ * Writes the runs of a window with indices of 32 bits, up to 64 runs at a time. Each search begins
+ * at the end of the last run.
  */
 size_t vb_set_slices_u32(vb_run_u32 *out, size_t out_count, const uint8_t *bytes, size_t size,
     size_t offset, size_t len)

@@ -38,7 +38,7 @@ static void see(int first, ...)
     {                                                                                             \
         SEE arguments;                                                                            \
     }
-/* A checked form accepts all numbers, so only vortex_bits.c itself can return false. */
+/* A checked form here always returns true, so only vortex_bits.c itself can return false. */
 #define T(name, parameters, given, arguments, rare, tests)                                        \
     bool vb_v2_##name parameters;                                                                 \
     bool vb_v2_##name parameters                                                                  \

@@ -9,7 +9,7 @@
  */
 #include "vortex_bits.h"
 
-/* bindings/c/functions writes this one from the header. */
+/* bindings/c/functions writes functions.h from the headers. */
 #include "functions.h"
 #include "processor.h"
 

@@ -43,7 +43,7 @@ pub fn compare(case: &Case) -> Result<u64, String> {
         + ranks(case, &list, &trues, &falses)?)
 }
 
-/// The nearest bits from the `n`-th place on and before it, and from the end on.
+/// The nearest bits at or after a position, and before it: at `n`, at the end, and past the end.
 fn nearest(case: &Case, list: &[bool]) -> Result<u64, String> {
     let bits = case.left();
     let mut calls = 0;

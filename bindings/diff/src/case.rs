@@ -16,8 +16,8 @@ pub struct Case {
     pub value: bool,
 }
 
-/// Bytes with some `len` bits behind bit `offset`, and up to three bytes more. Of four cases one
-/// has few true bits, one few false ones, and one has long runs.
+/// Bytes with `len` bits from bit `offset` on, and up to three bytes more. Of four cases one has
+/// few true bits, one has few false ones, and one has long runs.
 fn bytes(random: &mut Random, offset: usize, len: usize) -> Vec<u8> {
     let size = (offset + len).div_ceil(8) + random.below(4);
     let kind = random.below(4);
@@ -77,7 +77,7 @@ impl Case {
         Bits::new(&self.left, self.l, self.len)
     }
 
-    /// Returns whether the mask, the window on the right if there is one, selects a row.
+    /// Returns whether the mask, either the window on the right or `None`, selects a row.
     pub fn is_selected(&self, mask: Option<Bits<'_>>, row: usize) -> bool {
         mask.is_none() || bit(&self.right, self.r + row)
     }

@@ -10,7 +10,7 @@ use crate::ask::same;
 use crate::case::{Case, bit, put};
 use crate::random::Random;
 
-/// Bytes for `len` bits from bit `r` on and some more, which hold anything.
+/// Bytes of any contents, enough for `len` bits from bit `l` or `r` on.
 fn room(case: &Case, len: usize) -> Vec<u8> {
     let size = (case.l.max(case.r) + len).div_ceil(8) + 2;
     case.right.iter().copied().cycle().take(size).collect()
@@ -34,7 +34,7 @@ fn taken(case: &Case, places: &[usize], counts: impl Fn(usize) -> bool) -> Resul
     Ok(bytes)
 }
 
-/// The answer of a call that writes into such bytes.
+/// The answer of a call that writes from bit `r` of the bytes of [`room`] on.
 fn answer(
     case: &Case,
     len: usize,

@@ -126,7 +126,7 @@ fn write(len: usize, call: impl FnOnce(BitsMut<'_>)) {
     call(BitsMut::new(&mut [0; MOST], 1, len));
 }
 
-/// Whether the call ends a program, in which it is made.
+/// Whether the call ends the process that makes it.
 fn runs_proved_code(name: &str, len: usize) -> bool {
     let mut command = Command::new(env::current_exe().expect("the program has a path"));
     let ended = command.args([name, &len.to_string()]).stderr(Stdio::null()).status();
