@@ -25,6 +25,9 @@ pub(super) const SORTED: i64 = 4;
 
 /// The name and the type of a column. It has its own copy of all that an `ArrowSchema` says.
 ///
+/// Clones of a field share its children. A comparison, an export and the text of `Debug` still visit
+/// a child once for each path to it.
+///
 /// ```
 /// use vortex_bits::arrow::Field;
 ///
@@ -43,6 +46,9 @@ pub struct Field {
     pub(super) metadata: Vec<u8>,
     pub(super) children: Vec<Arc<Field>>,
     pub(super) dictionary: Option<Arc<Field>>,
+    /// The number of levels: one more than the children and the dictionary have. It is stored
+    /// because a walk visits a shared child once for each path to it.
+    pub(super) levels: usize,
 }
 
 impl Field {
@@ -91,8 +97,13 @@ impl Field {
         if !layout::is_index(&self.format) || self.dictionary.is_some() {
             return Err(Fault::Dictionary.into());
         }
-        self.dictionary = Some(Arc::new(items));
+        self.set_dictionary(items);
         Ok(self)
+    }
+
+    pub(super) fn set_dictionary(&mut self, items: Field) {
+        self.levels = self.levels.max(1 + items.levels);
+        self.dictionary = Some(Arc::new(items));
     }
 
     /// Returns the same column, which may have nulls or may not.
@@ -135,15 +146,20 @@ impl Field {
             metadata: Vec::new(),
             children: Vec::new(),
             dictionary: None,
+            levels: 1,
         }
     }
 
     /// Returns the type of a batch, a struct of these columns, without a name and without nulls.
+    /// Columns that are clones of one field are exported one by one: a type with two clones of the
+    /// next level at each of `n` levels takes time and memory for 2^n columns.
     #[must_use]
     pub fn batch(columns: impl IntoIterator<Item = Field>) -> Field {
+        let children: Vec<_> = columns.into_iter().map(Arc::new).collect();
         Field {
             flags: 0,
-            children: columns.into_iter().map(Arc::new).collect(),
+            levels: levels(&children, None),
+            children,
             ..Field::of("", "+s", Layout::Struct)
         }
     }
@@ -192,15 +208,9 @@ impl Field {
         found.ok_or_else(|| ArrowError::NoColumn { name: name.into() })
     }
 
-    /// Returns the number of levels: one more than the children and the dictionary have.
-    fn levels(&self) -> usize {
-        let below = self.fields().chain(self.dictionary());
-        1 + below.map(Field::levels).max().unwrap_or(0)
-    }
-
     /// Tests that the type has no more than [`DEPTH`] levels.
     pub(super) fn is_shallow(&self) -> Result<(), Fault> {
-        if self.levels() > DEPTH {
+        if self.levels > DEPTH {
             return Err(Fault::Deep(DEPTH));
         }
         Ok(())
@@ -258,10 +268,17 @@ impl Field {
             layout,
             flags: schema.flags,
             metadata,
+            levels: levels(&children, dictionary.as_ref()),
             children,
             dictionary,
         })
     }
+}
+
+/// Returns the number of levels of a type with these children and this dictionary.
+fn levels(children: &[Arc<Field>], dictionary: Option<&Arc<Field>>) -> usize {
+    let below = children.iter().chain(dictionary);
+    1 + below.map(|field| field.levels).max().unwrap_or(0)
 }
 
 fn name_of(children: &[Arc<Field>], child: usize) -> String {

@@ -222,6 +222,10 @@ impl ExportStream {
     /// Returns [`ArrowError::Malformed`] with [`Fault::Deep`] if the type has more than 64 levels:
     /// its own, and those of its children and dictionaries, as [`Export::try_into_array`] does.
     pub fn into_stream(mut self) -> Result<Stream, ArrowError> {
+        // It is tested before there is a schema, which has its own copy of each shared child.
+        // SAFETY: `new` made the stream, this is its only owner, and no call of it is running.
+        let producer = unsafe { Producer::of(self.raw.as_mut_ptr()) };
+        producer.field.is_shallow()?;
         // SAFETY: it is as the interface requires, and this is its only owner.
         unsafe { Stream::from_raw(self.raw.as_mut_ptr()) }
     }

@@ -365,6 +365,22 @@ fn levels_have_one_limit() {
     }
 }
 
+/// Fields share their children, so a walk over all paths of these types doesn't end.
+#[test]
+fn levels_of_shared_children_are_counted_once() {
+    let number = || Field::new("a", "i").unwrap();
+    let twice =
+        |levels: usize| (1..levels).fold(number(), |below, _| Field::batch([below.clone(), below]));
+    let once = (1..65).fold(number(), |below, _| Field::batch([below]));
+    for field in [twice(65), twice(1000), Field::batch([twice(63), once])] {
+        let error = ExportStream::new(field, []).into_stream().unwrap_err();
+        let text = "it has 64 levels of children or more";
+        assert_eq!(error.to_string(), text);
+    }
+    let rows = ExportStream::new(twice(9), []).into_stream().unwrap();
+    assert_eq!(rows.field(), &twice(9));
+}
+
 #[test]
 #[should_panic(expected = "64 levels")]
 fn more_levels_are_no_array() {

@@ -1,7 +1,5 @@
 //! Exports values as indices of a dictionary.
 
-use alloc::sync::Arc;
-
 use super::{Export, Held};
 use crate::arrow::error::{ArrowError, Fault};
 use crate::arrow::layout;
@@ -77,7 +75,7 @@ impl Export {
             (*below).set_dictionary(items.array);
             (*array).dictionary = (*below).dictionary;
         }
-        self.field.dictionary = Some(Arc::new(items.field));
+        self.field.set_dictionary(items.field);
         self
     }
 }
