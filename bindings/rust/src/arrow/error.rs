@@ -221,9 +221,10 @@ pub enum Fault {
     /// An offset of texts or lists is below the one before it, negative, or above `isize::MAX`; or
     /// a list view isn't in bounds of its items.
     Range {
-        /// The row that ends at the offset; 0 for the first offset.
+        /// The row that ends at the offset. For an offset in front of the rows that are read, it is
+        /// the first of these rows.
         row: usize,
-        /// The offset at which it begins; 0 for the first offset.
+        /// The offset at which it begins; 0 for an offset in front of the rows that are read.
         start: i64,
         /// The offset at which it ends.
         end: i64,

@@ -18,7 +18,8 @@ pub(super) use offsets::{Offset, Spans};
 #[derive(Clone, Copy)]
 pub struct Ranges<'a>(Offsets<'a>);
 
-/// One offset more than there are rows, or none. Each is at least the one before.
+/// One offset more than there are rows, or none. Of the rows that are read, each is at least the one
+/// before.
 #[derive(Clone, Copy)]
 pub(super) enum Offsets<'a> {
     Narrow(Unaligned<'a, i32>),
@@ -26,16 +27,22 @@ pub(super) enum Offsets<'a> {
 }
 
 impl<'a> Ranges<'a> {
-    /// Returns the ranges between offsets of 32 bits, after a test of each offset.
-    pub(super) fn narrow(offsets: Unaligned<'a, i32>) -> Result<Self, Fault> {
-        offsets::ascend(offsets)?;
-        Ok(Ranges(Offsets::Narrow(offsets)))
+    /// Returns the ranges between offsets of 32 bits, without a test.
+    pub(super) fn narrow(offsets: Unaligned<'a, i32>) -> Self {
+        Ranges(Offsets::Narrow(offsets))
     }
 
-    /// Returns the ranges between offsets of 64 bits, after a test of each offset.
-    pub(super) fn wide(offsets: Unaligned<'a, i64>) -> Result<Self, Fault> {
-        offsets::ascend(offsets)?;
-        Ok(Ranges(Offsets::Wide(offsets)))
+    /// Returns the ranges between offsets of 64 bits, without a test.
+    pub(super) fn wide(offsets: Unaligned<'a, i64>) -> Self {
+        Ranges(Offsets::Wide(offsets))
+    }
+
+    /// Tests each offset.
+    pub(super) fn ascend(&self) -> Result<(), Fault> {
+        match self.0 {
+            Offsets::Narrow(offsets) => offsets::ascend(offsets),
+            Offsets::Wide(offsets) => offsets::ascend(offsets),
+        }
     }
 
     /// Returns the number of rows.

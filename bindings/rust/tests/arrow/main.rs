@@ -32,4 +32,5 @@ mod stream;
 mod strict;
 mod texts;
 mod unseen;
+mod unselected;
 mod walks;

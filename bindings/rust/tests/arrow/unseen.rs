@@ -6,13 +6,13 @@ use crate::export::raw_of;
 use crate::raw::{self, Buffer, Count, Schema, import};
 
 /// Numbers of 32 bits as bytes.
-fn ints(numbers: &[i32]) -> Buffer {
+pub fn ints(numbers: &[i32]) -> Buffer {
     let bytes: Vec<u8> = numbers.iter().flat_map(|it| it.to_ne_bytes()).collect();
     Buffer::new(&bytes, 0)
 }
 
 /// Indices of 8 bits, with a dictionary of this number of bytes.
-fn indices(numbers: &[i8], items: i64) -> raw::Array {
+pub fn indices(numbers: &[i8], items: i64) -> raw::Array {
     let none = Count::default();
     let items = raw::Array::values(items, None, &vec![7; 256], &none);
     let bytes: Vec<u8> = numbers.iter().map(|it| it.to_ne_bytes()[0]).collect();
@@ -22,7 +22,7 @@ fn indices(numbers: &[i8], items: i64) -> raw::Array {
 }
 
 /// Rows of a format with such a child; before it come the buffers and the children.
-fn rows(
+pub fn rows(
     format: &str,
     len: i64,
     buffers: Vec<Option<Buffer>>,

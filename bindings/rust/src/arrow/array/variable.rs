@@ -45,20 +45,26 @@ impl Array {
     }
 
     fn offsets(&self) -> Result<Ranges<'_>, ArrowError> {
+        let ranges = self.untested_ranges()?;
+        ranges.ascend().map_err(|fault| self.malformed(fault))?;
+        self.ends_with_all()?;
+        Ok(ranges)
+    }
+
+    /// Returns the range of each row, without a test. The caller reads only those of rows that
+    /// [`ranges`](Array::ranges) returns for a slice.
+    pub(in crate::arrow) fn untested_ranges(&self) -> Result<Ranges<'_>, ArrowError> {
         let Layout::Ranges(width, _) = self.node.field.layout else {
             return Err(self.is_not("that of texts or lists"));
         };
         let number = if self.len == 0 { 0 } else { self.len + 1 };
         // SAFETY: there is an offset for each item, and one more.
         let offsets = unsafe { self.bytes_of(number, width) };
-        let ranges = if width == size_of::<i32>() {
+        Ok(if width == size_of::<i32>() {
             Ranges::narrow(Unaligned::new(offsets, number))
         } else {
             Ranges::wide(Unaligned::new(offsets, number))
-        };
-        let ranges = ranges.map_err(|fault| self.malformed(fault))?;
-        self.ends_with_all()?;
-        Ok(ranges)
+        })
     }
 
     /// Tests that a slice of texts or lists doesn't end after the last row of the whole array. The
@@ -200,7 +206,8 @@ impl Array {
     pub(in crate::arrow) fn joined(&self) -> Result<(Ranges<'_>, &[u8]), ArrowError> {
         self.has_bytes()?;
         let ranges = self.offsets()?;
-        Ok((ranges, self.bytes_up_to(ranges.end())?))
+        // SAFETY: the rows passed the tests.
+        Ok((ranges, unsafe { self.bytes_up_to(ranges.end())? }))
     }
 
     pub(in crate::arrow) fn has_bytes(&self) -> Result<(), ArrowError> {
@@ -210,8 +217,13 @@ impl Array {
         }
     }
 
-    /// Returns the bytes of texts up to the end of the rows.
-    fn bytes_up_to(&self, end: usize) -> Result<&[u8], ArrowError> {
+    /// Returns the bytes of texts up to `end`.
+    ///
+    /// # Safety
+    ///
+    /// `end` is 0, or [`ranges`](Array::ranges) returns it as an end of these rows or of a slice of
+    /// them.
+    pub(in crate::arrow) unsafe fn bytes_up_to(&self, end: usize) -> Result<&[u8], ArrowError> {
         if end == 0 {
             return Ok(&[]);
         }

@@ -9,6 +9,7 @@ mod nested;
 mod nodes;
 mod rows;
 mod runs;
+mod tested;
 mod unions;
 mod variable;
 
@@ -68,9 +69,9 @@ impl Array {
     /// # Errors
     ///
     /// - Returns [`ArrowError::Mask`] if the mask has another number of bits than there are rows.
-    /// - Returns [`ArrowError::Malformed`] if offsets of texts or lists go back, runs end before
-    ///   the rows do, a row of a union names no child or item, or a buffer that the rows need is
-    ///   null.
+    /// - Returns [`ArrowError::Malformed`] if a selected text or list ends before it begins or after
+    ///   the last byte or item of the array, if runs end before the rows do, if a row of a union
+    ///   names no child or item, or if a buffer that the rows need is null.
     /// - Returns [`ArrowError::TooLong`] if more than 2^31 rows of a dense union have one child, and
     ///   the errors of [`take`](Array::take) if its rows share items.
     /// - Returns [`ArrowError::Memory`] if memory runs out for the copies.
@@ -257,7 +258,7 @@ impl Export {
     ///   [`ArrowError::Memory`] with `usize::MAX` bytes if their number isn't a `usize`. Both are
     ///   possible if these take no memory.
     /// - If valid rows have several dictionaries, returns [`ArrowError::Take`] with the first valid
-    ///   index of an array that names no item of its own dictionary. Below lists and unions,
+    ///   index of an array that names no item of its own dictionary. Below lists, runs and unions,
     ///   positions count from the first item that the rows of the array have.
     /// - Returns [`ArrowError::Malformed`] if list views of several arrays are out of bounds of
     ///   their items. Returns the errors of [`Array::texts`] for views of several arrays.

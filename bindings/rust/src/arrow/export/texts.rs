@@ -73,8 +73,8 @@ impl Export {
     ///
     /// # Errors
     ///
-    /// Returns the errors of [`Array::texts`], and [`ArrowError::Memory`] if memory runs out for
-    /// the copies.
+    /// Returns the errors of [`Array::texts`], but not for offsets of rows that the mask doesn't
+    /// select. Returns [`ArrowError::Memory`] if memory runs out for the copies.
     ///
     /// # Panics
     ///
@@ -106,10 +106,10 @@ impl Export {
     ///
     /// # Errors
     ///
-    /// Returns the errors of [`Array::texts`], and [`ArrowError::Take`] with the first index that
-    /// names no row. Returns [`ArrowError::LongTexts`] if the texts are longer together than 2^31 -
-    /// 1 bytes and their offsets have 32 bits, and [`ArrowError::Memory`] if memory can't hold
-    /// them.
+    /// Returns the errors of [`Array::texts`], but not for offsets of rows that no index names.
+    /// Returns [`ArrowError::Take`] with the first index that names no row. Returns
+    /// [`ArrowError::LongTexts`] if the texts are longer together than 2^31 - 1 bytes and their
+    /// offsets have 32 bits, and [`ArrowError::Memory`] if memory can't hold them.
     pub fn texts_taken<I: BitIndex>(texts: &Array, indices: &[I]) -> Result<Export, ArrowError> {
         Export::texts_taken_valid(texts, indices, None::<Bits<'_>>)
     }
@@ -131,10 +131,11 @@ impl Export {
     ///
     /// # Errors
     ///
-    /// Returns the errors of [`Array::texts`]. Returns [`ArrowError::Take`] if `validity` doesn't
-    /// have one bit per index, or with the first valid index that names no row. Returns
-    /// [`ArrowError::LongTexts`] if the texts are longer together than 2^31 - 1 bytes and their
-    /// offsets have 32 bits, and [`ArrowError::Memory`] if memory can't hold them.
+    /// Returns the errors of [`Array::texts`], but not for offsets of rows that no index names.
+    /// Returns [`ArrowError::Take`] if `validity` doesn't have one bit per index, or with the first
+    /// valid index that names no row. Returns [`ArrowError::LongTexts`] if the texts are longer
+    /// together than 2^31 - 1 bytes and their offsets have 32 bits, and [`ArrowError::Memory`] if
+    /// memory can't hold them.
     pub fn texts_taken_valid<I: BitIndex>(
         texts: &Array,
         indices: &[I],

@@ -7,6 +7,7 @@ use super::made::Made;
 use super::memory::zeroed;
 use super::nodes::{Nodes, only};
 use super::rows::{Rows, Run, Runs};
+use super::tested::{tested_ranges, tested_texts};
 use super::{fixed, joined, put, too_long};
 use crate::Bits;
 use crate::arrow::array::Array;
@@ -30,9 +31,9 @@ pub(super) fn texts(
             return Ok(made);
         }
     }
-    let joined = of.iter().map(Array::joined);
-    let (ranges, bytes): (Vec<_>, Vec<_>) =
-        joined.collect::<Result<Vec<_>, _>>()?.into_iter().unzip();
+    let joined = of.iter().map(Array::joined).collect::<Result<Vec<_>, _>>();
+    let joined = joined.or_else(|_| tested_texts(field, of, rows))?;
+    let (ranges, bytes): (Vec<_>, Vec<_>) = joined.into_iter().unzip();
     let copied = |valid| {
         let (offsets, parts) = offsets(field, width, &ranges, rows, valid)?;
         let bytes = fixed::values(field, 1, &bytes, parts.rows())?;
@@ -53,10 +54,8 @@ pub(super) fn lists(
     rows: Rows<'_>,
     valid: Option<Bits<'_>>,
 ) -> Result<Made, ArrowError> {
-    let ranges = of
-        .iter()
-        .map(Array::ranges)
-        .collect::<Result<Vec<_>, _>>()?;
+    let ranges = of.iter().map(Array::ranges).collect::<Result<Vec<_>, _>>();
+    let ranges = ranges.or_else(|_| tested_ranges(field, of, rows))?;
     let (offsets, parts) = offsets(field, width, &ranges, rows, valid)?;
     let mut made = Made::of([offsets]);
     made.items(field, 0, of, parts)?;
