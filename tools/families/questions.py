@@ -196,7 +196,8 @@ OF_PAIRS = [
                 "Returns whether no bit is set both here and in `right`. Reads up to the first bit "
                 "that is.",
                 "intersects",
-                "assert!(left.is_disjoint(!right) && !left.is_disjoint(right));",
+                "assert!(left.slice(..2).is_disjoint(right.slice(..2)) && "
+                "!left.is_disjoint(right));",
                 "assert!(left.is_disjoint(!&left) && !left.is_disjoint(&right));",
                 "!self.any()",
             ),

@@ -161,10 +161,11 @@ pub fn compare_into<T: Compare>(values: &[T], op: Comparison, number: T, mut out
 }
 
 /// Unsets each bit of `mask` whose value doesn't satisfy `value op number`. The result is that of
-/// `&=` with the result of [`compare`], but no bitmap is allocated: all terms of an `and` write one
+/// `&=` with the result of `compare`, but no bitmap is allocated: all terms of an `and` write one
 /// mask. It compares the values at unset bits too.
 ///
 /// ```
+/// # #[cfg(feature = "alloc")] {
 /// use vortex_bits::{Bitmap, Bits, Comparison, values};
 ///
 /// // where age > 17 and age < 65, of valid ages.
@@ -173,6 +174,7 @@ pub fn compare_into<T: Compare>(values: &[T], op: Comparison, number: T, mut out
 /// values::and_compare(&ages, Comparison::Greater, 17, rows.bits_mut());
 /// values::and_compare(&ages, Comparison::Less, 65, rows.bits_mut());
 /// assert_eq!(rows, Bitmap::from_indices(5, &[0, 1]));
+/// # }
 /// ```
 ///
 /// # Panics
@@ -190,11 +192,13 @@ pub fn and_compare<T: Compare>(values: &[T], op: Comparison, number: T, mask: Bi
 /// item of `others` at the same index, as [`and_compare`] does for a number.
 ///
 /// ```
+/// # #[cfg(feature = "alloc")] {
 /// use vortex_bits::{Bitmap, Comparison, values};
 ///
 /// let (mut rows, limits) = (Bitmap::from([true, true, false]), [20, 60, 90]);
 /// values::and_compare_with(&[19, 64, 7], Comparison::Less, &limits, rows.bits_mut());
 /// assert_eq!(rows, Bitmap::from([true, false, false]));
+/// # }
 /// ```
 ///
 /// # Panics

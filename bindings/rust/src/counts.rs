@@ -84,7 +84,7 @@ impl Bits<'_> {
     /// use vortex_bits::Bits;
     ///
     /// let (left, right) = (Bits::new(&[0b1100], 0, 4), Bits::new(&[0b1110], 0, 4));
-    /// assert!(left.is_disjoint(!right) && !left.is_disjoint(right));
+    /// assert!(left.slice(..2).is_disjoint(right.slice(..2)) && !left.is_disjoint(right));
     /// ```
     #[doc(alias("intersects"))]
     #[inline]

@@ -4,6 +4,7 @@
 //! their minimum and maximum.
 //!
 //! ```
+//! # #[cfg(feature = "alloc")] {
 //! use vortex_bits::{Bitmap, Bits, Comparison, values};
 //!
 //! // Which of five rows are valid, from bit 3 of a byte on, and which of these are above 2.
@@ -14,6 +15,7 @@
 //! // Rows at indices.
 //! assert_eq!(values::take(&column, &[4u32, 0]), [8, 7]);
 //! assert_eq!(valid.take(&[4u32, 1]), Bitmap::from([true, false]));
+//! # }
 //! ```
 //!
 //! Bit `i` of some bytes is bit `i % 8` of byte `i / 8`. A window is the `len` bits starting at bit

@@ -8,7 +8,7 @@ use crate::Bitmap;
 
 /// Writes a bit per value to `out`: whether `mask` selects it and the bit of `set` at that index is
 /// set. A negative value, and one that isn't below the length of `set`, is no member. If the mask
-/// is None, all values are selected. The parameters are those of [`is_in`](crate::values::is_in).
+/// is None, all values are selected. The parameters are those of `is_in`.
 ///
 /// ```
 /// use vortex_bits::{Bits, BitsMut, values};
@@ -35,15 +35,17 @@ pub fn is_in_into<'a, I: BitIndex>(
 }
 
 /// Unsets each bit of `mask` whose value isn't in the set. The result is that of `&=` with the
-/// result of [`is_in`](crate::values::is_in), but no bitmap is allocated. Values at unset bits may
+/// result of `is_in`, but no bitmap is allocated. Values at unset bits may
 /// be any numbers.
 ///
 /// ```
+/// # #[cfg(feature = "alloc")] {
 /// use vortex_bits::{Bitmap, values};
 ///
 /// let (keys, mut rows) = (Bitmap::from_indices(50, &[7u32, 42]), Bitmap::from([true, true, false]));
 /// values::and_is_in(&[42i64, -7, 7], &keys, rows.bits_mut());
 /// assert_eq!(rows, Bitmap::from([true, false, false]));
+/// # }
 /// ```
 ///
 /// # Panics

@@ -25,7 +25,7 @@ impl BitsMut<'_> {
     ///     scope.spawn(|| low.and_of(left.slice(..397), right.slice(..397)));
     ///     scope.spawn(|| high.and_of(left.slice(397..), right.slice(397..)));
     /// });
-    /// assert_eq!(both, (left & right).bits());
+    /// assert_eq!(both, Bits::new(&[0b1000_1000; 100], 0, 797));
     /// ```
     ///
     /// # Panics

@@ -22,6 +22,7 @@ use crate::{BitIndex, Bitmap, Grow};
 /// validity on both sides.
 ///
 /// ```
+/// # #[cfg(feature = "alloc")] {
 /// use vortex_bits::{Bits, Validity};
 ///
 /// let some = Validity::new(Some(Bits::new(&[0b0110], 0, 4)), 4);
@@ -31,6 +32,7 @@ use crate::{BitIndex, Bitmap, Grow};
 /// assert_eq!((all.and(all), all.take(&[3u32, 0]), some.or(all)), (None, None, None));
 /// assert_eq!(all, Validity::from(Bits::new(&[0b1111], 0, 4)));
 /// assert_eq!((!some, !all), ([true, false, false, true].into(), [false; 4].into()));
+/// # }
 /// ```
 #[doc(alias("null", "NullBuffer"))]
 #[derive(Clone, Copy, Debug)]

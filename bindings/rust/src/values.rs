@@ -11,6 +11,7 @@
 //! instead of a panic.
 //!
 //! ```
+//! # #[cfg(feature = "alloc")] {
 //! use vortex_bits::{Bits, values};
 //!
 //! let column = [10i64, 20, 30, 40];
@@ -18,6 +19,7 @@
 //! assert_eq!(values::take(&column, &[3u8, 0]), [40, 10]);
 //! assert_eq!(values::take_valid(&column, &[3i32, 1, -1], valid), [40, 20, 0]);
 //! assert!(values::try_take(&column, &[4u32]).is_err());
+//! # }
 //! ```
 
 #[cfg(feature = "alloc")]
