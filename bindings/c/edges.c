@@ -111,6 +111,24 @@ static void stops(uint8_t *bytes, size_t behind)
     check(vb_set_slices(runs, 0, bytes, size, BITS, 8 * behind) == 0, "no room");
 }
 
+/* Checks that walks with space for all items read nothing after the page of the last bit. */
+static void fits(uint8_t *bytes, size_t behind)
+{
+    const size_t size = BYTES + behind;
+    memset(bytes, 0xFF, BYTES);
+    for (size_t len = 1; len < 200; len++) {
+        const size_t from = BITS - len;
+        check(vb_set_indices(places, len, bytes, size, from, len) == len
+                && places[len - 1] == len - 1, "places up to the end of a page");
+        check(vb_set_indices_u32(narrow, len, bytes, size, from, len) == len
+                && narrow[len - 1] == len - 1, "places of 32 bits up to the end of a page");
+        check(vb_set_slices(runs, len, bytes, size, from, len) == 1 && runs[0].end == len,
+            "a run up to the end of a page");
+        check(vb_set_slices_u32(narrow_runs[0], len, bytes, size, from, len) == 1
+                && narrow_runs[0][0].end == len, "a run of 32 bits up to the end of a page");
+    }
+}
+
 /* Checks indices of 32 bits in a window of 2^32 bits and in a longer one. */
 static void longest(void)
 {
@@ -177,6 +195,7 @@ int main(void)
         walk(bytes, offset, len, random_below(3) == 0 ? random_below(50) : random_below(len + 1));
     }
     stops(bytes, behind);
+    fits(bytes, behind);
     longest();
     bools();
     return failures == 0 ? 0 : 1;

@@ -312,8 +312,9 @@ VB_CHECKED bool vb_try_is_subset(const uint8_t *left, size_t left_size, size_t l
 
 /*
  * Writes the indices of the set bits, in ascending order, to the front of `out`, up to its
- * capacity, and returns the number written (`written`). Reads no page of memory after that of the
- * last bit whose index fits in `out`. It is faster if there is capacity for each bit.
+ * capacity, and returns the number written (`written`). Reads no page of memory after those of the
+ * window nor, if it fills `out`, after that of the last bit in it. It is faster if there is capacity
+ * for each bit.
  *
  *     const uint8_t rows[] = {0xE8, 0x06};
  *     size_t places[4];
@@ -340,7 +341,7 @@ VB_CHECKED bool vb_try_set_indices_u32(uint32_t *out, size_t out_count, const ui
 /*
  * Writes the runs of set bits, from front to end, each as long as possible, to the front of `out`,
  * up to its capacity, and returns the number written (`written`). Reads no page of memory after
- * that of the end of the last run that fits in `out`.
+ * those of the window nor, if it fills `out`, after that of the end of the last run in it.
  *
  *     const uint8_t rows[] = {0xE8, 0x06};
  *     vb_run runs[4];

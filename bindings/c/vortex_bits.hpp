@@ -242,7 +242,7 @@ public:
     /* Does the same where `valid`, if there is one, is true; writes false at other positions. */
     template <class Indices, class Out>
     [[nodiscard]] std::optional<std::size_t> take_into(const Indices &indices,
-        const std::optional<bits> &valid, Out &&out) const;
+        std::optional<bits> valid, Out &&out) const;
 
     /*
      * Writes the bits that `mask`, of the same length, selects, in order, to the first bits of
@@ -283,12 +283,12 @@ public:
 private:
     friend class bits_mut;
     friend class ranks;
-    friend std::size_t count_valid(const std::optional<bits> &, const std::optional<bits> &,
+    friend std::size_t count_valid(std::optional<bits>, std::optional<bits>,
         std::size_t);
     friend struct detail::aggregate;
     template <class Values, class Indices, class Out>
     friend std::optional<std::size_t> take_values(const Values &, const Indices &,
-        const std::optional<bits> &, Out &&);
+        std::optional<bits>, Out &&);
 
     template <class Answer, class... Values>
     Answer by_another(Answer (*call)(const std::uint8_t *, std::size_t, std::size_t,
@@ -405,7 +405,7 @@ public:
     void and_not(bits right) { by_another(vb_and_not_bits, right); }
 
     /* Sets the bits of rows that aren't valid to false; a missing validity changes nothing. */
-    void and_validity(const std::optional<bits> &validity);
+    void and_validity(std::optional<bits> validity);
 
     /* Writes the result of two windows, which may overlap each other. */
     void and_of(bits left, bits right) { by_two(vb_and_into, left, right); }
@@ -414,7 +414,7 @@ public:
     void and_not_of(bits left, bits right) { by_two(vb_and_not_into, left, right); }
 
     /* Writes which rows are valid in both of two columns. No row of `nullopt` is null. */
-    void and_validities_of(const std::optional<bits> &left, const std::optional<bits> &right);
+    void and_validities_of(std::optional<bits> left, std::optional<bits> right);
 
     /*
      * Undoes filter_into: writes the bits of `values` in order where `mask`, of this length, is
@@ -433,7 +433,7 @@ public:
     std::size_t filter_of(bits values, bits mask);
 
     /* Does the same with a validity; if it is missing, writes true for each row selected. */
-    std::size_t filter_validity_of(const std::optional<bits> &validity, bits mask);
+    std::size_t filter_validity_of(std::optional<bits> validity, bits mask);
 
     /*
      * Takes bits of `values`, as bits::take_into writes them, where `valid`, if there is one, is
@@ -443,7 +443,7 @@ public:
      */
     template <class Indices>
     [[nodiscard]] std::optional<std::size_t> take_of(bits values, const Indices &indices,
-        const std::optional<bits> &valid = std::nullopt);
+        std::optional<bits> valid = std::nullopt);
 
     /*
      * Writes which of `left and right`, or of `left or right`, are true, by three-valued logic on

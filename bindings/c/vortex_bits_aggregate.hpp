@@ -163,7 +163,7 @@ struct aggregate {
      */
     template <class Totals, class Codes, class Call>
     static std::optional<std::size_t> by_group(Totals &totals, const Codes &codes,
-        const std::optional<bits> &mask, Call call)
+        std::optional<bits> mask, Call call)
     {
         using code = item_t<Codes>;
         using as = typename laid<sizeof(code)>::type;
@@ -236,7 +236,7 @@ template <class Values> [[nodiscard]] auto masked_max(const Values &values, bits
  */
 template <class Counts, class Codes>
 [[nodiscard]] std::optional<std::size_t> group_counts(Counts &&counts, const Codes &codes,
-    const std::optional<bits> &mask = std::nullopt)
+    std::optional<bits> mask = std::nullopt)
 {
     using code = detail::item_t<Codes>;
     static_assert(detail::is_code<code>(), "codes are whole numbers of 8, 16 or 32 bits");
@@ -256,7 +256,7 @@ template <class Counts, class Codes>
  */
 template <class Sums, class Codes, class Values>
 [[nodiscard]] std::optional<std::size_t> group_sums(Sums &&sums, const Codes &codes,
-    const Values &values, const std::optional<bits> &mask = std::nullopt)
+    const Values &values, std::optional<bits> mask = std::nullopt)
 {
     using code = detail::item_t<Codes>;
     using value = detail::item_t<Values>;

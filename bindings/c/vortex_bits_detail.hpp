@@ -110,7 +110,7 @@ template <class F, class... Item> bool goes_on(F &f, Item &&...item)
     if constexpr (std::is_same_v<std::decay_t<answer>, bool>) {
         return f(std::forward<Item>(item)...);
     } else {
-        f(std::forward<Item>(item)...);
+        static_cast<void>(f(std::forward<Item>(item)...));
         return true;
     }
 }

@@ -49,7 +49,7 @@ inline std::optional<bits> validity(const std::uint8_t *bytes, std::size_t size,
  * Returns how many of `len` rows are valid in both of two columns: of one column, if the other one
  * is nullopt.
  */
-inline std::size_t count_valid(const std::optional<bits> &left, const std::optional<bits> &right,
+inline std::size_t count_valid(std::optional<bits> left, std::optional<bits> right,
     std::size_t len)
 {
     detail::expect((!left || left->len_ == len) && (!right || right->len_ == len),
@@ -89,7 +89,7 @@ std::optional<std::size_t> bits::take_into(const Indices &indices, Out &&out) co
 
 template <class Indices, class Out>
 std::optional<std::size_t> bits::take_into(const Indices &indices,
-    const std::optional<bits> &valid, Out &&out) const
+    std::optional<bits> valid, Out &&out) const
 {
     static_assert(detail::is_bytes<Out>(), "take_into writes bytes of std::uint8_t");
     return take(indices, valid ? &*valid : nullptr, out.data(), detail::size(out), 0);
@@ -114,15 +114,15 @@ inline std::size_t bits_mut::filter_of(bits values, bits mask)
         mask.bytes_, mask.size_, mask.offset_, mask.len_);
 }
 
-inline void bits_mut::and_validity(const std::optional<bits> &validity)
+inline void bits_mut::and_validity(std::optional<bits> validity)
 {
     detail::expect(!validity || validity->len_ == len_, "windows are of two lengths");
     const bits rows = validity.value_or(bits());
     vb_and_validity(writable(), size_, offset_, rows.bytes_, rows.size_, rows.offset_, len_);
 }
 
-inline void bits_mut::and_validities_of(const std::optional<bits> &left,
-    const std::optional<bits> &right)
+inline void bits_mut::and_validities_of(std::optional<bits> left,
+    std::optional<bits> right)
 {
     detail::expect((!left || left->len_ == len_) && (!right || right->len_ == len_),
         "windows are of two lengths");
@@ -131,7 +131,7 @@ inline void bits_mut::and_validities_of(const std::optional<bits> &left,
         other.size_, other.offset_, len_);
 }
 
-inline std::size_t bits_mut::filter_validity_of(const std::optional<bits> &validity, bits mask)
+inline std::size_t bits_mut::filter_validity_of(std::optional<bits> validity, bits mask)
 {
     detail::expect(!validity || validity->len_ == mask.len_, "windows are of two lengths");
     detail::expect(mask.len_ <= len_ || mask.count_ones() <= len_, "no room for the bits to keep");
@@ -142,7 +142,7 @@ inline std::size_t bits_mut::filter_validity_of(const std::optional<bits> &valid
 
 template <class Indices>
 std::optional<std::size_t> bits_mut::take_of(bits values, const Indices &indices,
-    const std::optional<bits> &valid)
+    std::optional<bits> valid)
 {
     detail::expect(detail::size(indices) <= len_, "no room for a bit an index");
     return values.take(indices, valid ? &*valid : nullptr, writable(), size_, offset_);

@@ -112,7 +112,7 @@ std::size_t bits::scatter_into(const Values &values, Out &&out) const
  */
 template <class Values, class Indices, class Out>
 [[nodiscard]] std::optional<std::size_t> take_values(const Values &values, const Indices &indices,
-    const std::optional<bits> &valid, Out &&out)
+    std::optional<bits> valid, Out &&out)
 {
     using value = std::remove_cv_t<detail::lent_t<const Values>>;
     using index = std::remove_cv_t<detail::lent_t<const Indices>>;

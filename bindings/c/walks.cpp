@@ -75,6 +75,10 @@ static void stops(const buffer &all, std::size_t n)
     calls = 0;
     window.for_each_set([&](std::size_t) { return ++calls, 0; });
     check(calls == places.size(), "a number is no answer");
+    enum class [[nodiscard]] told { yes };
+    window.for_each_set([&](std::size_t) { return ++calls, told::yes; });
+    window.for_each_run([&](std::size_t, std::size_t) { return ++calls, told::yes; });
+    check(calls == 2 * places.size() + runs.size(), "a result that must be used is ignored");
 }
 
 /* Windows over temporary views of bytes that have a name. */

@@ -34,8 +34,10 @@ static bool fits(const uint8_t *bytes, size_t size, size_t offset, size_t len)
 
 /* Writes the indices of a window page by page, by the function `find` of a level. */
 #define PLACES(find, type)                                                                        \
+    (void)size;                                                                                   \
     if (out_count >= len) {                                                                       \
-        return CALL(find)(ANY(out, out_count), ANY(bytes, size), offset, len);                    \
+        const size_t end = bytes_of(offset + len);                                                \
+        return CALL(find)(ANY(out, out_count), ANY(bytes, end), offset, len);                     \
     }                                                                                             \
     size_t written = 0;                                                                           \
     for (size_t at = 0, n; at < len && written < out_count; at += n) {                            \
@@ -100,9 +102,11 @@ static size_t run_end(const uint8_t *bytes, size_t offset, size_t at, size_t len
 size_t vb_set_slices(vb_run *out, size_t out_count, const uint8_t *bytes, size_t size,
     size_t offset, size_t len)
 {
+    (void)size;
     /* A window of len bits has at most this number of runs. */
     if (out_count >= len - len / 2) {
-        return CALL(set_slices)(ANY(out, out_count), ANY(bytes, size), offset, len);
+        const size_t end = bytes_of(offset + len);
+        return CALL(set_slices)(ANY(out, out_count), ANY(bytes, end), offset, len);
     }
     size_t written = 0, at = 0;
     while (at < len && written < out_count) {
