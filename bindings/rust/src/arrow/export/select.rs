@@ -31,6 +31,11 @@ pub(super) use memory::all_true;
 use memory::reserved;
 use rows::{Rows, Runs};
 
+/// If a mask selects at most one row in so many, the rows of a batch or of texts are selected by
+/// their indices, which are computed once for all columns. A single column of numbers takes less
+/// time by the words of the mask.
+const SPARSE: usize = 64;
+
 /// Rows of any type.
 impl Array {
     /// Returns the rows that a mask selects, in their order, with their name, type, flags and
@@ -81,8 +86,15 @@ impl Array {
         let of = slice::from_ref(self);
         match mask.mask() {
             Some(mask) => {
-                let rows = Rows::Mask(mask, mask.count_ones());
-                export(self.field().clone(), of, rows)
+                let kept = mask.count_ones();
+                let field = self.field().clone();
+                let by_words = matches!(field.layout, Layout::Fixed(..) | Layout::Bits);
+                if by_words || kept > mask.len() / SPARSE {
+                    return export(field, of, Rows::Mask(mask, kept));
+                }
+                let mut places = reserved(&field, kept)?;
+                places.extend(mask.set_indices());
+                export(field, of, Rows::Places(&places, None))
             }
             None => Export::concat(self.field(), of),
         }
