@@ -22,12 +22,14 @@ fn drive_is_plain(rt: &impl Abort, global: Global, heap: &Refusing<Global>, line
     drop(written);
 }
 
-/// A session is plain whatever request, copies of the allocator among them, is refused.
+/// A session makes a request, and is plain whatever request, copies of the allocator among them, is
+/// refused.
 fn each_is_refused(rt: &impl Abort, global: Global, heap: &Refusing<Global>, lines: &str) {
     for _ in heap.in_turn() {
         drive_is_plain(rt, global, heap, lines);
     }
-    equal(rt, (lines, heap.has_refused()), (lines, false));
+    let (refuses, asks) = (heap.has_refused(), heap.asked() > 0);
+    equal(rt, (lines, refuses, asks), (lines, false, true));
 }
 
 #[test]
