@@ -1,6 +1,6 @@
 //! Known results, with ample memory and with each allocation failing in turn.
 use crate::tests::equal;
-use crate::{Condition, filtered, rows_failing, rows_where};
+use crate::{Column, Condition, filtered, matching_rows, rows_failing, rows_where};
 use std::alloc::Global;
 use std::process::Abort;
 use vb_testing::Refusing;
@@ -10,6 +10,9 @@ type Heap<'a> = &'a Refusing<Global>;
 
 /// Five ages, the third of which is null.
 const AGES: &[u32] = &[31, 17, 0, 54, 18];
+
+/// Which of the ages aren't null.
+const VALID: &[bool] = &[true, true, false, true, true];
 
 /// A condition, the valid ages that meet it, which of all ages that meet it are those of members,
 /// and the number of allocations.
@@ -30,7 +33,7 @@ const ROWS: &[Row] = &[
 
 fn ages<'a>(heap: Heap<'a>, condition: Condition) -> Result<Buffer<u32, Heap<'a>>> {
     let values = Buffer::copy_from(heap, AGES)?;
-    let valid = BitBuffer::from_bools(heap, &[true, true, false, true, true])?;
+    let valid = BitBuffer::from_bools(heap, VALID)?;
     let found = filtered(heap, &values, &valid, condition);
     drop((values, valid));
     found
@@ -70,6 +73,62 @@ fn filters_are_answered_or_refused(rt: HostRuntime) {
     }
 }
 
+/// The least age, the number above the greatest one, and the rows with a valid age between them.
+type Span = (u32, u32, &'static [bool]);
+
+const SPANS: &[Span] = &[
+    (18, 50, &[true, false, false, false, true]),
+    // The value of the null meets both conditions.
+    (0, 18, &[false, true, false, false, false]),
+    // Some ages meet one of the conditions, and none meets both.
+    (32, 54, &[false, false, false, false, false]),
+];
+
+/// Finds the rows that meet both conditions.
+fn between<'a>(
+    heap: Heap<'a>,
+    column: &Column<Heap<'a>>,
+    least: u32,
+    bound: u32,
+) -> Result<BitBuffer<Heap<'a>>> {
+    let (values, valid) = (column.values(), column.valid());
+    let old = matching_rows(heap, values, valid, Condition::AtLeast(least))?;
+    let young = matching_rows(heap, values, valid, Condition::Below(bound))?;
+    old & young
+}
+
+fn rows_between<'a>(heap: Heap<'a>, span: &Span) -> Result<BitBuffer<Heap<'a>>> {
+    let values = Buffer::copy_from(heap, AGES)?;
+    let valid = BitBuffer::from_bools(heap, VALID)?;
+    let column = Column::new(values, valid);
+    let rows = between(heap, &column, span.0, span.1);
+    drop(column);
+    rows
+}
+
+/// Asserts that the made rows are these.
+fn has_rows(rt: &impl Abort, made: Result<BitBuffer<Heap<'_>>>, wanted: &[bool]) -> Result<()> {
+    let rows = made?;
+    equal(rt, rows.iter().eq(wanted.iter().copied()), true);
+    drop(rows);
+    Ok(())
+}
+
+#[test]
+fn rows_of_two_conditions_are_found_or_refused(rt: HostRuntime) {
+    let heap = Refusing::new(rt.alloc(), 0);
+    let refused = Err(BufferError::OutOfMemory);
+    for span in SPANS {
+        for _ in heap.in_turn() {
+            let answer = has_rows(&rt, rows_between(&heap, span), span.2);
+            equal(&rt, answer, heap.wanted(Ok(()), refused));
+        }
+        // The bytes and the count of owners of the values, of their mask and of the rows of each
+        // condition; and a count of owners for each `&`, whose result is in the left side's bytes.
+        equal(&rt, (heap.has_refused(), heap.asked()), (false, 11));
+    }
+}
+
 /// The masks of two conditions and which rows of each are valid, for each of the nine pairs of
 /// true, false and null. The bit of a null is true on the left and false on the right.
 const MASKS: [&[bool]; 4] = [
@@ -97,13 +156,6 @@ fn failing<'a>(heap: Heap<'a>) -> Result<BitBuffer<Heap<'a>>> {
     made
 }
 
-fn fails(rt: &impl Abort, made: Result<BitBuffer<Heap<'_>>>) -> Result<()> {
-    let rows = made?;
-    equal(rt, rows.iter().eq(FAILING.iter().copied()), true);
-    drop(rows);
-    Ok(())
-}
-
 #[test]
 fn a_null_fails_where_the_other_side_does_or_memory_is_refused(rt: HostRuntime) {
     let heap = Refusing::new(rt.alloc(), 0);
@@ -111,7 +163,7 @@ fn a_null_fails_where_the_other_side_does_or_memory_is_refused(rt: HostRuntime) 
         let refused = Err(BufferError::OutOfMemory);
         equal(
             &rt,
-            fails(&rt, failing(&heap)),
+            has_rows(&rt, failing(&heap), FAILING),
             heap.wanted(Ok(()), refused),
         );
     }
