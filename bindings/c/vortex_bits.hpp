@@ -413,7 +413,7 @@ public:
     void xor_of(bits left, bits right) { by_two(vb_xor_into, left, right); }
     void and_not_of(bits left, bits right) { by_two(vb_and_not_into, left, right); }
 
-    /* Writes which rows are valid in both of two columns. No row of `nullopt` is null. */
+    /* Writes which rows are valid in two columns, or in a mask and one. `nullopt` has no null. */
     void and_validities_of(std::optional<bits> left, std::optional<bits> right);
 
     /*
@@ -446,10 +446,10 @@ public:
         std::optional<bits> valid = std::nullopt);
 
     /*
-     * Writes which of `left and right`, or of `left or right`, are true, by three-valued logic on
-     * truth values that may be null. `and` is false if one is false, and `or` is true if one is
-     * true, even if the other one is null. Else the result is null if one is, and false is written
-     * here. `valid` gets which results are not null. A side without a validity has no null.
+     * Writes which of `left and right`, or of `left or right`, are true, by three-valued logic:
+     * `and` is false if one is false, `or` is true if one is true, even if the other one is null;
+     * else the result is null if one is, and false here. `valid` gets which are not null. A side
+     * without a validity has no null. `not` negates the values; `&=` them with `valid` to select.
      */
     void and_kleene_of(bits left, std::optional<bits> left_valid, bits right,
         std::optional<bits> right_valid, bits_mut valid);

@@ -250,7 +250,8 @@ VB_CHECKED bool vb_try_masked_max_i64(const int64_t *values, size_t values_count
 /*
  * Returns the sum of the selected floats, 0.0 if there are none. It starts from 0.0 and adds one
  * float after the other, in the order of the rows, each rounded as IEEE 754 says: the result is that
- * of a plain loop, bit by bit, unless it is NaN.
+ * of a plain loop, bit by bit, unless it is NaN. The sums of several batches, added, may differ from
+ * that of one loop over all.
  *
  *     const double weights[] = {1e16, 7.0, 1.0, -1e16};
  *     const uint8_t mask[] = {0x0D};

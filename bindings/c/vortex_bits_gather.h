@@ -319,7 +319,8 @@ VB_CHECKED bool vb_try_deposit_bits(uint8_t *out, size_t out_size, size_t out_of
  * on. If `left_all_valid` is true, none of `left` is null, and its validity may be null, of no
  * bytes. Else a value is null if its bit of `left_validity`, from bit `left_validity_offset` on, is
  * false, whatever the value is. The same holds for the right side. `not` needs no separate call:
- * negate the values by vb_negate_bits, and keep the validity.
+ * negate the values by vb_negate_bits, and keep the validity. The negated values are then true at
+ * nulls: before they select rows, combine them with the validity by vb_and_bits.
  *
  *     // True, true, false and null, with true, false, true and false.
  *     uint8_t trues[] = {0}, valid[] = {0};

@@ -4,7 +4,7 @@ use alloc::string::{String, ToString};
 use core::error::Error;
 use core::fmt;
 
-use crate::{BadIndex, OutOfBounds, TakeError, TakeValuesError};
+use crate::{BadIndex, GroupError, OutOfBounds, TakeError, TakeValuesError};
 
 /// The errno of an invalid argument.
 pub(super) const EINVAL: i32 = 22;
@@ -68,7 +68,7 @@ macro_rules! refusals {
     )*};
 }
 
-refusals!(TakeValuesError TakeError OutOfBounds BadIndex);
+refusals!(TakeValuesError TakeError GroupError OutOfBounds BadIndex);
 
 /// Why an import, an export, or a call on an array failed.
 #[derive(Clone, Debug, PartialEq, Eq)]
@@ -142,6 +142,8 @@ pub enum ArrowError {
     BadIndex(BadIndex),
     /// A window or a slice ends after the bits or rows, or starts after its end.
     OutOfBounds(OutOfBounds),
+    /// Values, a mask or the codes of rows don't fit the groups.
+    Group(GroupError),
     /// Memory runs out for the bytes of texts, for copied rows, or for the numbers that say which
     /// rows to copy.
     Memory {
@@ -350,6 +352,7 @@ impl fmt::Display for ArrowError {
             ArrowError::TakeBits(error) => write!(f, "{error}"),
             ArrowError::BadIndex(error) => write!(f, "{error}"),
             ArrowError::OutOfBounds(error) => write!(f, "{error}"),
+            ArrowError::Group(error) => write!(f, "{error}"),
             ArrowError::Memory { column, bytes } => {
                 write!(f, "{}no memory for rows of {bytes} bytes", Of(column))
             }
@@ -408,7 +411,8 @@ impl ArrowError {
             | ArrowError::NoColumn { .. }
             | ArrowError::TakeBits(_)
             | ArrowError::BadIndex(_)
-            | ArrowError::OutOfBounds(_) => return self,
+            | ArrowError::OutOfBounds(_)
+            | ArrowError::Group(_) => return self,
         };
         let point = if column.is_empty() { "" } else { "." };
         *column = alloc::format!("{parent}{point}{column}");
@@ -450,6 +454,12 @@ impl From<TakeValuesError> for ArrowError {
 impl From<TakeError> for ArrowError {
     fn from(error: TakeError) -> ArrowError {
         ArrowError::TakeBits(error)
+    }
+}
+
+impl From<GroupError> for ArrowError {
+    fn from(error: GroupError) -> ArrowError {
+        ArrowError::Group(error)
     }
 }
 

@@ -7,7 +7,7 @@ use std::sync::Mutex;
 use vortex_bits::arrow::{
     ArrowArray, ArrowError, Export, ExportStream, Field, Stream, StreamError,
 };
-use vortex_bits::{Bitmap, Bits, values};
+use vortex_bits::{Bitmap, Bits, GroupError, values};
 
 /// The hook is one for all threads.
 static HOOK: Mutex<()> = Mutex::new(());
@@ -73,14 +73,20 @@ fn a_bad_index_in_a_batch_is_an_errno() {
     );
 }
 
+/// The error of rows whose second code names no group.
+fn grouped() -> GroupError {
+    values::try_group_counts(&mut [0; 2], &[1i32, 5], None::<Bits<'_>>).unwrap_err()
+}
+
 #[test]
 fn refusals_of_windows_are_errors_of_streams() {
     let bits = Bits::new(&[0b101], 0, 3);
-    let errors: [StreamError; 4] = [
+    let errors: [StreamError; 5] = [
         values::try_take(&[1u8], &[1u8]).unwrap_err().into(),
         bits.try_take(&[3]).unwrap_err().into(),
         Bits::try_new(&[0], 4, 5).unwrap_err().into(),
         Bitmap::try_from_indices(9, &[9]).unwrap_err().into(),
+        grouped().into(),
     ];
     let said = errors.map(|error| error.to_string());
     assert_eq!(
@@ -99,6 +105,10 @@ fn refusals_of_windows_are_errors_of_streams() {
         said[3],
         "errno 22: index 9 at position 0 is no place of 9 bits"
     );
+    assert_eq!(said[4], "errno 22: code 5 of row 1 names none of 2 groups");
+    let error = ArrowError::from(grouped());
+    assert_eq!(StreamError::from(error.clone()).text, error.to_string());
+    assert_eq!(said[4], format!("errno 22: {error}"));
 }
 
 /// Batches that panic in some way at the second one.
