@@ -109,8 +109,8 @@ fn named(archive: &[u8], level: &str) -> Option<String> {
 }
 
 fn folder() -> PathBuf {
-    let own = || PathBuf::from(env::var_os("CARGO_MANIFEST_DIR").unwrap_or_default());
-    env::var_os("VORTEX_BITS_NATIVE").map_or_else(|| own().join("native"), PathBuf::from)
+    let own = PathBuf::from(env::var_os("CARGO_MANIFEST_DIR").unwrap_or_default());
+    own.join(env::var_os("VORTEX_BITS_NATIVE").unwrap_or_else(|| "native".into()))
 }
 
 /// The version that is in the names of archives and functions, so that a program may have two.

@@ -19,18 +19,22 @@ class BuildScript(unittest.TestCase):
         shutil.copytree(CRATE, self.crate, ignore=left_out)
         self.target = Path(folder.name) / "target"
 
-    def compiles(self) -> bool:
-        """Returns whether a build compiles the crate."""
+    def build(self, **variables: str) -> str:
+        """Builds the crate, and returns what cargo prints."""
         kept = {name: it for name, it in os.environ.items() if name != "VORTEX_BITS_NATIVE"}
         ended = subprocess.run(
             ["cargo", "build", "--offline"],
             cwd=self.crate,
-            env={**kept, "CARGO_TARGET_DIR": str(self.target)},
+            env={**kept, **variables, "CARGO_TARGET_DIR": str(self.target)},
             capture_output=True,
             text=True,
             check=True,
         )
-        return "Compiling vortex_bits" in ended.stderr
+        return ended.stderr
+
+    def compiles(self) -> bool:
+        """Returns whether a build compiles the crate."""
+        return "Compiling vortex_bits" in self.build()
 
     def test_a_second_build_compiles_nothing_where_there_are_no_archives(self):
         self.assertEqual((self.compiles(), self.compiles()), (True, False))
@@ -43,6 +47,11 @@ class BuildScript(unittest.TestCase):
     def test_a_package_without_the_folder_is_built_once_too(self):
         shutil.rmtree(self.crate / "native")
         self.assertEqual((self.compiles(), self.compiles()), (True, False))
+
+    def test_a_relative_folder_of_archives_is_one_of_the_crate(self):
+        # rustc may run in another folder than the build script, so it gets the whole path.
+        folder = self.crate / "elsewhere"
+        self.assertIn(f"no {folder}/libvortex_bits", self.build(VORTEX_BITS_NATIVE="elsewhere"))
 
 
 if __name__ == "__main__":

@@ -219,7 +219,7 @@ fn digits(text: &str) -> Option<usize> {
 fn decimal(parameters: &str) -> Option<usize> {
     let mut numbers = parameters.split(',');
     let (digits, scale) = (numbers.next()?, numbers.next()?);
-    let bits = numbers.next().map_or(Some(128), |bits| bits.parse().ok())?;
+    let bits = numbers.next().map_or(Some(128), self::digits)?;
     let most = match bits {
         32 => 9,
         64 => 18,
@@ -227,8 +227,9 @@ fn decimal(parameters: &str) -> Option<usize> {
         256 => 76,
         _ => return None,
     };
-    let has_digits = digits.parse().is_ok_and(|it: u32| (1..=most).contains(&it));
-    let is_known = has_digits && scale.parse::<i32>().is_ok() && numbers.next().is_none();
+    let has_digits = self::digits(digits).is_some_and(|it| (1..=most).contains(&it));
+    let has_scale = !scale.starts_with('+') && scale.parse::<i32>().is_ok();
+    let is_known = has_digits && has_scale && numbers.next().is_none();
     is_known.then_some(bits)
 }
 

@@ -52,9 +52,14 @@ fn part(maker: &mut Maker, array: &Array) -> Array {
     array.slice(start..start + len)
 }
 
-/// A mask by chance, from some bit of its bytes on, of single rows and of runs.
+/// A mask by chance, from some bit of its bytes on: of single rows and of runs, or of at most one
+/// row in 64, which a filter selects by their indices.
 fn mask(maker: &mut Maker, len: usize) -> Bitmap {
     let offset = maker.below(20);
+    if maker.below(4) == 0 {
+        let few: Vec<usize> = (0..len / 64).map(|_| offset + maker.below(len)).collect();
+        return Bitmap::from_indices(offset + len, &few).slice(offset..);
+    }
     let each = maker.one_of(&[1, 3, 30]);
     let all = (offset + len).div_ceil(each);
     let runs: Vec<bool> = (0..all).map(|_| maker.below(2) == 0).collect();

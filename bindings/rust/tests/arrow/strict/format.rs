@@ -89,7 +89,7 @@ fn number(text: &str) -> Option<usize> {
 fn decimal(parameters: &str) -> Option<usize> {
     let parts: Vec<i32> = parameters
         .split(',')
-        .map(|it| it.parse().ok())
+        .map(|it| it.parse().ok().filter(|_| !it.starts_with('+')))
         .collect::<Option<_>>()?;
     let (digits, bits) = match parts[..] {
         [digits, _] => (digits, 128),
