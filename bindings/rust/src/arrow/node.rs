@@ -4,6 +4,7 @@ use alloc::sync::Arc;
 use alloc::vec::Vec;
 use core::ffi::c_void;
 use core::ptr::{self, NonNull};
+use core::sync::atomic::AtomicBool;
 
 use super::error::{ArrowError, Fault};
 use super::ffi::{ArrowArray, Owned};
@@ -24,6 +25,9 @@ pub(super) struct Node {
     /// The bits, values, views, or offsets of texts and lists (one more than rows). It is null only
     /// if these take no bytes, or there are no items.
     pub values: *const u8,
+    /// Whether the offsets of all texts or lists have been tested. No one writes them, so they are
+    /// tested once.
+    pub ascends: AtomicBool,
     /// All buffers, as the producer passed them.
     pub buffers: Vec<*const c_void>,
     /// The children. Let `end` be `offset + len`: a child of a struct or of a sparse union has at
@@ -77,6 +81,7 @@ impl Node {
             },
             validity: if all_valid { ptr::null() } else { validity },
             values,
+            ascends: AtomicBool::new(false),
             buffers,
             // SAFETY: the caller promises it.
             children: unsafe { children(array, field, owner)? },

@@ -1,7 +1,8 @@
 //! Texts and lists, whose rows lie between offsets.
 use std::ops::Range;
 
-use vortex_bits::arrow::Array;
+use vortex_bits::Bits;
+use vortex_bits::arrow::{Array, ArrowError, Fault};
 
 use crate::raw::{self, Buffer, Count, Schema, import, import_as};
 
@@ -221,4 +222,26 @@ fn views_that_lie_in_no_buffer_are_named() {
     let no_views = raw::Array::new(1, vec![None, None, None], &Count::default());
     let refused = import_as(no_views, "vz").map(drop).unwrap_err().to_string();
     assert_eq!(refused, "the buffer of the views is null");
+}
+
+#[test]
+fn a_test_of_a_part_is_none_of_the_whole() {
+    for (format, is_wide) in [("u", false), ("U", true)] {
+        let numbers = Some(offsets(&[0, 2, 5, 3, 9], is_wide, 0));
+        let buffers = vec![None, numbers, Some(Buffer::new(b"abcdefghi", 0))];
+        let texts = import_as(raw::Array::new(4, buffers, &Count::default()), format).unwrap();
+        for _ in 0..2 {
+            assert_eq!(texts.slice(..2).texts().unwrap().get(1), Some(&b"cde"[..]));
+            assert_eq!(texts.slice(3..).bytes().unwrap().len(), 9);
+            let wrong = Fault::Range {
+                row: 2,
+                start: 5,
+                end: 3,
+            };
+            let error = texts.texts().unwrap_err();
+            assert!(matches!(error, ArrowError::Malformed { fault, .. } if fault == wrong));
+            assert!(texts.slice(1..3).ranges().is_err());
+        }
+        assert_eq!(texts.filter(Bits::new(&[0b1010], 0, 4)).unwrap().len(), 2);
+    }
 }

@@ -4,6 +4,7 @@ use alloc::vec::Vec;
 use core::ffi::c_void;
 use core::slice;
 use core::str::from_utf8;
+use core::sync::atomic::Ordering;
 
 use super::Array;
 use crate::arrow::error::{ArrowError, Fault};
@@ -15,8 +16,8 @@ use crate::arrow::texts::{Texts, View};
 /// Texts and lists.
 impl Array {
     /// Returns the range of each row: of texts in the [`bytes`](Array::bytes), of lists in the
-    /// [`items`](Array::items). It reads each offset once. The ranges of null rows are arbitrary,
-    /// but in bounds.
+    /// [`items`](Array::items). It tests each offset until a call for the whole array has tested all
+    /// of them. The ranges of null rows are arbitrary, but in bounds.
     ///
     /// ```
     /// use vortex_bits::arrow::Export;
@@ -46,7 +47,12 @@ impl Array {
 
     fn offsets(&self) -> Result<Ranges<'_>, ArrowError> {
         let ranges = self.untested_ranges()?;
-        ranges.ascend().map_err(|fault| self.malformed(fault))?;
+        if !self.node.ascends.load(Ordering::Relaxed) {
+            ranges.ascend().map_err(|fault| self.malformed(fault))?;
+            if self.len == self.node.len {
+                self.node.ascends.store(true, Ordering::Relaxed);
+            }
+        }
         self.ends_with_all()?;
         Ok(ranges)
     }
@@ -85,8 +91,8 @@ impl Array {
         }
     }
 
-    /// Returns the bytes of each valid row of texts or binary values. It reads each offset or view
-    /// once.
+    /// Returns the bytes of each valid row of texts or binary values. It tests each view, or each
+    /// offset until a call for the whole array has tested all of them.
     ///
     /// ```
     /// use vortex_bits::Bitmap;
