@@ -266,10 +266,11 @@ fn items_of_null_list_views_are_left_out() {
     let (null, one) = (lists(0, 5, i32::MAX.into()), lists(1, 0, 1));
     for parts in [[&null, &one, &null, &one], [&null, &null, &one, &one]] {
         let parts = parts.map(Array::clone);
-        let (rows, _schema) = raw_of(Export::concat(one.field(), &parts).unwrap());
+        let (rows, schema) = raw_of(Export::concat(one.field(), &parts).unwrap());
         assert_eq!((rows.length, rows.null_count), (4, 2));
         // SAFETY: a list view has one child.
         assert_eq!(unsafe { (**rows.children).length }, 1);
+        assert_eq!(import(rows, schema).unwrap().len(), 4);
     }
     let joined = Export::concat(one.field(), &[null.clone(), null]).unwrap();
     assert_eq!(joined.into_array().null_count(), Ok(2));
