@@ -51,7 +51,7 @@ class AnttPages:
         return [f"{keyword} Rattle.{it}.{folder}.{name}.{{..}}{end}" for it in [*owners, crate]]
 
     def shown(self, file: AnttFile, folder: str) -> list[Declaration]:
-        """All definitions; of lemmas, those that others can cite."""
+        """All definitions, or the lemmas that other files can cite."""
         if folder == "specs":
             return file.declarations
         return [it for it in file.declarations if it.is_public and it.kind != "ruleset"]

@@ -49,5 +49,5 @@ def words_of(text: str) -> list[Word]:
 
 
 def parts_of(name: str) -> list[str]:
-    """What is written of a name: of `◌≡◌` it is `≡`, of `if◌then◌else◌` three words."""
+    """The parts of a name between its arguments: `≡` for `◌≡◌`, three words for `if◌then◌else◌`."""
     return [it for it in name.split("◌") if it] if "◌" in name else [name]

@@ -14,7 +14,7 @@ AROUND = re.compile(
     r'extern "C" \{|\})\n', re.MULTILINE
 )
 CODE_LINE = re.compile(r"((?:(?:^    .*)?\n)*^    .*\n?)", re.MULTILINE)
-# Names of headers, and names in them, but for a beginning such as vb_try_.
+# Names of headers, and names in them, except prefixes such as vb_try_.
 NAMED = re.compile(r"(?<![\w`/])((?:vb|VB)_\w*[A-Za-z0-9]\b(?!\w)|vortex_bits\w*\.hp?p?\b)")
 TYPE = re.compile(r"^(?:typedef struct \{.*|)\} (\w+);", re.MULTILINE)
 CONSTANT = re.compile(r"^(?:#define |    )(V\w+)", re.MULTILINE)
@@ -49,7 +49,7 @@ class Entry:
         return docs_of(self.comment)
 
     def calls(self) -> list[Declared]:
-        """Its declarations but for the checked forms of others."""
+        """Its declarations, except the checked forms of others."""
         return [it for it in self.declared if not it.name.startswith("vb_try_")]
 
     def checked(self, call: Declared) -> Declared | None:

@@ -63,7 +63,7 @@ def match_html(found: re.Match[str], lookup: Lookup) -> str:
 
 
 class DocLinks:
-    """What the paths in docstrings stand for."""
+    """The items that the paths in docstrings name."""
 
     def __init__(self, library: Library) -> None:
         self.library = library

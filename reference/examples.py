@@ -82,7 +82,7 @@ class Reader:
 
     # ---- variables
     def let(self, i: int) -> None:
-        """Keeps the type of `let x = ..;`, as far as it can be told."""
+        """Keeps the type of `let x = ..;`, if it can be found."""
         i += 1
         wraps = self.text(i) in ("Some", "Ok")
         if wraps:

@@ -129,7 +129,7 @@ class Fragments:
                 cited.append(item)
 
     def definitions(self, linked: Iterable[Linked]) -> list[Declaration]:
-        """The definitions that words stand for, each once."""
+        """The definitions that the words name, each once."""
         found = {}
         for it in linked:
             target = it.target
@@ -158,7 +158,7 @@ class Fragments:
         return tag("details", body, class_="glossary", open="open" if is_open else "")
 
     def ghosts(self, page: Page, block: Item) -> str:
-        """What a trait or an implementation says in contracts alone."""
+        """The ghosts of a trait or an implementation: only contracts can use these."""
         rows = []
         for it in block.of_kind("ghost"):
             scope = self.scopes.of_block(it)

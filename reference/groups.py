@@ -26,7 +26,7 @@ GROUPS = [
      r"|as_(view|bytes)|into_\w+|try_into_\w+|take|inner|byte_aligned_bytes"),
 ]
 OTHERS = "Read"
-# A table of fewer calls is read at once.
+# A table of fewer calls is short enough without groups.
 MANY = 13
 
 
@@ -36,7 +36,7 @@ def group_of(name: str) -> str:
 
 
 def table(rows: list[tuple[str, str]]) -> str:
-    """The table of these rows, each after the name of its call: by group, if they are many."""
+    """The table of rows, each passed with its call's name; by group if there are many."""
     if len(rows) < MANY:
         return plain(rows)
     found: dict[str, list[str]] = {title: [] for title in [*(it for it, _ in GROUPS), OTHERS]}

@@ -69,7 +69,7 @@ def token_html(token: Token, link: Link) -> str:
 
 
 def rust_lines(source: Source) -> list[str]:
-    """The lines of a file, each as HTML that stands by itself."""
+    """The lines of a file, each as complete HTML."""
     text, parts, at = source.text, [], 0
     for token in source.tokens:
         parts.append(escape(text[at : token.start], quote=False))
@@ -80,7 +80,7 @@ def rust_lines(source: Source) -> list[str]:
 
 
 def linked_html(linked: Iterable[Linked], href: Callable[[str], str]) -> str:
-    """A clause or a definition, each word as a link to what it stands for, or with a title."""
+    """A clause or a definition, each word as a link to what it names, or with a title."""
     return "".join(word_html(it, href) for it in linked)
 
 

@@ -103,7 +103,7 @@ class ItemPages:
                 self.call(page, it)
 
     def block_heading(self, page: Page, item: Item, block: Item, last: str) -> str:
-        """What the file says of the calls that stand in it, and for which types they are."""
+        """The heading of a block: its file's first sentence, and the types that it is for."""
         if block is item:
             return last
         crate = self.library.crates[block.crate]
@@ -170,7 +170,7 @@ class ItemPages:
             self.implementation(page, impl)
 
     def traits(self, item: Item) -> list[tuple[Item, str]]:
-        """The implementations of traits for a type, but for that of its model."""
+        """The implementations of traits for a type, except that of its model."""
         return [it for it in self.library.impls_of(item) if it[1] and it[1] != "Model"]
 
     def implementation(self, page: Page, impl: Item) -> None:

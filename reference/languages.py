@@ -24,7 +24,7 @@ MANY = 4
 
 @dataclass(frozen=True)
 class Named:
-    """A call under its name, with its address; without one if it has no page."""
+    """A call: its name, and the address of its page; empty if it has none."""
 
     name: str
     url: str = ""
@@ -119,7 +119,7 @@ class Languages:
                         known += [it for it in found[other] if it not in known]
 
     def named(self, language: str, names: list[str], call: Declared) -> list[Named]:
-        """What the names of a column stand for; they are in the table beside a call of C."""
+        """The calls that the names of a column mean, in the table's row of a call of C."""
         find = {"C++": self.of_cpp, "Rust": self.of_rust, "Rattle": self.of_rattle}[language]
         found = []
         for name in names:
@@ -132,7 +132,7 @@ class Languages:
         return found
 
     def of_cpp(self, name: str, call: str) -> list[Named]:
-        """The calls of this name; of several ones those that name the C function."""
+        """The calls of this name; if there are several, those that call the C function."""
         name = name if name[0].isalpha() else f"operator{name}"
         calls = [it for entry in self.entries("C++") for it in entry.declared
                  if name in (it.name, it.last)]
@@ -140,7 +140,7 @@ class Languages:
         return [Named(it, self.urls[it]) for it in dict.fromkeys(found)]
 
     def of_rust(self, name: str, _: str) -> list[Named]:
-        """The item of this name: of several ones that of a window."""
+        """The item of this name; if there are several, that of a window."""
         found = [it for it in self.rust if f"::{it.name}".endswith(f"::{name}")]
         found.sort(key=lambda it: FIRST.get(it.name.partition("::")[0], len(FIRST)))
         return [Named(it.name, it.url) for it in found[:1]]

@@ -1,4 +1,4 @@
-"""The crates of the repository, and what a name in one of them stands for."""
+"""The crates of the repository, and what a name in one of them means."""
 import re
 from dataclasses import dataclass, field
 from functools import cached_property
@@ -121,7 +121,7 @@ class Library:
 
     # ---- names of Rust
     def find(self, crate: str, module: Path_, name: str, depth: int = 0) -> Item | None:
-        """What a name stands for in a module, if it is an item of the repository."""
+        """The item that a name in a module means, if it is one of the repository."""
         place = self.crates[crate].modules.get(module) if crate in self.crates else None
         if place is None or depth > 9:
             return None
@@ -131,7 +131,7 @@ class Library:
         return self.find_path(crate, module, path, depth + 1) if path else None
 
     def find_path(self, crate: str, module: Path_, path: Path_, depth: int = 0) -> Item | None:
-        """What a path stands for that is written in a module."""
+        """The item that a path in a module means."""
         *front, name = path
         if not front:
             return self.find(crate, module, name, depth)
@@ -212,7 +212,7 @@ class Library:
         return sorted(found, key=lambda it: self.rank(it[0], item))
 
     def rank(self, impl: Item, item: Item) -> int:
-        """What makes values of a type comes first, then what stands in the type's own file."""
+        """The rank of a block: first those that make values, then those in the type's own file."""
         return 0 if impl.module[-1:] == ("make",) else 1 if impl.module == item.module else 2
 
     def impls_for_trait(self, item: Item) -> list[tuple[Item, str]]:

@@ -1,4 +1,4 @@
-"""Each word of a clause or of a definition, with what it stands for."""
+"""Each word of a clause or of a definition, with what it means."""
 from dataclasses import dataclass
 from typing import Iterator
 
@@ -12,7 +12,7 @@ PASSED = {"now", "old", "new", "entry", "exit"}  # of what a reference lends, an
 
 @dataclass
 class Linked:
-    """A word with what it stands for, and the anchor that it is, if it declares something."""
+    """A word with what it means, and its own anchor, if it declares something."""
 
     word: Word
     target: Target | None = None
@@ -204,7 +204,7 @@ class Linker:
             return Linked(word, LOCAL, self.anchor(word.text), is_own=True)
         if self.is_label(i):
             return Linked(word, self.unique_field(word.text, self.all_shapes()) or Target("field"))
-        # An operator that is passed on, as `◌+◌` in `fold ◌+◌ 0 l`, is known by what is written of it.
+        # An operator as an argument, as `◌+◌` in `fold ◌+◌ 0 l`, is also known without its `◌`.
         target = self.lookup(word.text) or self.lookup(word.text.strip("◌"))
         if target is None:
             self.unknown.append(word)

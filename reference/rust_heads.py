@@ -11,7 +11,7 @@ LIFETIME = re.compile(r"'[a-z_]\w*")
 
 
 def split_top(text: str, mark: str) -> list[str]:
-    """The parts of a text between the marks that stand outside of brackets."""
+    """The parts of a text between the marks outside of brackets."""
     parts, depth, start = [], 0, 0
     for i, it in enumerate(text):
         if it in "([{<":
@@ -25,7 +25,7 @@ def split_top(text: str, mark: str) -> list[str]:
 
 
 def group_end(text: str, start: int) -> int:
-    """The place behind the group of brackets that opens at `start`."""
+    """The index after the group of brackets that opens at `start`."""
     depth = 0
     for i in range(start, len(text)):
         if text[i] in "([{<":

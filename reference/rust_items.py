@@ -10,7 +10,7 @@ CLAUSES = {"requires", "ensures"}
 
 @dataclass
 class Clause:
-    """A `requires`, `ensures` or `ghost`: its name, if it has one, and the place of its text."""
+    """A `requires`, `ensures` or `ghost`: its name, if it has one, and the range of its text."""
 
     kind: str
     name: str
@@ -117,7 +117,7 @@ class Parser:
         return self.all[self.i - 1].text
 
     def skip_to(self, *stops: str) -> None:
-        """Goes on to the first of these that stands outside of brackets."""
+        """Goes on to the first of these outside of brackets."""
         while self.peek() not in stops:
             if self.i >= len(self.all):
                 raise self.fail(f"expected one of {stops}")
@@ -129,7 +129,7 @@ class Parser:
     def end_of_last(self) -> int:
         return self.all[self.i - 1].end
 
-    # ---- what stands above an item
+    # ---- the lines above an item
     def preamble(self) -> Item:
         """The docstring, the comment and the attributes above an item, and its visibility."""
         item = Item("", "", self.source, 0)

@@ -48,7 +48,7 @@ class Source:
         return [0] + [it.end() for it in re.finditer("\n", self.text)]
 
     def line(self, place: int) -> int:
-        """The number of the line, from 1, that a place in the text is in."""
+        """The number of the line, from 1, that has this index of the text."""
         return bisect_right(self.line_starts, place)
 
     def at(self, place: int) -> str:
@@ -75,6 +75,6 @@ def skip_group(tokens: list[Token], i: int) -> int:
 
 
 def dedented(text: str, indent: int) -> str:
-    """The text whose first line stood at `indent`, with as many spaces fewer in each line."""
+    """The text with `indent` spaces fewer in each line after the first one."""
     first, *rest = text.split("\n")
     return "\n".join([first, *(it[indent:] if not it[:indent].strip() else it for it in rest)])

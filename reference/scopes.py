@@ -1,4 +1,4 @@
-"""What the words of a clause or of a definition may stand for, by where they are written."""
+"""The meanings of the words of a clause or of a definition, by the file and block around it."""
 from dataclasses import dataclass, field
 
 from reference.antt_items import AnttFile, Declaration, Use, parse_use
@@ -11,7 +11,7 @@ from reference.urls import Urls
 
 @dataclass(frozen=True)
 class Target:
-    """What a word stands for: where it leads, and what it says. A word of std leads nowhere."""
+    """The meaning of a word: where it leads, and what it says. A word of std leads nowhere."""
 
     kind: str
     url: str = ""

@@ -11,7 +11,7 @@
   const root = document.body.dataset.root;
   let chosen = 0;
 
-  // How well a name answers what was typed; 0 where it doesn't.
+  // How well a name matches the typed text; 0 if it doesn't.
   function rank(name, typed) {
     const low = name.toLowerCase().split("<")[0];
     const last = low.slice(Math.max(low.lastIndexOf(":"), low.lastIndexOf(".")) + 1).trim()
@@ -26,7 +26,7 @@
     return 0;
   }
 
-  // How well a row answers a word: by its name, by another word for it, or by its sentence.
+  // How well a row matches a word: by its name, by another word for it, or by its sentence.
   function good(row, word) {
     const want = word.toLowerCase();
     const alias = row[6].split(" ").some((it) => it.startsWith(want));

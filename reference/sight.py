@@ -77,7 +77,7 @@ class Sight:
         return f'<tr id="{escape(self.urls.anchors[id(field)])}">{row}</tr>'
 
     def model(self, page: Page, model: Item) -> None:
-        """The value that stands for it in contracts, and what always holds of it."""
+        """The value that represents it in contracts, and what always holds of it."""
         rows = []
         for it in model.of_kind("ghost"):
             scope = self.fragments.scopes.of_block(it)

@@ -263,7 +263,7 @@ class Site:
 
     # ---- files
     def write(self, folder: Path) -> None:
-        """Writes all into a folder that isn't there, is empty, or has the pages of before."""
+        """Writes all into a folder that doesn't exist, is empty, or has an earlier run's pages."""
         if folder.exists() and any(folder.iterdir()):
             if not (folder / "names.js").exists():
                 raise SourceError(f"{folder} has files that aren't pages of the reference")

@@ -1,4 +1,4 @@
-"""Where each thing stands in the pages."""
+"""The address of each thing in the pages."""
 from urllib.parse import quote
 
 from reference.antt_items import AnttFile, Declaration
@@ -12,7 +12,7 @@ def source_page(path: str) -> str:
 
 
 def header_page(name: str, anchor: str = "") -> str:
-    """The page of a header, or the place of a name in it."""
+    """The address of a header's page, or of a name on it."""
     return f"c/{name}.html" + (f"#{quote(anchor)}" if anchor else "")
 
 
@@ -60,7 +60,7 @@ class Urls:
 
     def has_entry(self, item: Item, owner: Item) -> bool:
         """Whether the page of a type has an entry for one of its members; associated types have
-        none, and are shown where they stand in the source."""
+        none, and are shown in the source."""
         if item.kind == "type":
             return False
         if item.kind in ("variant", "ghost") or owner.kind == "trait" or item.visibility == "pub":

@@ -94,7 +94,7 @@ about() {
 }
 
 # Prints about how long the rest takes: the shares that are left, at the pace so far. The pace
-# starts as that of the shares, with a weight of 900 seconds. After the last crate a tenth of the
+# starts as if shares of 900 seconds had taken that time. After the last crate a tenth of the
 # part is left, for tests, edits and programs.
 rest() {
     local rest=$left proves=$((crates_all - crates_before))

@@ -25,7 +25,7 @@ pub struct Bench {
     pub level: String,
     /// How long the rounds of a row go on.
     budget: Duration,
-    /// A word that a row has to have to be measured.
+    /// The run measures only rows that have this word.
     word: String,
     /// Where rows go as lines of JSON.
     lines: BufWriter<File>,
@@ -70,8 +70,8 @@ impl Bench {
         self.times.with_those_before(&best(contenders, self.budget))
     }
 
-    /// Measures a row, once all its contenders have given the same answer. Targets are of x86-64-v2
-    /// and v3; at x86-64-v4 there are some of counts alone.
+    /// Measures a row, after a test that all contenders return the same. At x86-64-v4 only rows of
+    /// counts have targets.
     pub fn row(&mut self, row: Row) {
         let has_targets = self.level != "x86-64-v4" || self.part == "Counts";
         let row = if has_targets {

@@ -6,7 +6,7 @@ mod values;
 use crate::input::Window;
 pub use values::*;
 
-/// The place of a bit, if there is one.
+/// The index of a bit, if there is one.
 #[repr(C)]
 #[derive(Clone, Copy)]
 pub struct Place {
@@ -15,7 +15,7 @@ pub struct Place {
 }
 
 impl Place {
-    /// The place, or a number that is none.
+    /// The index; `usize::MAX` if there is none.
     pub fn index(self) -> usize {
         if self.found { self.index } else { usize::MAX }
     }
@@ -30,7 +30,7 @@ pub type Bytes = *const u8;
 /// A call on a window: its bytes, how many there are, its first bit, and its length in bits.
 pub type OnWindow = unsafe extern "C" fn(Bytes, usize, usize, usize) -> usize;
 
-/// A call of a directory: as [`OnWindow`], with the table's entries and the places or ranks.
+/// A call of a directory: as [`OnWindow`], with the table's entries and the indices or ranks.
 pub type OfTable = unsafe extern "C" fn(
     Bytes,
     usize,
@@ -56,11 +56,11 @@ pub type OfTableInTurn = unsafe extern "C" fn(
     usize,
 ) -> usize;
 
-/// Places of ranks by a directory that is made of bits, in so many rounds.
+/// Selects at ranks by a directory, which is built from bits first, in so many rounds.
 pub type SelectRounds =
     unsafe extern "C" fn(Bytes, usize, usize, *const usize, usize, usize) -> usize;
 
-/// A call on a set that is made of a window, in so many rounds.
+/// A call on a set that is built from a window, in so many rounds.
 pub type InRounds = unsafe extern "C" fn(Bytes, usize, usize, usize, usize) -> usize;
 
 /// A test of the bits of a window.
@@ -69,8 +69,8 @@ pub type Whether = unsafe extern "C" fn(Bytes, usize, usize, usize) -> bool;
 /// Finds the `n`-th true or false bit of a window.
 pub type Select = unsafe extern "C" fn(Bytes, usize, usize, usize, usize) -> Place;
 
-/// Writes the `len` bits of `src` from bit `s` on, combined in some way with those of `dst` from
-/// bit `d` on, over the latter.
+/// Replaces the `len` bits of `dst` from bit `d` on by their combination with those of `src` from
+/// bit `s` on.
 pub type Write = unsafe extern "C" fn(*mut u8, usize, usize, Bytes, usize, usize, usize);
 
 /// An operator on two windows of one length: which one, and in how many rounds.

@@ -1,5 +1,5 @@
-//! What is counted, searched and combined: bits without a pattern, of which a given share is set,
-//! and numbers without a pattern.
+//! Inputs to count, search and combine: bits without a pattern, of which a given share is set, and
+//! numbers without a pattern.
 
 /// Numbers without a pattern (splitmix64).
 pub struct Random(pub u64);
@@ -51,7 +51,7 @@ impl Input {
         Input::set_in_all_of(12, size)
     }
 
-    /// The bits that are set in each of so many random words.
+    /// Each word is the `and` of so many random ones.
     fn set_in_all_of(words: usize, size: usize) -> Self {
         let mut random = Random(1);
         Input::of(size, || {

@@ -1,6 +1,6 @@
 //! Three of the jobs of crates/run_jobs over vortex-buffer, with the same digest of all answers: a
-//! yardstick for `bench/run`. Values are filtered by the runs of the mask, and bits by its places,
-//! since vortex-buffer has no call for it.
+//! yardstick for `bench/run`. It filters values by the runs of the mask, and bits by its indices,
+//! since vortex-buffer has no call that filters.
 //!
 //!     jobs JOB ROUNDS SEED
 
@@ -33,7 +33,7 @@ impl Random {
     }
 }
 
-/// A sum of all answers so far, and one in which their order counts.
+/// A sum of all answers so far, and one that depends on their order.
 #[derive(Clone, Copy, Default)]
 struct Digest {
     sum: u64,

@@ -1,11 +1,11 @@
-//! The lines of `vbits` that the inputs of `bench/lines` are made of, answered over vortex-buffer
-//! by a plain program. A line that it doesn't know ends it.
+//! A plain program over vortex-buffer that answers the lines of `vbits` in the inputs of
+//! `bench/lines`. An unknown line ends it.
 
 use std::io::{self, BufRead, BufWriter, Write};
 
 use vortex_buffer::{BitBufferMut, ByteBufferMut};
 
-/// What a hexadecimal digit stands for, and 16 for any other byte.
+/// The value of a hexadecimal digit, and 16 for any other byte.
 const DIGITS: [u8; 256] = digits();
 
 const fn digits() -> [u8; 256] {

@@ -1,5 +1,5 @@
-//! The loops that a Rust program would write by hand. Bits lie in words, with a word more behind
-//! the last one that a window reaches into.
+//! The loops that a Rust program would write by hand. Bits are in words, and one more word follows
+//! the last one of a window.
 
 use crate::input::{Input, Window};
 
@@ -13,7 +13,7 @@ fn ones_in(bytes: &[u8]) -> usize {
     words(bytes).map(|word| word.count_ones() as usize).sum()
 }
 
-/// Counts the words, less the bits of the first and the last that lie outside of the window.
+/// Counts the bits of all words, less those of the first and the last word outside of the window.
 #[inline(never)]
 pub fn count_ones(w: Window) -> usize {
     if w.offset == 0 && w.len == 8 * w.bytes.len() {
@@ -69,7 +69,7 @@ pub fn all_set(w: Window) -> bool {
     !has::<true>(w)
 }
 
-/// Whether a bit is set, or clear with `UNSET`: of the first word, the ones between, or the last.
+/// Whether any bit is set, or clear with `UNSET`. Tests the first word, those between, the last.
 #[inline(always)]
 fn has<const UNSET: bool>(w: Window) -> bool {
     let mut words = words(w.bytes).map(|word| if UNSET { !word } else { word });
@@ -82,7 +82,7 @@ fn has<const UNSET: bool>(w: Window) -> bool {
     }
 }
 
-/// Finds the last set bit before a place.
+/// Finds the last set bit before an index.
 #[inline(never)]
 pub fn previous_set(w: Window, before: usize) -> usize {
     let end = w.offset + before;
@@ -128,7 +128,7 @@ pub fn for_each_set_bit(input: &Input, offset: usize, len: usize, mut call: impl
     }
 }
 
-/// The sum of the places of set bits.
+/// The sum of the indices of set bits.
 #[inline(never)]
 pub fn set_indices(input: &Input, offset: usize, len: usize) -> usize {
     let mut sum = 0usize;
@@ -136,7 +136,7 @@ pub fn set_indices(input: &Input, offset: usize, len: usize) -> usize {
     sum
 }
 
-/// The sum of the places of clear bits.
+/// The sum of the indices of clear bits.
 #[inline(never)]
 pub fn unset_indices(input: &Input, offset: usize, len: usize) -> usize {
     let mut sum = 0usize;
@@ -151,7 +151,7 @@ pub fn unset_indices(input: &Input, offset: usize, len: usize) -> usize {
     sum
 }
 
-/// The sum of the places of set bits, by a test of each bit.
+/// The sum of the indices of set bits, by a test of each bit.
 #[inline(never)]
 pub fn iter_bits(w: Window) -> usize {
     let bit = |place: usize| w.bytes[(w.offset + place) / 8] >> ((w.offset + place) % 8) & 1 == 1;
@@ -160,7 +160,7 @@ pub fn iter_bits(w: Window) -> usize {
     })
 }
 
-/// Which bits differ from true at even places, and from false at odd ones.
+/// Which bits differ from true at even indices, and from false at odd ones.
 #[inline(never)]
 pub fn map_cmp(w: Window) -> usize {
     let bit = |place: usize| w.bytes[(w.offset + place) / 8] >> ((w.offset + place) % 8) & 1 == 1;
@@ -216,7 +216,7 @@ pub fn above<T: PartialOrd + Copy>(out: &mut [u8], values: &[T], limit: T) {
     }
 }
 
-/// Which values are above others at their places, eight to a byte.
+/// Which values are above the others at the same index, eight to a byte.
 #[inline(never)]
 pub fn above_others<T: PartialOrd + Copy>(out: &mut [u8], values: &[T], others: &[T]) {
     let eights = values.chunks_exact(8).zip(others.chunks_exact(8));
@@ -228,8 +228,8 @@ pub fn above_others<T: PartialOrd + Copy>(out: &mut [u8], values: &[T], others: 
     }
 }
 
-/// `and` of truth values that may be null, of two columns of values and validity: which answers are
-/// true, and which aren't null, a word of each at a time.
+/// `and` of truth values that may be null, of two columns of values and validity: which results are
+/// true, and which aren't null, word by word.
 #[inline(never)]
 pub fn and_kleene(
     [trues, valid]: &mut [Vec<u64>; 2],
@@ -248,7 +248,7 @@ pub fn and_kleene(
     }
 }
 
-/// A window of whole words combined into words that begin with it.
+/// Combines a right window of whole words into the words of a left one, which begins at bit 0.
 #[inline(never)]
 pub fn combine_in_place(left: &mut [u64], right: (&Input, usize), len: usize) {
     for (l, r) in left.iter_mut().zip(realigned(right.0, right.1, len)) {
@@ -256,7 +256,7 @@ pub fn combine_in_place(left: &mut [u64], right: (&Input, usize), len: usize) {
     }
 }
 
-/// Bits of which a closure says whether they are true, in words; the answer is how many.
+/// Packs the bits that a closure returns for each index into words. Returns the number of indices.
 #[inline(always)]
 pub fn collect(len: usize, mut is_true: impl FnMut(usize) -> bool) -> usize {
     let word = |k: usize| {
@@ -299,7 +299,7 @@ pub fn append_bools(words: &mut Vec<u64>, before: usize, bools: &[bool]) -> usiz
     before + bools.len()
 }
 
-/// The same of bits that an iterator gives, of which each 64 are put into a word one by one.
+/// Does the same with the bits of an iterator, which it puts into each word one by one.
 #[inline(never)]
 pub fn extend(words: &mut Vec<u64>, before: usize, mut bits: impl Iterator<Item = bool>) -> usize {
     words.resize(before / 64 + 1, 0);
@@ -344,7 +344,7 @@ pub fn take_valid<I: Copy>(
     })
 }
 
-/// A set with the bits at the places true.
+/// A set with the bits at these indices true. Returns its length.
 #[inline(never)]
 pub fn from_indices(len: usize, places: &[usize]) -> usize {
     let mut made = vec![0u64; len.div_ceil(64)];
@@ -394,7 +394,7 @@ pub fn rank(input: &Input, offset: usize, table: &[usize], i: usize) -> usize {
     table[block] + ones_between(input, offset + 512 * block, offset + i)
 }
 
-/// The place of the `n`-th set bit of a window, over its table.
+/// The index of the `n`-th set bit of a window, over its table.
 #[inline(always)]
 pub fn select_by_table(input: &Input, offset: usize, table: &[usize], n: usize) -> usize {
     let block = table.partition_point(|&before| before <= n) - 1;
@@ -413,7 +413,7 @@ pub fn select_by_table(input: &Input, offset: usize, table: &[usize], n: usize) 
     usize::MAX
 }
 
-/// Adds one to each entry, or takes it away.
+/// Adds `by` to each entry, wrapping around.
 #[inline(never)]
 pub fn move_entries(entries: &mut [usize], by: usize) {
     for entry in entries {
@@ -421,14 +421,14 @@ pub fn move_entries(entries: &mut [usize], by: usize) {
     }
 }
 
-/// The numbers whose bytes these are.
+/// Reads numbers from their bytes.
 #[inline(never)]
 pub fn read_from(bytes: &[u8]) -> Vec<u32> {
     let item = |bytes: &[u8]| u32::from_le_bytes([bytes[0], bytes[1], bytes[2], bytes[3]]);
     bytes.chunks_exact(4).map(item).collect()
 }
 
-/// The values whose bit is set, of a mask that begins with its words.
+/// The values whose bit of a mask is set. The mask begins at bit 0 of its words.
 #[inline(never)]
 pub fn filtered(values: &[u32], mask: &Input) -> Vec<u32> {
     let words = mask.words();
@@ -442,7 +442,7 @@ pub fn filtered(values: &[u32], mask: &Input) -> Vec<u32> {
     kept
 }
 
-/// The values at the set places of a mask written one by one; it begins with its words.
+/// Writes the values at the set bits of a mask one by one. The mask begins at bit 0 of its words.
 #[inline(never)]
 pub fn filter_ones<T: Copy>(out: &mut [T], values: &[T], mask: &Input) -> usize {
     let mut at = 0;
@@ -453,7 +453,7 @@ pub fn filter_ones<T: Copy>(out: &mut [T], values: &[T], mask: &Input) -> usize 
     at
 }
 
-/// The bits at the set places of a mask written one by one; both begin with their words.
+/// Writes the bits at the set bits of a mask one by one. Both begin at bit 0 of their words.
 #[inline(never)]
 pub fn filter_bits(out: &mut [u64], bits: &Input, mask: &Input, len: usize) -> usize {
     let words = bits.words();
@@ -467,7 +467,7 @@ pub fn filter_bits(out: &mut [u64], bits: &Input, mask: &Input, len: usize) -> u
     at
 }
 
-/// The bits written one by one to the set places of a mask, and 0 elsewhere; both begin with their
+/// Writes bits one by one to the set bits of a mask, and 0 elsewhere. Both begin at bit 0 of their
 /// words.
 #[inline(never)]
 pub fn deposit(out: &mut [u64], bits: &Input, mask: &Input, len: usize) -> usize {

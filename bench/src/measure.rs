@@ -1,20 +1,20 @@
 //! Times side by side: all contenders take turns, and the best round of each counts. Before each
-//! turn the contender answers once unmeasured, so it finds the caches as it leaves them itself and
-//! not as another does.
+//! turn the contender runs once unmeasured, so that the caches are as it leaves them itself, and
+//! not as another one does.
 
 use std::hint::black_box;
 use std::time::{Duration, Instant};
 
-/// There is at least one round for each such part of the time of a row, however long a round takes.
+/// A row has at least one round per such part of its budget, however long a round takes.
 const ROUND: Duration = Duration::from_millis(25);
 
-/// What a contender's part of a round takes at least, so that the clock is fine enough.
+/// The least time of a contender's turn in a round: the clock is fine enough for it.
 const PART: Duration = Duration::from_micros(20);
 
-/// The least ratio of the time of a round's questions to the time of making its sets before them.
+/// A turn's calls take at least this many times as long as making its sets takes.
 const SHARE: u32 = 4;
 
-/// A function that answers a number, the same as every other contender.
+/// A function that returns a number, the same one as every other contender.
 pub struct Contender<'a> {
     ask: Box<dyn Fn(usize) -> usize + 'a>,
     answers: usize,
@@ -22,12 +22,12 @@ pub struct Contender<'a> {
 }
 
 impl<'a> Contender<'a> {
-    /// A function that answers one question.
+    /// A function that makes one call.
     pub fn of(answer: impl Fn() -> usize + 'a) -> Self {
         Contender::of_each(1, answer)
     }
 
-    /// A function that answers so many questions in a call: its time is that of one of them.
+    /// A function that makes so many calls at once: its time is that of one of them.
     pub fn of_each(answers: usize, answer: impl Fn() -> usize + 'a) -> Self {
         let ask = move |times| (0..times).fold(0, |_, _| black_box(answer()));
         Contender {
@@ -37,8 +37,8 @@ impl<'a> Contender<'a> {
         }
     }
 
-    /// A function that makes its sets, and then answers the given number of times. The time of
-    /// making them isn't counted: it is measured with 0 answers, and subtracted.
+    /// A function that makes its sets, and then calls the given number of times. The time of making
+    /// them isn't counted: it is measured with 0 calls, and subtracted.
     pub fn in_rounds(ask: impl Fn(usize) -> usize + 'a) -> Self {
         Contender {
             ask: Box::new(move |times| black_box(ask(times))),
@@ -47,12 +47,12 @@ impl<'a> Contender<'a> {
         }
     }
 
-    /// The answer, once.
+    /// The result of one run.
     pub fn answer(&self) -> usize {
         (self.ask)(1)
     }
 
-    /// The time of all answers, given so many times.
+    /// The time of so many runs.
     fn time(&self, times: usize) -> Duration {
         let start = Instant::now();
         black_box((self.ask)(times));
@@ -67,7 +67,7 @@ impl<'a> Contender<'a> {
         }
     }
 
-    /// How many times all answers are given in a round. The first time warms the caches.
+    /// The number of runs in a turn. An extra run before warms the caches.
     fn times_in_a_round(&self) -> usize {
         self.time(1);
         let made = self.making().min(self.making());
@@ -79,7 +79,7 @@ impl<'a> Contender<'a> {
     }
 }
 
-/// The nanoseconds of one answer of each contender, from rounds that go on for so long.
+/// The nanoseconds of one call of each contender, from rounds that take this long in all.
 pub fn best(contenders: &[Contender], budget: Duration) -> Vec<f64> {
     let times: Vec<usize> = contenders.iter().map(|c| c.times_in_a_round()).collect();
     let mut makings = vec![Duration::MAX; contenders.len()];

@@ -11,14 +11,14 @@ pub const UPSTREAM: &str = "upstream";
 pub const LOOP: &str = "loop";
 
 /// The names of a loop over the ones of a mask, and of the Rust crate without its archives, which
-/// stand beside the others.
+/// are in the column `beside`.
 pub const ONES: &str = "a loop over ones";
 pub const PORTABLE: &str = "portable Rust";
 
-/// How far above a target a ratio may be and count as met: a tolerance for the noise of rounds.
+/// A target counts as met up to this factor: a tolerance for the noise of rounds.
 pub const NOISE: f64 = 1.02;
 
-/// What a time is held against.
+/// The unit of a target.
 #[derive(Clone, Copy)]
 enum Over {
     /// The time of another contender.
@@ -96,7 +96,7 @@ impl<'a> Row<'a> {
         self
     }
 
-    /// The crate that ours is compared with, where it is there.
+    /// Upstream's crate, if the build has it.
     pub fn upstream(self, other: Option<Contender<'a>>) -> Self {
         match other {
             Some(other) => self.beside(UPSTREAM, other),
@@ -136,7 +136,7 @@ impl<'a> Row<'a> {
         self
     }
 
-    /// Whether a word stands in the call or the input.
+    /// Whether the call or the input has a word.
     pub fn has(&self, word: &str) -> bool {
         self.call.contains(word) || self.input().contains(word)
     }
@@ -194,7 +194,7 @@ impl<'a> Row<'a> {
         }
     }
 
-    /// What came of a target, unless its other contender isn't there.
+    /// The outcome of a target; None if its other contender is missing.
     fn outcome(&self, target: &Target, times: &[Placed]) -> Option<Outcome> {
         let (over, reached) = match target.over {
             Over::Other(name) => {
@@ -334,7 +334,7 @@ impl Outcome {
     }
 }
 
-/// A time with as many digits as tell something.
+/// A time, with two decimals below 10, one below 1,000, else none.
 pub fn figure(time: f64) -> String {
     match time {
         ..10.0 => format!("{time:.2}"),
@@ -343,7 +343,7 @@ pub fn figure(time: f64) -> String {
     }
 }
 
-/// A share as a percentage of at most two digits that tell something.
+/// A share as a percentage with at most two decimals.
 fn percent(share: f64) -> String {
     let percent = 100.0 * share;
     if percent >= 1.0 {

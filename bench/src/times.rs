@@ -23,7 +23,7 @@ impl Times {
         }
     }
 
-    /// The times of the next row's contenders, one of each, with those of the programs before.
+    /// The times of the next row's contenders: this program's, and those of the programs before.
     pub fn with_those_before(&mut self, own: &[f64]) -> Vec<Placed> {
         let mut placed: Vec<_> = own.iter().map(|&time| Placed(vec![time])).collect();
         for lines in &mut self.before {
@@ -39,7 +39,7 @@ impl Times {
     }
 }
 
-/// The times of a contender, in nanoseconds, of each program one.
+/// The times of a contender in nanoseconds, one per program.
 pub struct Placed(Vec<f64>);
 
 impl Placed {
@@ -59,7 +59,7 @@ impl Placed {
     }
 }
 
-/// The number in the middle, or halfway between the two that are.
+/// The number in the middle, or the mean of the two numbers there.
 fn median(mut numbers: Vec<f64>) -> f64 {
     numbers.sort_by(f64::total_cmp);
     let at = numbers.len() / 2;

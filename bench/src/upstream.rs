@@ -94,7 +94,7 @@ pub fn last_set_index(set: &BitBuffer) -> usize {
     set.last_set_index().unwrap_or(set.len())
 }
 
-/// The last true bit of what is before a place.
+/// The last true bit before an index, by a slice.
 #[inline(never)]
 pub fn previous_set(set: &BitBuffer, before: usize) -> usize {
     set.slice(..before).last_set_index().unwrap_or(usize::MAX)
@@ -113,7 +113,7 @@ pub fn eq(left: Window, right: Window) -> usize {
     (view(left) == view(right)) as usize
 }
 
-/// Takes a result as a caller would who keeps it, and lets it go.
+/// Uses a result, so that the compiler has to make it, and drops it.
 #[inline(never)]
 fn used(set: BitBuffer) -> usize {
     black_box(&set).len()
@@ -288,7 +288,7 @@ pub fn append_buffer(grown: &mut BitBufferMut, set: &BitBuffer, before: usize) -
     grown.len()
 }
 
-/// By a set made of the truth values, since it has no call that appends these.
+/// Appends a set built from the truth values, since upstream has no call that appends these.
 #[inline(never)]
 pub fn append_bools(grown: &mut BitBufferMut, bools: &[bool], before: usize) -> usize {
     grown.truncate(before);
@@ -296,7 +296,7 @@ pub fn append_bools(grown: &mut BitBufferMut, bools: &[bool], before: usize) -> 
     grown.len()
 }
 
-/// The same of an iterator's.
+/// The same with the items of an iterator.
 #[inline(never)]
 pub fn extend(grown: &mut BitBufferMut, bytes: &[u8], before: usize) -> usize {
     grown.truncate(before);
@@ -322,7 +322,7 @@ pub fn buffer_copy_from(items: &[u32]) -> usize {
     black_box(&Buffer::<u32>::copy_from(items)).len()
 }
 
-/// By a copy of the bytes that is aligned as the items are, and a cast.
+/// Reads items by a cast of an aligned copy of the bytes.
 #[inline(never)]
 pub fn buffer_read_from(bytes: &[u8]) -> usize {
     let bytes = ByteBuffer::copy_from_aligned(bytes, Alignment::of::<u32>());
@@ -348,7 +348,7 @@ pub fn buffer_slice(buffer: &Buffer<u32>, start: usize) -> usize {
     black_box(&buffer.slice(start..buffer.len())).len()
 }
 
-/// By the runs of a mask, as an engine over it copies them.
+/// Filters values by the runs of a mask, as an engine over upstream does.
 #[inline(never)]
 pub fn filtered(values: &Buffer<u32>, mask: &BitBuffer) -> usize {
     let mut kept = BufferMut::<u32>::with_capacity(mask.true_count());
@@ -358,7 +358,7 @@ pub fn filtered(values: &Buffer<u32>, mask: &BitBuffer) -> usize {
     black_box(&kept.freeze()).len()
 }
 
-/// The places of a mask, and a bit appended for each.
+/// Appends a bit for each index that a mask selects.
 #[inline(never)]
 pub fn filter_bits(bits: &BitBuffer, mask: &BitBuffer) -> usize {
     let mut kept = BitBufferMut::with_capacity(mask.true_count());
@@ -368,7 +368,8 @@ pub fn filter_bits(bits: &BitBuffer, mask: &BitBuffer) -> usize {
     used(kept.freeze())
 }
 
-/// The places of a mask, and a bit set for each that gets a true one; how many places these are.
+/// Sets a bit at each index that a mask selects and that gets a true bit. Returns the number of
+/// selected indices.
 #[inline(never)]
 pub fn deposit(bits: &BitBuffer, mask: &BitBuffer) -> usize {
     let (mut made, mut at) = (BitBufferMut::new_unset(mask.len()), 0);

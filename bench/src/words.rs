@@ -80,7 +80,7 @@ fn by_selected<T: Copy>(values: &[T], mask: Window, mut call: impl FnMut(usize, 
     });
 }
 
-/// Stores bits in their order from a bit on, behind those before it.
+/// Stores bits in order from a bit on, and keeps those before it.
 struct Writer {
     to: *mut u8,
     /// The lowest `used` bits are to be stored, the others are 0.
@@ -179,7 +179,7 @@ pub fn select(w: Window, n: usize) -> usize {
     usize::MAX
 }
 
-/// Where the `n`-th one of a word is.
+/// The index of the `n`-th one of a word.
 #[inline(always)]
 fn select_in(word: u64, n: usize) -> usize {
     #[cfg(target_feature = "bmi2")]
@@ -360,7 +360,7 @@ fn are_below(indices: &[u32], len: usize) -> bool {
         .fold(true, |below, &at| below & ((at as usize) < len))
 }
 
-/// Writes the values at indices; answers whether all of these are in range.
+/// Writes the values at indices if all of these are in range. Returns whether they are.
 #[inline(never)]
 pub fn take<T: Copy>(out: &mut [T], values: &[T], indices: &[u32]) -> bool {
     if !are_below(indices, values.len()) {
@@ -372,7 +372,7 @@ pub fn take<T: Copy>(out: &mut [T], values: &[T], indices: &[u32]) -> bool {
     true
 }
 
-/// Writes the values at the indices that a validity has, and 0 elsewhere; answers the same.
+/// Writes the values at valid indices, and 0 elsewhere. Returns whether valid ones are in range.
 #[inline(never)]
 pub fn take_valid(out: &mut [i64], values: &[i64], indices: &[u32], valid: Window) -> bool {
     let mut good = true;
@@ -390,7 +390,7 @@ pub fn take_valid(out: &mut [i64], values: &[i64], indices: &[u32], valid: Windo
     good
 }
 
-/// Writes the bits at indices; answers whether all of these are in range.
+/// Writes the bits at indices if all of these are in range. Returns whether they are.
 #[inline(never)]
 pub fn take_bits(out: &mut [u8], to: usize, from: Window, indices: &[u32]) -> bool {
     if !are_below(indices, from.len) {
@@ -436,7 +436,7 @@ pub fn masked_min<T: Copy + Ord>(values: &[T], mask: Window) -> Option<T> {
     least
 }
 
-/// Adds the number of selected rows to the count of each code; answers whether all codes have one.
+/// Adds the number of selected rows to the count of each code. Returns whether all codes have one.
 #[inline(never)]
 pub fn group_counts(counts: &mut [u64], codes: &[u32], mask: Window) -> bool {
     let mut good = true;
@@ -447,7 +447,7 @@ pub fn group_counts(counts: &mut [u64], codes: &[u32], mask: Window) -> bool {
     good
 }
 
-/// Adds each selected value to the sum of its code; answers whether all codes have one.
+/// Adds each selected value to the sum of its code. Returns whether all codes have one.
 #[inline(never)]
 pub fn group_sums(sums: &mut [i64], codes: &[u32], values: &[i64], mask: Window) -> bool {
     let mut good = true;

@@ -1,5 +1,5 @@
 /*
- * The C functions whose cost is promised: the program of `tools/growth --c`, which counts its steps.
+ * Calls the C functions whose cost is promised. `tools/growth --c` counts this program's steps.
  *
  *     growth ROW SIZE CALLS
  *

@@ -2,7 +2,7 @@
  * A small engine in C: `select b, c where a > x and b is not null` over a stream of batches, which
  * another part of the program, query_rows.h, produces by Arrow's C stream interface. The program
  * answers it by the calls of vortex_bits.h, and by plain loops over rows, and compares the answers.
- * It wants C11, for its clock.
+ * It needs C11 for its clock.
  *
  *     query [ROWS [time]]
  *
@@ -63,7 +63,7 @@ struct answer {
     /* The first selected row, and the selected row number NTH, counted from 0. */
     vb_place first;
     vb_place nth;
-    /* The number of rows in which a or b is null, and of those in which the flag is true. */
+    /* The number of rows in which a or b is null, and the number with a true flag. */
     size_t nulls;
     size_t flags;
     /* The values of b at AT of the selected rows, and the number of nulls of c there. */
@@ -87,7 +87,7 @@ static void free_answer(struct answer *answer)
     free(answer->c_valid);
 }
 
-/* Returns index `i` of the rows that `finish` reads. */
+/* Returns the i-th of the indices at which `finish` takes rows. */
 static uint32_t place_at(uint32_t i)
 {
     return (uint32_t)(i * 2654435761u) >> 16;
@@ -179,7 +179,7 @@ static void finish(struct answer *answer)
     const vb_taken bits = vb_take_bits_u32(valid, sizeof valid, 0, answer->c_valid,
         answer->c_valid_size, 0, answer->kept, at, answer->taken, true, NULL, 0, 0);
     if (values.out_of_range || bits.out_of_range) {
-        abort();    // each place is below the number of rows that are kept
+        abort();    // each index is below the number of selected rows
     }
     answer->taken_nulls = answer->taken - vb_count_ones(valid, sizeof valid, 0, answer->taken);
 }

@@ -106,7 +106,7 @@ struct by_calls {
         to.taken.resize(at.size());
         std::vector<std::uint8_t> taken(bytes_for(at.size()));
         if (vortex_bits::take_values(to.b, at, to.taken) || valid.take_into(at, taken)) {
-            std::abort(); // each place is below the number of rows that are kept
+            std::abort(); // each index is below the number of selected rows
         }
         to.taken_nulls = bits(taken, 0, at.size()).count_zeros();
     }

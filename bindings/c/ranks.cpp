@@ -105,7 +105,7 @@ static void moves(bits window, bits other)
     check(is_of(many[0], window) && is_of(many[1], other) && is_of(many[2], bits()), "a vector");
 }
 
-/* There is no memory for a copy of the table of `window`, which has bits. */
+/* Tests copies when memory runs out: `window` has bits, so that its table needs memory. */
 static void wants(bits window, bits other)
 {
     const ranks from(window);

@@ -124,8 +124,9 @@ typedef struct {
 } vb_run_u32;
 
 /*
- * The result of a take or of a call by group: whether an index, or a code, that counts is out of
- * range. `position` is that of the first one, and is meaningful only if `out_of_range` is true.
+ * The result of a take or of a call by group: whether an index at a valid position, or a code of a
+ * selected row, is out of range. `position` is that of the first one, and is meaningful only if
+ * `out_of_range` is true.
  */
 typedef struct {
     bool out_of_range;
@@ -226,8 +227,8 @@ VB_CHECKED bool vb_try_last_set(const uint8_t *bytes, size_t size, size_t offset
 
 /*
  * Returns the index within the window of its first set (or unset) bit at or after index `from`;
- * finds none if there is none, or if `from` is at least `len`. Reads word by word, from the third
- * word on four at once, up to those that have it.
+ * finds none if there is none, or if `from` is at least `len`. Reads a word, then the next one, and
+ * then four words at a time, up to those that have the bit.
  *
  *     const uint8_t rows[] = {0xE8, 0x06};
  *     assert(vb_next_set(rows, 2, 3, 10, 5).index == 6);
@@ -312,9 +313,9 @@ VB_CHECKED bool vb_try_is_subset(const uint8_t *left, size_t left_size, size_t l
 
 /*
  * Writes the indices of the set bits, in ascending order, to the front of `out`, up to its
- * capacity, and returns the number written (`written`). Reads no page of memory after those of the
- * window nor, if it fills `out`, after that of the last bit in it. It is faster if there is capacity
- * for each bit.
+ * capacity, and returns the number written (`written`). Reads no page of memory after the window's
+ * last one or, if it fills `out`, after the page of the last bit that it writes. It is faster if
+ * there is capacity for each bit.
  *
  *     const uint8_t rows[] = {0xE8, 0x06};
  *     size_t places[4];
@@ -340,8 +341,8 @@ VB_CHECKED bool vb_try_set_indices_u32(uint32_t *out, size_t out_count, const ui
 
 /*
  * Writes the runs of set bits, from front to end, each as long as possible, to the front of `out`,
- * up to its capacity, and returns the number written (`written`). Reads no page of memory after
- * those of the window nor, if it fills `out`, after that of the end of the last run in it.
+ * up to its capacity, and returns the number written (`written`). Reads no page of memory after the
+ * window's last one or, if it fills `out`, after the page in which the last written run ends.
  *
  *     const uint8_t rows[] = {0xE8, 0x06};
  *     vb_run runs[4];

@@ -43,7 +43,7 @@ enum vb_comparison VB_OF_BYTES {
 /*
  * Writes to bit `out_offset + k` of `out`, for each k below `values_count`, whether value k
  * compares with `number` by `op`. Every other bit of `out` is unchanged. Processes 64 values at a
- * time, whole numbers of 64 bits eight at a time, by vectors. Floats compare as by C's operators
+ * time by vectors, or 8 if they are whole numbers of 64 bits. Floats compare as by C's operators
  * and IEEE 754: with a NaN on either side or on both only VB_NOT_EQUAL holds, and 0.0 equals -0.0.
  * C converts `number` to the type of the values before the call: 2.5 becomes 2 for whole numbers;
  * gcc warns of that only by -Wconversion. compare of vortex_bits.hpp compares exactly.

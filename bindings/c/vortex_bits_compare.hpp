@@ -59,7 +59,7 @@ template <class Value, class Number> constexpr bool is_compared_with()
     return false;
 }
 
-/* The least value of a type that is not below a number: it may be the number, or there is none. */
+/* The least value that isn't below a number, whether it equals the number, and if none is. */
 template <class Value> struct bound {
     Value value;
     bool is_number;

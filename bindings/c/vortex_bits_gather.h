@@ -84,8 +84,8 @@ VB_CHECKED bool vb_try_and_not_into(uint8_t *out, size_t out_size, size_t out_of
  * Sets each of the `len` bits of `out` from bit `out_offset` on to true if the row is valid in both
  * of two columns: `and` of the bits of `left` from bit `left_offset` on and of `right` from bit
  * `right_offset` on. A null pointer of size 0 is a missing validity: each row is valid in that
- * column, and its offset is ignored. So this also turns one validity that may be missing into a
- * mask for any other call, if the other one is NULL, 0, 0.
+ * column, and its offset is ignored. So with one validity that may be missing, and NULL, 0, 0 for
+ * the other one, this also makes a mask for any other call.
  *
  *     uint8_t out[] = {0};
  *     const uint8_t valid[] = {0xEC};

@@ -3,7 +3,7 @@
  *
  *     vortex_bits::ranks rows(vortex_bits::bits(valid, 3, 10));
  *     rows.rank(5);                                     // true bits among the first five
- *     rows.select(0);                                   // the first true bit's place
+ *     rows.select(0);                                   // the first true bit's index
  */
 #ifndef VORTEX_BITS_RANKS_HPP
 #define VORTEX_BITS_RANKS_HPP
@@ -42,7 +42,7 @@ public:
     {
     }
 
-    /* Copies before anything changes here. */
+    /* `from` is copied or moved before anything changes here. */
     ranks &operator=(ranks from) noexcept
     {
         std::swap(bits_, from.bits_);

@@ -56,8 +56,8 @@ VB_CHECKED bool vb_try_filter_values_u128(vb_u128 *out, size_t out_count, const 
 /*
  * Does the same for values of any type, signed ones, floats and structs too, by their size: 1, 2,
  * 4, 8 or 16 bytes. They must have the alignment of an integer of that size; values of 16 bytes
- * need that of 8 bytes. With another size the plain form crashes with SIGILL (illegal instruction).
- * The checked form returns false for such a size, and for a pointer that isn't aligned so.
+ * need alignment 8. With another size the plain form crashes with SIGILL (illegal instruction). The
+ * checked form returns false for such a size, and for a pointer that isn't aligned so.
  *
  *     const double prices[] = {0.5, 1.5, 2.5, 3.5};
  *     const uint8_t mask[] = {0x0B};
@@ -185,7 +185,7 @@ VB_CHECKED bool vb_try_scatter_values(void *out, size_t out_count, const void *v
  * vb_take_values_u64_u32 takes values of 64 bits at indices of 32. For values of another type of
  * the size, cast the pointers, or call vb_take_values. Signed indices can be cast too, if
  * `values_count` is at most the number of indices that the type can represent: a negative index is
- * then out of range. If there are more values, pass that number, such as 2^31 for int32_t.
+ * then out of range. If there are more values, pass that number as their count: 2^31 for int32_t.
  *
  *     uint64_t out[2];
  *     const uint64_t values[] = {5, 6, 7};

@@ -106,8 +106,8 @@ std::size_t bits::scatter_into(const Values &values, Out &&out) const
 
 /*
  * Takes (gathers): writes the values at the indices, whole numbers of 8 to 64 bits, to the front of
- * `out`, one each; where `valid` is false, 0, whatever the index. Returns the first position that
- * counts and whose index is out of range, if there is one; the items for all indices are then
+ * `out`, one each. Writes 0 where `valid` is false, whatever the index. Returns the first position
+ * that counts and whose index is out of range, if there is one; the items for all indices are then
  * unspecified. Later ones are unchanged. Values are of the types that keep_into takes.
  */
 template <class Values, class Indices, class Out>

@@ -21,10 +21,10 @@ constexpr bool fits(std::size_t size, std::size_t offset, std::size_t len)
 
 /*
  * Whether objects of a type refer to bytes that outlive them, as a std::span does. A window over a
- * temporary object compiles for these types alone: std::basic_string_view, each borrowed range of
- * C++20, and each trivially copyable type whose `data() const` points to writable bytes, which are
- * taken to be another's. Set it to false for a type with mutable bytes of its own, and to true for
- * another view of yours:
+ * temporary object compiles for these types alone: view, std::basic_string_view, each borrowed
+ * range of C++20, and each trivially copyable type whose `data() const` points to writable bytes,
+ * which are taken to be another's. Set it to false for a type with mutable bytes of its own, and to
+ * true for another view of yours:
  *
  *     template <> inline constexpr bool vortex_bits::is_borrowed<my::slice> = true;
  */

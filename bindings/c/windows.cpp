@@ -76,7 +76,7 @@ static void counts_of_filters()
     refused([&] { (void)window.slice(0, 4).filter_validity_of(std::nullopt, mask); }, "no room");
 }
 
-/* A window to write is one to read, too. */
+/* Tests that a writable window has the calls of a read-only one, and converts to it. */
 static void readings()
 {
     buffer all = {0xB6, 0x01};
@@ -92,7 +92,7 @@ static void readings()
     check(window.slice(0, 2).count_ones() == 0, "what another one writes");
 }
 
-/* A window has bytes, and writes within them, also after an assignment through its base class. */
+/* Tests windows past their bytes, and a write after an assignment through the base class. */
 static void bounds()
 {
     refused([] { bits(nullptr, 8, 0, 64); }, "no bytes to read");

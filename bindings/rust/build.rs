@@ -1,8 +1,8 @@
 //! Links the archives of the processor levels, those in `native/` or in the folder that
-//! `VORTEX_BITS_NATIVE` names, and says so by `cfg(vortex_bits_native)`. If one of them is
-//! missing, for another machine than x86-64 Linux, and under Miri, nothing is linked; but for Miri
-//! that is an error where the feature `proved` is asked for. An archive of other sources than
-//! `src/digest.rs` names is an error in any case.
+//! `VORTEX_BITS_NATIVE` names, and says so by `cfg(vortex_bits_native)`. Nothing is linked under
+//! Miri, on another machine than x86-64 Linux, or if an archive is missing; with the feature
+//! `proved` the last two are errors. An archive that it would link is always an error if it is
+//! built from other sources than `src/digest.rs` names.
 use std::env;
 use std::fs;
 use std::path::{Path, PathBuf};
@@ -81,7 +81,7 @@ fn say_missing(archive: &Path) {
     }
 }
 
-/// Why the archive of a level isn't linked, if it is one of other sources.
+/// Returns an error unless the archive of a level is built from the sources of the digest.
 fn fault(folder: &Path, level: &str) -> Option<String> {
     let (archive, wanted) = (archive(folder, level), digest!());
     let is = archive.display();

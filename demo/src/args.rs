@@ -72,9 +72,8 @@ pub struct Options {
 ///
 /// # Errors
 ///
-/// Returns [`Error::Usage`] if there is no file or more than one. Returns it for an option that
-/// isn't known, whose value is given twice but may be given once, that lacks a value, or that has
-/// one that it can't have.
+/// Returns [`Error::Usage`] if there is no file or more than one, or if an option is unknown, lacks
+/// a value, has a wrong one, or has two but may have one.
 pub fn parse(args: impl IntoIterator<Item = OsString>) -> Result<Option<Options>, Error> {
     let (mut files, mut parser) = (Vec::new(), Parser::new(args.into_iter()));
     while let Some(arg) = parser.args.next() {
@@ -106,8 +105,8 @@ fn not_utf_8<T>(arg: &OsStr) -> Result<T, Error> {
     ))
 }
 
-/// Returns the path of a file. `-` is standard input, on Linux, where a second `open` starts again
-/// at its beginning.
+/// Returns the path of a file. On Linux `-` is standard input: there each `open` of /dev/stdin
+/// starts at the beginning of the file.
 fn named(file: PathBuf) -> PathBuf {
     if cfg!(target_os = "linux") && file.as_os_str() == "-" {
         return PathBuf::from("/dev/stdin");

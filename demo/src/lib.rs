@@ -1,9 +1,9 @@
 //! A small query engine over a CSV file, as an example of a program that uses `vortex_bits`.
 //!
-//! It reads the file twice, in batches of rows: once to find the types of the columns ([`survey`]),
-//! and once to answer the query ([`engine`]). Comparisons, `and`, `or`, `not` and null tests make a
-//! bitmap of each batch ([`query`]). Counts, sums, the n-th row, the selected rows and the pictures
-//! follow from these bitmaps ([`summary`], [`found`], [`draw`]).
+//! It reads the file in batches of rows, first to find the types of the columns ([`survey`]), then
+//! to answer the query ([`engine`]). Comparisons, `and`, `or`, `not` and null tests make a bitmap
+//! of each batch ([`query`]). Counts, sums, the n-th row, the selected rows and the pictures follow
+//! from these bitmaps ([`summary`], [`found`], [`draw`]).
 
 pub mod args;
 pub mod column;

@@ -26,7 +26,7 @@ impl Output for Rows {
     }
 }
 
-/// A value of a row, of which numbers are in quarters, so that all are compared exactly.
+/// A value of a row. Numbers are in quarters, so that they are compared exactly.
 #[derive(Clone, Copy, PartialEq)]
 enum Value<'a> {
     Null,

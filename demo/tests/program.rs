@@ -44,7 +44,7 @@ fn answers_about_the_parcels() {
         ),
         "count(*),count(days),sum(days)\n0,0,\n"
     );
-    // Of a text column there is no sum.
+    // A text column has no sum.
     assert_eq!(
         printed(file, &["--select", "count(city), sum(city)"]),
         "count(city),sum(city)\n120,\n"
@@ -298,7 +298,7 @@ fn types_are_found_of_all_rows() {
     assert_eq!(printed(&file, &select), "max(whole),max(big)\n1,1e20\n");
 }
 
-/// Columns compare exactly with literals, once these are whole numbers of 64 bits or floats.
+/// Literals become whole numbers of 64 bits or floats; then columns compare with them exactly.
 #[test]
 fn literals_that_are_not_whole_are_rounded() {
     let folder = Folder::new("literals");
@@ -320,7 +320,7 @@ fn literals_that_are_not_whole_are_rounded() {
     }
 }
 
-/// An empty line is skipped, but for the first one, which has the names or is a row.
+/// Empty lines are skipped, except the first line, which has the names or is a row.
 #[test]
 fn empty_lines() {
     let folder = Folder::new("empty");

@@ -60,7 +60,7 @@ impl Copied {
         self.folder.file(path, text)
     }
 
-    /// Writes a source later than the last run, by the coarse clock of files.
+    /// Waits until the coarse clock of files has moved on, and then writes a source.
     fn change(&self, path: &str, text: &str) {
         thread::sleep(Duration::from_millis(50));
         self.write(path, text);
@@ -78,7 +78,7 @@ impl Copied {
         command.output().unwrap()
     }
 
-    /// Returns what a run prints, without its last words on arguments and the folder.
+    /// Returns what a run prints before its arguments and folder, which this checks.
     fn printed(&self, name: &str, value: impl AsRef<OsStr>) -> String {
         let output = self.run(name, value);
         let errors = String::from_utf8(output.stderr).unwrap();

@@ -9,13 +9,13 @@ use std::process::{Command, Stdio};
 
 use support::{COLUMNS, Folder, Random, program};
 
-/// What ends a field and a row of `SQLite`'s answers: bytes that no text of the tests has.
+/// The ends of a field and of a row of `SQLite`'s answers: bytes that no text of the tests has.
 const ENDS: [char; 2] = ['\x1f', '\x1e'];
 
 fn has_sqlite() -> bool {
     let found = Command::new("sqlite3").arg("--version").output().is_ok();
     if !found {
-        // Not by `eprintln`, which the harness keeps to itself.
+        // The harness would capture the output of `eprintln`.
         std::io::stderr()
             .write_all(b"skipped: no sqlite3\n")
             .unwrap();
@@ -27,8 +27,8 @@ fn name(column: &str) -> String {
     format!("\"{}\"", column.replace('"', "\"\""))
 }
 
-/// The answers of `SQLite` to each query, as rows of fields. The file is read by its own reader, in
-/// its folder: its name alone needs no quotes.
+/// The answers of `SQLite` to each query, as rows of fields. `SQLite` imports the file, and runs in
+/// the file's folder, since the name alone needs no quotes.
 fn sqlite(file: &Path, queries: &[String]) -> Vec<Vec<Vec<String>>> {
     let kinds = ["integer", "integer", "real", "real", "text", "text"];
     let columns: Vec<String> = COLUMNS
@@ -109,8 +109,8 @@ fn printed(file: &Path, args: &[&str]) -> Vec<Vec<String>> {
     }
 }
 
-/// Whether two fields are the same value: texts to the byte, whole numbers as numbers, and floats
-/// to the 15 digits that `SQLite` prints, of which its sums round the last one.
+/// Whether two fields are the same value: texts byte by byte, whole numbers as numbers, and floats
+/// up to the 15 digits that `SQLite` prints. The last digit of its sums is rounded.
 fn is_same(column: usize, ours: &str, theirs: &str) -> bool {
     match column {
         0 | 1 => ours.parse::<i128>().ok() == theirs.parse().ok(),
@@ -122,7 +122,7 @@ fn is_same(column: usize, ours: &str, theirs: &str) -> bool {
     }
 }
 
-/// The answers of a list about a column, each with the column whose type it has.
+/// The answers that `--select` lists, each with a column that has the type of the answer.
 fn list() -> Vec<(String, usize)> {
     let mut list = vec![("count(*)".to_string(), 0)];
     for (place, column) in COLUMNS.iter().enumerate() {

@@ -17,7 +17,7 @@ OWNER = re.compile(r"impl(?:<.*?>)? (?:.* for )?&?(?:'\w+ )?(?:mut )?(\w+)|pub t
 CALL = re.compile(r"\s*(pub )?fn (\w+)")
 NAME = re.compile(r"[\w:]+")
 LISTED = re.compile(r'^ +"(\w+) (\w+)",$', re.MULTILINE)
-# The words of a docstring for a cost that grows with the input, or doesn't.
+# The words by which a docstring promises a cost.
 PROMISE = re.compile(
     r"\bconstant\b|amortized|\blinear in\b|at the cost of|\bby words\b|packed by 64"
     r"|\b(?:64|a word|four words|\d+ bytes) at a time|by 64 bits|(?:four words|eight) at once"

@@ -29,8 +29,8 @@ def below(crates: list[str], repository: Repository) -> set[str]:
 
 
 def sources(repository: Repository) -> list[str]:
-    """Returns the paths of the code and of the specs that its contracts cite. No proof changes
-    either."""
+    """Returns the paths of the code and of the specs that its contracts cite. Proofs are
+    left out: they change neither."""
     crates = "|".join(below(libraries(repository), repository))
     source = re.compile(rf"crates/({crates})/(src|specs)/")
     return sorted(it for it in repository.paths if source.match(it))

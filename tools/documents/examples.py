@@ -12,7 +12,7 @@ SOURCES, README = "bindings/rust/src", "bindings/rust/README.md"
 WITHIN = re.compile(r"(kernels|portable|iter|arrow|level|native)(/|\.rs$)")
 COMMENT = re.compile(r"^\s*//[/!] ?(.*)$")
 PUBLIC = re.compile(r"^\s*pub (?:const |unsafe )*fn (\w+)", re.MULTILINE)
-# A call of a bitmap that its window carries out, in bitmap/ask.rs.
+# A call of a bitmap that bitmap/ask.rs forwards to the bitmap's window.
 ASKED = re.compile(r"^    (\w+)\([^)]*\) -> .*;$", re.MULTILINE)
 
 

@@ -22,8 +22,8 @@ IMPORT = re.compile(r"\s*(?:ghost )?use ")
 class Task:
     """A task, with its files and lines: each is a pattern of a path and one of a text.
 
-    NAME stands for the name in any of its forms. If the pattern of the text is empty, the place is
-    the file. A template is one place too: the pattern is searched for in what it writes.
+    NAME represents the name in any of its forms. If the pattern of the text is empty, the place is
+    the file. A template is one place too, if the text that it writes has the pattern.
     """
 
     text: str

@@ -11,8 +11,8 @@ OF_NUMBERS = {it.c: it.crossing for it in [*UNSIGNED, *SIGNED, *FLOATS] if it.c}
 MISSING = {f"vb_optional_{it}": f"Optional{it.camel}" for it in OPTIONAL}
 OTHERS = {"vb_place": "Place", "vb_taken": "Taken", "vb_run": "Run", "void": "()"}
 TYPES = OF_NUMBERS | MISSING | OTHERS
-# What a parameter of one letter stands for in the crate. If it is the first letter of the slice
-# before it, it is the offset in that instead.
+# The meaning of a parameter of one letter in the crate. A parameter with the first letter of the
+# slice before it is the offset in that slice instead.
 LETTERS = {"v": "value"}
 
 OF_CRATE = re.compile(r'^pub extern "C" fn (\w+)\(([^)]*)\)(?: -> (\w+))?', re.MULTILINE)

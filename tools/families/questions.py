@@ -81,8 +81,8 @@ class Pair(Question):
     told: str
     method: str
     alias: str
-    # What an example of the Rust methods asserts; in that of a `Bitmap`, `left` is true and false,
-    # `right` true twice.
+    # The assertion in the example of the Rust methods. In that of a `Bitmap`, `left` has the bits
+    # true and false, and `right` has true and true.
     example: str
     owned_example: str
     # The answer in Rust if all bits of the right window are set.
@@ -112,7 +112,7 @@ class Pair(Question):
 
     @property
     def table(self) -> str:
-        """Digit 2 * left + right is what the operator makes of two bits."""
+        """Bit 2 * left + right is the operator's result for two bits."""
         tables = {"And": "0x8", "Or": "0xE", "Xor": "0x6", "AndNot": "0x4"}
         return tables[self.operator.variant]
 
@@ -135,8 +135,8 @@ NEAREST = [
     Single(
         "next_set", PLACE, "place",
         "Returns the index of the first set bit at or after index `from` of the `len` bits from "
-        "bit `offset` on; finds none if there is none, or if `from` is at least `len`. Reads word "
-        "by word, from the third word on four at once, up to those that have it.",
+        "bit `offset` on; finds none if there is none, or if `from` is at least `len`. Reads a "
+        "word, then the next one, and then four words at a time, up to those that have the bit.",
         "IsNext (bits bytes.now offset len) from {}", "from",
     ),
     Single(

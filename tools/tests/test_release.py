@@ -11,7 +11,8 @@ TOP = Path(__file__).resolve().parent.parent.parent
 # A bindings/build that fails: bindings/release ends there, after all that the test is about.
 BUILD = "#!/bin/sh\necho builds >&2\nexit 3\n"
 BUILDS = "failed: libraries\n    builds\n"
-# Programs that compile and find nothing, but for the flags of a package in a path with a space.
+# A pkg-config whose flags have a path with a space, a compiler that accepts only that path, and a
+# program that fails.
 PKG_CONFIG = "#!/bin/sh\necho '-I/with\\ space -lvortex_bits'\n"
 CC = """#!/bin/sh
 [ "$4" = "-I/with space" ] || exit 1

@@ -9,7 +9,7 @@ use crate::table::{CITIES, HALF};
 
 pub type Result<T = ()> = std::result::Result<T, ArrowError>;
 
-/// Returns the rows whose value isn't null and compares so.
+/// Returns the rows whose value isn't null and satisfies the comparison with `number`.
 fn are<T: Primitive + Compare>(column: &Array, op: Comparison, number: T) -> Result<Bitmap> {
     let mut rows = values::compare(column.values()?, op, number);
     rows &= column.validity()?;
@@ -100,7 +100,7 @@ pub fn page(batches: &[Array], at: &Range<usize>) -> Result<Export> {
     Export::concat(batches[0].field(), &parts)
 }
 
-/// Returns the greatest prices with their rows: the first rows of equal ones, the greatest first.
+/// Returns the greatest prices with their rows, in descending order; the first rows of equal ones.
 pub fn top(batches: &[Array], most: usize) -> Result<Vec<(f64, usize)>> {
     let mut best = TopK::greatest(most);
     for batch in batches {

@@ -127,7 +127,7 @@ impl Rows {
         self.has_name.push(is_valid);
     }
 
-    /// Appends a row of others.
+    /// Appends a row of `of`.
     #[inline]
     pub fn push_row(&mut self, of: &Rows, row: usize) {
         self.id.push(of.id[row]);

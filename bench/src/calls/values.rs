@@ -16,7 +16,7 @@ unsafe extern "C" {
         mask_size: usize,
         m: usize,
     ) -> usize;
-    /// The place is the first position that counts and whose index is out of range.
+    /// Returns the first valid position whose index is out of range, if there is one.
     pub fn vb_take_values(
         out: *mut c_void,
         out_count: usize,
@@ -60,8 +60,8 @@ unsafe extern "C" {
     );
 }
 
-/// Values that a mask keeps: where they go, how many fit there, the values, how many there are, and
-/// the mask's bytes, how many these are, and its first bit.
+/// A filter by a mask: the output and its capacity, the values and their number, the mask's bytes
+/// and their number, and its first bit.
 pub type Filter<T> =
     unsafe extern "C" fn(*mut T, usize, *const T, usize, Bytes, usize, usize) -> usize;
 
@@ -155,8 +155,8 @@ pub struct Optional<T> {
     pub value: T,
 }
 
-/// What a mask selects of values, as one answer: the values, how many there are, the mask's bytes,
-/// how many these are, and its first bit.
+/// An aggregate of the values that a mask selects: the values and their number, the mask's bytes
+/// and their number, and its first bit.
 pub type Masked<T, A> = unsafe extern "C" fn(*const T, usize, Bytes, usize, usize) -> A;
 
 macro_rules! masked {

@@ -1,5 +1,5 @@
-//! Sums, least values and groups of the rows that a mask selects, beside loops over its words and
-//! the portable code of the Rust crate.
+//! Sums, least values and groups of the rows that a mask selects, compared with loops over its
+//! words and the portable code of the Rust crate.
 
 use std::cell::RefCell;
 
@@ -39,7 +39,7 @@ pub fn measure(bench: &mut Bench) {
     for len in ROWS {
         for share in SHARES {
             let mask = Input::with_set(share, MILLION / 8 + 1);
-            // Another first bit changes the loads of the mask alone, so one share shows it.
+            // Another first bit changes only the loads of the mask: one share is enough for it.
             let offsets: &[usize] = if share == 0.5 { &[0, 3] } else { &[0] };
             for &offset in offsets {
                 let case = Case {

@@ -30,7 +30,7 @@ fn row<'a>(call: &str, ours: InRounds, w: Window<'a>, share: f64) -> Row<'a> {
         .set(share)
 }
 
-/// From a tenth on a call at set bits is held against the loop, below a tenth against upstream.
+/// The target is over the loop; if `share` is less than a tenth, over upstream.
 fn held(row: Row<'_>, share: f64) -> Row<'_> {
     if share < 0.1 {
         row.at_most(1.0, UPSTREAM)

@@ -109,7 +109,7 @@ fn writes(bench: &mut Bench) {
     }
 }
 
-/// A set behind so many bits.
+/// A set appended after so many bits.
 fn appended(input: &Input, from: usize, before: usize) -> Row<'_> {
     let w = input.bits(from, MILLION);
     let ours = move |rounds| unsafe {

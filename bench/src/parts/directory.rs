@@ -1,4 +1,4 @@
-//! The directory of counts, beside Rust loops over the same table.
+//! The directory of counts, compared with Rust loops over the same table.
 
 use std::cell::RefCell;
 
@@ -12,10 +12,10 @@ use crate::row::{LOOP, Row};
 
 const MEMCPY: &str = "memcpy";
 
-/// The lengths of the sets in bits, and how many questions there are of each.
+/// The lengths of the sets in bits, and the number of calls for each.
 const LENGTHS: [(usize, usize); 2] = [(MILLION, 4096), (1 << 30, 1 << 17)];
 
-/// A set's bits, its table, and random places or ranks below a limit.
+/// A set's bits, its table, random indices, and random ranks.
 struct Asked<'a> {
     input: &'a Input,
     offset: usize,
@@ -70,7 +70,7 @@ impl<'a> Asked<'a> {
         bench.row(row.at_most(2.0, LOOP));
     }
 
-    /// Questions that don't wait for one another.
+    /// Calls that don't wait for one another.
     fn row<'b>(
         &'b self,
         call: &str,
@@ -105,7 +105,7 @@ impl<'a> Asked<'a> {
             .plain(Contender::of_each(list.len(), plain))
     }
 
-    /// Questions each of which waits for the answer before it.
+    /// Calls that each wait for the result of the one before.
     fn in_turn<'b>(
         &'b self,
         call: &str,
@@ -145,7 +145,7 @@ impl<'a> Asked<'a> {
     }
 }
 
-/// Places of a thousand ranks by one call, beside a call for each.
+/// Selects at a thousand ranks by one call, compared with a call for each.
 fn selects_of_many(bench: &mut Bench, input: &Input, len: usize) {
     let bytes = input.bytes(len / 8);
     let ranks = &Random(11).list(1000, len / 2);
@@ -165,8 +165,8 @@ fn selects_of_many(bench: &mut Bench, input: &Input, len: usize) {
     bench.row(row);
 }
 
-/// An edit of the first bit, beside a loop over a table of one number a block, which moves all
-/// entries behind it.
+/// An edit of the first bit, compared with a loop over a table of one number per block, which
+/// changes all later entries.
 fn edits(bench: &mut Bench, len: usize) {
     let entries = RefCell::new(vec![0usize; len / 512]);
     let by = RefCell::new(1usize);

@@ -1,5 +1,5 @@
-//! C's calls on few bits and values, as engines make them by the million, beside loops over words
-//! and the portable code of the Rust crate.
+//! C's calls on few bits and values, as engines make them by the million, compared with loops over
+//! words and the portable code of the Rust crate.
 
 use std::cell::RefCell;
 use std::mem::size_of;
@@ -18,11 +18,11 @@ use crate::words;
 /// How many bits or values there are.
 const SIZES: [usize; 4] = [8, 64, 512, 1_000];
 
-/// The first bits of the windows: of the first one that is read, of the second one, or the mask,
-/// and of those that are written.
+/// The first bits of the windows: of the left one, of the right one or the mask, and of those that
+/// are written.
 const OFFSETS: [[usize; 3]; 2] = [[0, 0, 0], [3, 5, 1]];
 
-/// Calls whose loops have instructions from x86-64-v3 on that the language has no name for.
+/// Calls whose loops use instructions from x86-64-v3 on that Rattle has no operation for.
 const PACKED: [&str; 2] = ["`vb_filter_bits`", "`vb_deposit_bits`"];
 
 /// What the calls of a size are given.
@@ -119,7 +119,7 @@ fn bits(w: Window<'_>) -> Bits<'_> {
     Bits::new(w.bytes, w.offset, w.len)
 }
 
-/// What a call answers, as a number.
+/// The result of a call, as a number.
 trait Answer {
     fn number(self) -> usize;
 }
@@ -142,7 +142,7 @@ impl Answer for usize {
     }
 }
 
-/// A call, the loop, and the portable code, which write and answer the same.
+/// A call, the loop, and the portable code, which write and return the same.
 fn row<'a, A: Answer, B: Answer, C: Answer>(
     case: &'a Case,
     call: &str,
@@ -179,7 +179,7 @@ fn rows<'a>(c: &'a Case) -> Vec<Row<'a>> {
     of_bits.chain(of_values).collect()
 }
 
-/// Questions to bits.
+/// Calls that only read bits.
 fn read<'a>(c: &'a Case) -> Vec<Row<'a>> {
     let len = c.len;
     let ((l, ls, lo), (r, rs, ro)) = (raw(c.left), raw(c.right));
@@ -233,7 +233,7 @@ fn read<'a>(c: &'a Case) -> Vec<Row<'a>> {
     ]
 }
 
-/// Calls that write bits made of bits.
+/// Calls that write bits built from other bits.
 fn written<'a>(c: &'a Case) -> Vec<Row<'a>> {
     let (len, to, size) = (c.len, c.to, (c.to + c.len).div_ceil(8));
     let ((l, ls, lo), (r, rs, ro)) = (raw(c.left), raw(c.right));

@@ -1,4 +1,4 @@
-//! Values and bits that a mask keeps, and bits put back to their places.
+//! Values and bits that a mask selects, and bits deposited by one.
 
 use std::cell::RefCell;
 use std::hint::black_box;
@@ -65,7 +65,7 @@ fn memcpy(values: &[u32]) -> Contender<'_> {
     })
 }
 
-/// Into a buffer of its own.
+/// A filter into a new buffer.
 fn owned<'a>(values: &'a [u32], mask: &'a Input) -> Row<'a> {
     let bytes = mask.bytes(MILLION / 8);
     let ours = move |rounds| unsafe {
@@ -83,7 +83,7 @@ fn owned<'a>(values: &'a [u32], mask: &'a Input) -> Row<'a> {
         .beside(MEMCPY, memcpy(values))
 }
 
-/// Into memory that is there.
+/// A filter into existing memory.
 fn into<'a, T: Copy + Default + 'a>(
     call: &str,
     values: &'a [T],
@@ -137,7 +137,7 @@ fn other_widths(bench: &mut Bench) {
     }
 }
 
-/// To the bits from bit `offset` on of memory that is there.
+/// A filter to the bits from bit `offset` on of existing memory.
 fn bits<'a>(values: &Input, mask: &'a Input, offset: usize) -> Row<'a> {
     let (values, by) = (
         Input::copied(values.bytes(MILLION / 8)),

@@ -185,7 +185,7 @@ fn lists(bench: &mut Bench) {
     );
 }
 
-/// Rounds of edits: what is counted are the rounds.
+/// Rounds of edits; a round counts as an item.
 fn edits(bench: &mut Bench) {
     bench.growth(
         "rounds of `freeze` and `try_into_mut`",

@@ -1,4 +1,4 @@
-//! Sets made of closures, lists, iterators and places.
+//! Sets built from closures, lists, iterators and indices.
 
 use std::cell::RefCell;
 
@@ -91,7 +91,7 @@ fn packed(bench: &mut Bench, bools: &[bool], truthy: &[u8]) {
     bench.row(row.at_most(2.0, FROM_BOOLS));
 }
 
-/// Truth values behind so many bits.
+/// Truth values appended after so many bits.
 fn appended(bools: &[bool], before: usize) -> Row<'_> {
     let (list, many) = (bools.as_ptr(), bools.len());
     let ours = move |rounds| unsafe { calls::bench_append_bools(list, many, before, rounds) };

@@ -1,4 +1,4 @@
-//! The nearest true bits, from a place on and before one, and whether there are any, or all are.
+//! The nearest true bits at or after an index and before one, and whether any or all bits are true.
 
 use super::{MILLION, upstream};
 use crate::bench::Bench;
@@ -11,10 +11,10 @@ use crate::row::{LOOP, Row};
 /// The sizes in bytes of what is searched.
 const SIZES: [usize; 2] = [64, MILLION / 8];
 
-/// The share of bits that are set where they are few.
+/// The share of set bits in an input with few of them.
 const FEW: f64 = 1.0 / 4096.0;
 
-/// Before how many places bits are sought.
+/// The number of indices before which a bit is searched.
 const PLACES: usize = 4096;
 
 pub fn measure(bench: &mut Bench) {
@@ -47,7 +47,7 @@ fn each_previous(few: &Input) -> Row<'_> {
     each("`previous_set`, of each true bit", ours, few, w)
 }
 
-/// Of a few true bits each one, in turn.
+/// Finds each of a few true bits, one after the other.
 fn each<'a>(call: &str, ours: impl Fn() -> usize + 'a, few: &'a Input, w: Window<'a>) -> Row<'a> {
     let plain = move || loops::set_indices(few, w.offset, w.len);
     Row::new(call, Contender::of(ours))
@@ -58,7 +58,7 @@ fn each<'a>(call: &str, ours: impl Fn() -> usize + 'a, few: &'a Input, w: Window
         .at_most(1.0, LOOP)
 }
 
-/// The sum of the places that are found one after the other.
+/// The sum of the indices that are found one after the other.
 fn sum_of_each(
     start: usize,
     find: impl Fn(usize) -> Place,
@@ -79,9 +79,9 @@ fn previous_set(w: Window, before: usize) -> Place {
     unsafe { calls::vb_previous_set(w.bytes.as_ptr(), w.bytes.len(), w.offset, w.len, before) }
 }
 
-/// Bits that are sought in vain, or found at the far end.
+/// Searches that find no bit, or one at the far end.
 fn far(bench: &mut Bench, size: usize, offset: usize) {
-    // Within a cache line, what it takes to be called counts too.
+    // Within a cache line the cost of the call itself matters too.
     let most = if size == 64 { 1.5 } else { 1.0 };
     let len = Input::random(size).window(size, offset).len;
     let (none, last) = (alone(size, offset, len), alone(size, offset, len - 1));
@@ -114,7 +114,7 @@ fn near(bench: &mut Bench, input: &Input, offset: usize, share: f64) {
     bench.row(row.how("random places").set(share));
 }
 
-/// Whether a bit is true, and whether all are of a window of the opposite bits.
+/// Whether any bit is true, and whether all bits of a window of the opposite bits are.
 fn whether<'a>([any, all]: [Window<'a>; 2]) -> [Row<'a>; 2] {
     let row = |call, ours: Whether, plain: fn(Window) -> bool, w: Window<'a>| {
         let (bytes, size) = (w.bytes.as_ptr(), w.bytes.len());
@@ -130,7 +130,7 @@ fn whether<'a>([any, all]: [Window<'a>; 2]) -> [Row<'a>; 2] {
     ]
 }
 
-/// The sum of the last true bits before places.
+/// The sum of the indices of the last true bits before given indices.
 fn before(w: Window<'_>, places: Vec<usize>) -> Row<'_> {
     let others = upstream!({
         let (places, set) = (places.clone(), crate::upstream::set(w));
@@ -155,7 +155,7 @@ fn sum(places: &[usize], find: impl Fn(usize) -> usize) -> usize {
         .fold(0, |sum, &place| sum.wrapping_add(find(place)))
 }
 
-/// Bits that are false in a window, except the one at a place, and true outside of it.
+/// Bits that are false in a window, except the one at index `place`, and true outside of it.
 fn alone(size: usize, offset: usize, place: usize) -> Input {
     let len = Input::random(size).window(size, offset).len;
     let inside = offset..offset + len;
@@ -164,7 +164,7 @@ fn alone(size: usize, offset: usize, place: usize) -> Input {
     Input::copied(&(0..size).map(byte).collect::<Vec<u8>>())
 }
 
-/// Each bit the other one.
+/// The input with each bit negated.
 fn opposite(input: &Input, size: usize) -> Input {
     let bytes = input.bytes(size).iter();
     Input::copied(&bytes.map(|byte| !byte).collect::<Vec<u8>>())

@@ -1,4 +1,4 @@
-//! Places of ranks, by search.
+//! Selects: the indices of bits by rank, by search.
 
 use super::{SIZES, upstream};
 use crate::bench::Bench;
@@ -61,7 +61,7 @@ pub fn measure(bench: &mut Bench) {
     }
 }
 
-/// The last true bit. A short window may have none: its first is then sought in vain.
+/// The last true bit. A short window may have none: then its first true bit isn't found.
 fn last(w: Window<'_>, offset: usize, set: f64) -> Row<'_> {
     let rank = on(vb_count_ones, w).saturating_sub(1);
     let row = true_bits("last place", w, vec![rank])
@@ -132,12 +132,12 @@ fn in_turn(count: usize) -> Vec<usize> {
     (0..ranks).map(|k| k * count / ranks).collect()
 }
 
-/// So many ranks without an order that the processor predicts no branch.
+/// Ranks in random order, so that the processor can't predict the branches.
 fn random(count: usize) -> Vec<usize> {
     Random(2).list(questions(count), count)
 }
 
-/// How many ranks are selected of so many, fewer where each takes long.
+/// The number of ranks to select among `count`: fewer if each one takes long.
 fn questions(count: usize) -> usize {
     ((1 << 25) / count.next_power_of_two()).clamp(4, 4096)
 }

@@ -49,7 +49,7 @@ fn made(bench: &mut Bench, len: usize) {
     bench.row(row.at_most(1.1, UPSTREAM));
 }
 
-/// What is asked of a set by reference, which answers a set.
+/// A call on a set by reference that returns a set.
 fn question<'a>(call: &str, w: Window<'a>, question: usize, start: usize) -> Row<'a> {
     let (bytes, size) = (w.bytes.as_ptr(), w.bytes.len());
     let ours = move |rounds| unsafe {

@@ -1,4 +1,4 @@
-//! Walks over the bits, their words, true places and runs.
+//! Walks over the bits, their words, the indices of set bits, and runs.
 
 use super::{MILLION, upstream};
 use crate::bench::Bench;
@@ -109,7 +109,7 @@ fn words(bench: &mut Bench, input: &Input, offset: usize) {
     bench.row(row);
 }
 
-/// Single bits: those at random places, and the last one of a set with none but its first.
+/// Single bits: those at random indices, and the last set bit of a set with only its first bit.
 fn single(bench: &mut Bench, w: Window) {
     let places = &Random(5).list(4096, w.len);
     let value = move || unsafe {

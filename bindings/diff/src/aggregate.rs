@@ -20,7 +20,7 @@ macro_rules! column {
     };
 }
 
-/// The calls of each type up to 64 bits, beside Rust's sums and extremes of the selected values.
+/// The calls of each type up to 64 bits, compared with Rust's sums and extremes.
 macro_rules! wide {
     ($case:ident, $random:ident: $($value:ty as $total:ty;)*) => {
         let mut calls = 0;

@@ -7,7 +7,7 @@ use vortex_bits::{Bitmap, Ranks, blocks};
 use crate::case::Case;
 use crate::plain;
 
-/// An answer that should be `wanted`.
+/// Compares a result with `wanted`.
 pub fn same<T: PartialEq<U> + Debug, U: Debug>(
     name: &str,
     got: T,
@@ -59,8 +59,8 @@ fn nearest(case: &Case, list: &[bool]) -> Result<u64, String> {
     Ok(calls)
 }
 
-/// Returns the number of items that a walk writes to an output of `room` items, and this output:
-/// the items after them are `usize::MAX`, as before.
+/// Returns the number of items that a walk writes to an output of `room` items, and this output.
+/// The items after them stay `usize::MAX`.
 fn filled(items: &[usize], room: usize) -> (usize, Vec<usize>) {
     let mut out = items[..room.min(items.len())].to_vec();
     let count = out.len();
@@ -68,7 +68,7 @@ fn filled(items: &[usize], room: usize) -> (usize, Vec<usize>) {
     (count, out)
 }
 
-/// The iterators by steps up to the `n`-th, and then in one go.
+/// Compares the iterators: `n` single steps, and then the rest in one call.
 fn walks(case: &Case, list: &[bool], trues: &[usize]) -> Result<u64, String> {
     let (bits, n) = (case.left(), case.n);
     let mut out = vec![usize::MAX; n];

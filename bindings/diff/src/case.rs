@@ -11,13 +11,13 @@ pub struct Case {
     pub right: Vec<u8>,
     pub r: usize,
     pub len: usize,
-    /// Which true or false bit is looked for, and how many items an answer has room for.
+    /// The rank of the bit to select, and the number of items of an output.
     pub n: usize,
     pub value: bool,
 }
 
-/// Bytes with `len` bits from bit `offset` on, and up to three bytes more. Of four cases one has
-/// few true bits, one has few false ones, and one has long runs.
+/// Bytes with `len` bits from bit `offset` on, and up to three bytes more. In a fourth of the cases
+/// each few bits are true, few are false, or the runs are long.
 fn bytes(random: &mut Random, offset: usize, len: usize) -> Vec<u8> {
     let size = (offset + len).div_ceil(8) + random.below(4);
     let kind = random.below(4);
@@ -51,7 +51,7 @@ impl Case {
         let r = random.below(30);
         let left = bytes(random, l, len);
         let mut right = bytes(random, r, len);
-        // Of three cases one compares equal windows, and one windows with one different bit.
+        // A third of the cases has equal windows, and a third has windows that differ in one bit.
         let alike = random.below(3);
         if alike > 0 {
             for i in 0..len {

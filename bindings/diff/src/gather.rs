@@ -1,4 +1,4 @@
-//! Bits and values taken at indices, and those that a mask keeps; bits into windows at any offset.
+//! Bits and values taken at indices or filtered by a mask; bits are written at any offset too.
 
 use std::fmt::Debug;
 
@@ -16,8 +16,8 @@ fn room(case: &Case, len: usize) -> Vec<u8> {
     case.right.iter().copied().cycle().take(size).collect()
 }
 
-/// Returns the bytes after a take at these places, if only the positions count for which `counts`
-/// is true; or the first such position whose place is out of range.
+/// Returns the bytes after a take at these indices, if only the positions count for which `counts`
+/// is true; or the first such position whose index is out of range.
 fn taken(case: &Case, places: &[usize], counts: impl Fn(usize) -> bool) -> Result<Vec<u8>, usize> {
     let past = |&p: &usize| counts(p) && places[p] >= case.len;
     if let Some(position) = (0..places.len()).find(past) {
@@ -34,7 +34,7 @@ fn taken(case: &Case, places: &[usize], counts: impl Fn(usize) -> bool) -> Resul
     Ok(bytes)
 }
 
-/// The answer of a call that writes from bit `r` of the bytes of [`room`] on.
+/// The result of a call that writes from bit `r` of the bytes of [`room`] on.
 fn answer(
     case: &Case,
     len: usize,
@@ -48,7 +48,8 @@ fn answer(
     }
 }
 
-/// Compares takes by a type of indices, in which a place past the window becomes the index `past`.
+/// Compares takes by a type of indices. An index out of range or too large for the type becomes
+/// `past`.
 fn takes<I: BitIndex + TryFrom<usize> + Debug>(
     case: &Case,
     places: &[usize],
@@ -79,7 +80,7 @@ where
         + values_at(case, places, &indices, |i| !(i as i128))?)
 }
 
-/// Values of one type at the same places: all of them, and those that are valid.
+/// Values of one type at the same indices: all of them, and only the valid ones.
 fn values_at<T: Value + PartialEq + Debug, I: BitIndex>(
     case: &Case,
     places: &[usize],

@@ -3,7 +3,7 @@
 //!
 //!     diff [CALLS [SEED]]
 //!
-//! CALLS is the number of calls at each level that there is code for, 2,000,000 by default.
+//! CALLS is the number of calls at each available level, 2,000,000 by default.
 
 mod aggregate;
 mod ask;
@@ -25,7 +25,7 @@ use case::Case;
 use random::Random;
 use vortex_bits::Level;
 
-/// The number that the command line has at this place.
+/// The argument at this position of the command line.
 fn number(place: usize, otherwise: u64) -> Result<u64, String> {
     match env::args().nth(place) {
         Some(word) => word.parse().map_err(|_| format!("{word} is no number")),

@@ -1,4 +1,4 @@
-//! Bitmaps with their bytes, counts of two windows, walks over false bits, validity that may be
+//! Bitmaps that own their bytes, counts of two windows, walks over false bits, validity that may be
 //! missing, and three-valued logic.
 
 use vortex_bits::{Bitmap, Bits, BitsMut, Validity, values};
@@ -73,7 +73,7 @@ fn questions(case: &Case, left: &[bool], right: &[bool]) -> Result<u64, String> 
 }
 // To here.
 
-/// Walks over false bits, by steps up to the `n`-th, and then in one go.
+/// Walks over false bits: `n` single steps, and then the rest in one call.
 fn unset(bits: Bits<'_>, n: usize, left: &[bool]) -> Result<u64, String> {
     let negated: Vec<bool> = left.iter().map(|bit| !bit).collect();
     let falses = plain::places(left, false);
@@ -153,7 +153,7 @@ fn filled(made: Option<Bitmap>, len: usize) -> Vec<bool> {
     made.map_or(vec![true; len], |made| list(&made))
 }
 
-/// Of two validities each may be missing.
+/// Compares the calls on two validities. Each may be missing.
 fn validity(
     case: &Case,
     random: &mut Random,

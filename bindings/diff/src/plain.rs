@@ -1,4 +1,4 @@
-//! What the calls answer, by loops over single bits.
+//! The results of the calls, by loops over single bits.
 
 use std::ops::Range;
 
@@ -13,7 +13,7 @@ pub fn bits(window: Bits<'_>) -> Vec<bool> {
         .collect()
 }
 
-/// The places of the bits that are `value`.
+/// The indices of the bits that are `value`.
 pub fn places(list: &[bool], value: bool) -> Vec<usize> {
     (0..list.len()).filter(|&i| list[i] == value).collect()
 }

@@ -1,4 +1,4 @@
-//! The same calls of vortex-buffer.
+//! Compares with the same calls of vortex-buffer.
 
 use std::ops::Not;
 

@@ -1,4 +1,4 @@
-//! Writes of one window, after which every bit of the bytes is looked at.
+//! Calls that write a window. Each is compared in every bit of the bytes.
 
 use vortex_bits::{Bits, BitsMut};
 
@@ -10,7 +10,7 @@ use crate::plain;
 type Write = fn(&mut BitsMut<'_>, Bits<'_>);
 /// A call that writes a window by two others.
 type Combine = fn(&mut BitsMut<'_>, Bits<'_>, Bits<'_>);
-/// What it makes of two bits.
+/// What a call makes of two bits.
 type Of = fn(bool, bool) -> bool;
 
 const BY_ANOTHER: [(&str, Write, Of); 5] = [
@@ -28,7 +28,7 @@ const BY_TWO: [(&str, Combine, Of); 4] = [
     ("and_not_of", |it, a, b| it.and_not_of(a, b), |a, b| a & !b),
 ];
 
-/// These bytes, with each bit of the window as `wanted` says of its place.
+/// These bytes, with each bit of the window as `wanted` says for its index.
 fn written(bytes: &[u8], offset: usize, len: usize, wanted: impl Fn(usize) -> bool) -> Vec<u8> {
     let mut bytes = bytes.to_vec();
     for i in 0..len {

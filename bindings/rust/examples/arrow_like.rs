@@ -7,7 +7,7 @@ use std::ops::Range;
 
 use vortex_bits::{Bitmap, Comparison, values};
 
-/// A column of numbers; those of rows that aren't valid say nothing.
+/// A column of numbers. Those of null rows are arbitrary.
 struct Numbers {
     values: Vec<u32>,
     valid: Bitmap,
@@ -59,7 +59,7 @@ struct Bools {
 }
 
 impl Bools {
-    /// The rows that are valid and true: what a filter keeps.
+    /// The rows that are valid and true, which a filter selects.
     fn mask(&self) -> Bitmap {
         &self.values & &self.valid
     }

@@ -1,5 +1,5 @@
-//! Calls by the code of each level, beside the plain loops that a release build makes of what one
-//! would write by hand: by turns, the least time of each.
+//! Compares the calls at each level with loops that one would write by hand, in a release build.
+//! Runs both in turn, and prints the least time of each.
 //!
 //!     cargo run --release --features levels --example measure
 
@@ -14,9 +14,9 @@ const N: usize = 1_000_000;
 
 struct Data {
     values: Vec<i64>,
-    /// To be compared.
+    /// The values for `values::compare`.
     keys: Vec<u32>,
-    /// Bytes for some more than N bits: half of these are true, three in four, and one in ten.
+    /// Bytes of N + 64 bits, set at random: 1/2 of them in `half`, 3/4 in `most`, 1/10 in `few`.
     half: Vec<u8>,
     most: Vec<u8>,
     few: Vec<u8>,
@@ -77,7 +77,7 @@ fn above_by_compare(keys: &[u32]) -> Bitmap {
     values::compare(keys, Comparison::Greater, 499)
 }
 
-/// To the front of `kept`, without a branch.
+/// Writes the selected values to the front of `kept`, without a branch.
 fn kept_by_loop(values: &[i64], mask: &[u8], kept: &mut [i64]) -> usize {
     let mut len = 0;
     for (row, &value) in values.iter().enumerate() {
@@ -87,7 +87,7 @@ fn kept_by_loop(values: &[i64], mask: &[u8], kept: &mut [i64]) -> usize {
     len
 }
 
-/// The bits from the third one on that the mask keeps, without a branch.
+/// The bits from bit 3 on that the mask selects, without a branch.
 fn filtered_by_loop(bits: &[u8], mask: &[u8]) -> Vec<u8> {
     let (mut kept, mut len) = (vec![0; N / 8 + 1], 0);
     for row in 0..N {
@@ -99,7 +99,7 @@ fn filtered_by_loop(bits: &[u8], mask: &[u8]) -> Vec<u8> {
     kept
 }
 
-/// The bits from the third one on at the indices.
+/// The bits at the indices, which count from bit 3.
 fn taken_by_loop(bits: &[u8], indices: &[u32]) -> Vec<u8> {
     let mut taken = vec![0; N / 8];
     for (byte, indices) in taken.iter_mut().zip(indices.chunks_exact(8)) {
@@ -110,7 +110,7 @@ fn taken_by_loop(bits: &[u8], indices: &[u32]) -> Vec<u8> {
     taken
 }
 
-/// The sum of the places of the true bits, by words.
+/// The sum of the indices of the set bits, word by word.
 fn places_by_loop(bytes: &[u8]) -> usize {
     let mut sum = 0;
     for start in (0..N).step_by(64) {
@@ -135,7 +135,7 @@ fn word_at(bytes: &[u8], bit: usize) -> u64 {
     word >> shift | u64::from(bytes[byte + 8]) << (64 - shift)
 }
 
-/// Words of the bits of both, from the third and the fifth one on.
+/// The words of `left & right`, from bit 3 of `left` and bit 5 of `right` on.
 fn both<'a>(left: &'a [u8], right: &'a [u8]) -> impl Iterator<Item = u64> + 'a {
     (0..N)
         .step_by(64)
@@ -146,7 +146,7 @@ fn both_by_loop(left: &[u8], right: &[u8]) -> Vec<u8> {
     both(left, right).flat_map(u64::to_le_bytes).collect()
 }
 
-/// The place of the n-th bit that is true, by words.
+/// The index of the n-th set bit, word by word.
 fn nth_by_loop(bytes: &[u8], mut n: usize) -> usize {
     for start in (0..N).step_by(64) {
         let mut word = word_at(bytes, start);
@@ -164,7 +164,7 @@ fn sum(bytes: &[u8]) -> usize {
     bytes.iter().map(|&it| usize::from(it)).sum()
 }
 
-/// The least of some times of each, in microseconds, by turns.
+/// Calls each 60 times, in turn. Returns the least time of each, in microseconds.
 fn times(one: &dyn Fn() -> usize, other: &dyn Fn() -> usize) -> [f64; 2] {
     assert_eq!(one(), other());
     let mut least = [f64::INFINITY; 2];

@@ -4,8 +4,8 @@
 //!     cargo build --release --features arrow --example plugin
 //!
 //! Each function takes over an array with its schema, and writes another array with its schema.
-//! Both inputs are left released. It returns 0, or 22 (EINVAL), and then writes nothing: after a
-//! wrong mask or index, or a struct that isn't as the interface requires.
+//! Both inputs are left released. It returns 0; or 22 (EINVAL) on an error, such as an index out of
+//! bounds or a struct that isn't as the interface requires. On an error it writes nothing.
 
 use std::ffi::c_int;
 use std::slice;
@@ -32,12 +32,12 @@ unsafe fn answer(
     out: Pair,
     call: impl FnOnce(Array) -> Result<Export, ArrowError>,
 ) -> c_int {
-    // SAFETY: as of this function.
+    // SAFETY: as for this function.
     let taken = unsafe { Array::from_raw(given.array, given.schema) };
     match taken.and_then(call) {
         Ok(made) => {
             let (array, schema) = made.into_raw();
-            // SAFETY: as of this function.
+            // SAFETY: as for this function.
             unsafe { (out.array.write(array), out.schema.write(schema)) };
             0
         }
@@ -52,12 +52,12 @@ unsafe fn answer(
 ///
 /// # Safety
 ///
-/// There are as many.
+/// `first` points to `count` items, or `count` is 0.
 unsafe fn items<'a, T>(first: *const T, count: usize) -> &'a [T] {
     if count == 0 {
         return &[];
     }
-    // SAFETY: as of this function.
+    // SAFETY: as for this function.
     unsafe { slice::from_raw_parts(first, count) }
 }
 
@@ -65,15 +65,15 @@ unsafe fn items<'a, T>(first: *const T, count: usize) -> &'a [T] {
 ///
 /// # Safety
 ///
-/// As of [`answer`]; the mask has a bit for each row.
+/// As for [`answer`]; the mask has a bit for each row.
 #[unsafe(no_mangle)]
 pub unsafe extern "C" fn plugin_filter(given: Pair, out: Pair, mask: *const u8) -> c_int {
     let filter = |rows: Array| {
-        // SAFETY: as of this function.
+        // SAFETY: as for this function.
         let mask = unsafe { items(mask, rows.len().div_ceil(8)) };
         rows.filter(Bits::new(mask, 0, rows.len()))
     };
-    // SAFETY: as of this function.
+    // SAFETY: as for this function.
     unsafe { answer(given, out, filter) }
 }
 
@@ -81,7 +81,7 @@ pub unsafe extern "C" fn plugin_filter(given: Pair, out: Pair, mask: *const u8) 
 ///
 /// # Safety
 ///
-/// As of [`answer`]; there are as many indices.
+/// As for [`answer`]; `indices` points to `count` indices, or `count` is 0.
 #[unsafe(no_mangle)]
 pub unsafe extern "C" fn plugin_take(
     given: Pair,
@@ -89,10 +89,10 @@ pub unsafe extern "C" fn plugin_take(
     indices: *const i64,
     count: usize,
 ) -> c_int {
-    // SAFETY: as of this function.
+    // SAFETY: as for this function.
     let indices = unsafe { items(indices, count) };
     let valid = values::compare(indices, Comparison::GreaterOrEqual, 0);
-    // SAFETY: as of this function.
+    // SAFETY: as for this function.
     unsafe { answer(given, out, |rows| rows.take_valid(indices, valid)) }
 }
 
@@ -100,7 +100,7 @@ pub unsafe extern "C" fn plugin_take(
 ///
 /// # Safety
 ///
-/// As of [`answer`].
+/// As for [`answer`].
 #[unsafe(no_mangle)]
 pub unsafe extern "C" fn plugin_slice(given: Pair, out: Pair, first: usize, count: usize) -> c_int {
     let part = |rows: Array| {
@@ -108,7 +108,7 @@ pub unsafe extern "C" fn plugin_slice(given: Pair, out: Pair, first: usize, coun
         let rows = rows.try_slice(first..end)?;
         Export::concat(rows.field(), slice::from_ref(&rows))
     };
-    // SAFETY: as of this function.
+    // SAFETY: as for this function.
     unsafe { answer(given, out, part) }
 }
 
@@ -116,25 +116,25 @@ pub unsafe extern "C" fn plugin_slice(given: Pair, out: Pair, first: usize, coun
 ///
 /// # Safety
 ///
-/// As of [`answer`].
+/// As for [`answer`].
 #[unsafe(no_mangle)]
 pub unsafe extern "C" fn plugin_forward(given: Pair, out: Pair) -> c_int {
-    // SAFETY: as of this function.
+    // SAFETY: as for this function.
     unsafe { answer(given, out, Array::try_into_export) }
 }
 
-/// Writes the same rows, whose numbers, truth values and texts are copied into owners of Rust's.
+/// Writes the same rows. Copies the numbers, truth values and texts into memory of this library.
 ///
 /// # Safety
 ///
-/// As of [`answer`].
+/// As for [`answer`].
 #[unsafe(no_mangle)]
 pub unsafe extern "C" fn plugin_rebuild(given: Pair, out: Pair) -> c_int {
     let rebuild = |rows: Array| {
         let columns = rows.columns()?.map(|column| rebuilt(&column));
         Ok(Export::batch(columns.collect::<Result<Vec<_>, _>>()?))
     };
-    // SAFETY: as of this function.
+    // SAFETY: as for this function.
     unsafe { answer(given, out, rebuild) }
 }
 

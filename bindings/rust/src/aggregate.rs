@@ -28,7 +28,7 @@ pub(crate) mod sealed {
     #[cfg(vortex_bits_native)]
     use crate::native::{Kernels, Masked, Optional, SignedWide, Wide};
 
-    /// The parts that a type of values that can be summed provides.
+    /// The items that each summable type provides.
     pub trait Summand: Sized {
         /// Returns the sum of both, wrapped around at the end of the type.
         fn wrapping_plus(self, other: Self) -> Self;
@@ -54,7 +54,7 @@ pub(crate) mod sealed {
         fn masked_max(kernels: &Kernels) -> Option<Masked<Self::Laid, Optional<Self::Laid>>>;
     }
 
-    /// The parts that a type of values with exact sums of the type `Total` provides.
+    /// The items that each type with exact sums (of the type `Total`) provides.
     pub trait WideSummand<Total>: Summand {
         /// The sum of no values.
         const NOTHING: Total;

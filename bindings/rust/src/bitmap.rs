@@ -15,7 +15,7 @@ use crate::error::{BadIndex, OutOfBounds, expect};
 use crate::rank::Ranked;
 use crate::{BitIndex, Bits, BitsMut, portable};
 
-/// Bits with their bytes, to keep and to return. By default the bytes are shared: a slice is
+/// Bits that own their bytes, to store and to return. By default the bytes are shared: a slice is
 /// another window of them. They can also be an engine's own buffer `B`. A bitmap has the calls of
 /// [`Bits`]. In [`SharedBytes`] and in [`AlignedBytes`] it also grows and can be edited.
 ///

@@ -218,8 +218,9 @@ impl<'a> Bits<'a> {
     }
 
     /// Returns the index of the `n`-th set bit, counted from 0; None if at most `n` are set. Counts
-    /// the bits from the front up to the one it returns; in a window of more than 4,096 bytes it
-    /// may also count bits after that. For more than a few calls [`Ranks`](crate::Ranks) is faster.
+    /// the bits from the front up to the one it returns; in a window of more than 4,096 bytes (128
+    /// in portable code) it may also count bits after that. For more than a few calls
+    /// [`Ranks`](crate::Ranks) is faster.
     ///
     /// ```
     /// use vortex_bits::Bits;

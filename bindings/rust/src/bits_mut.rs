@@ -387,7 +387,7 @@ impl<'a> BitsMut<'a> {
     }
 }
 
-/// The calls by an operator: on these bits and others, and on two others.
+/// Two calls per operator: on these bits and another window, and on two other windows.
 macro_rules! operators {
     ($($(#[$doc:meta])* $name:ident, $of:ident: $operator:ident;)*) => {
         impl BitsMut<'_> {

@@ -31,7 +31,7 @@ pub enum Comparison {
 }
 
 /// A type of values that can be compared: integers and floats. The C functions compare 64 values at
-/// once, integers of 64 bits eight at once, and none of 128 bits.
+/// once, but integers of 64 bits eight at once. Plain Rust compares integers of 128 bits.
 #[diagnostic::on_unimplemented(
     message = "values of `{Self}` aren't compared",
     label = "values are whole numbers or floats",

@@ -5,6 +5,6 @@
 /// The output of tools/digest. tools/write-lists writes it here.
 macro_rules! digest {
     () => {
-        "de24e36000b0aaaca0d63d9fbad5a04b7111f706f50fbe808820dbe3d559cd4c"
+        "037785ad9ba95b82bfa273baf1d50176d6f5085bcb336a5910e6c6724057edf7"
     };
 }

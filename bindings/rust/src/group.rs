@@ -17,12 +17,12 @@ pub(crate) mod sealed {
     #[cfg(vortex_bits_native)]
     use crate::native::{GroupSums, Kernels};
 
-    /// The parts that a type of values with sums of the type `Sum` provides.
+    /// The items that each type with sums of the type `Sum` provides.
     pub trait GroupSummand<Sum>: Sized {
         /// Returns the sum with one value more.
         fn plus(sum: Sum, value: Self) -> Sum;
 
-        /// Returns the sum as it was before [`plus`](GroupSummand::plus); None if that has rounded.
+        /// The function that undoes [`plus`](GroupSummand::plus); None if `plus` rounds.
         const MINUS: Option<fn(Sum, Self) -> Sum>;
 
         /// The type that the C functions sum, with the same layout as this one.

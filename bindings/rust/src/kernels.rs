@@ -1,5 +1,5 @@
-//! Each call at the current level. Windows of at most one word stay in Rust, without a call through
-//! a pointer.
+//! Each call at the current level. Most calls on at most one word stay in Rust, without a call
+//! through a pointer.
 
 #[macro_use]
 mod call;

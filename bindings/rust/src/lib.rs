@@ -24,10 +24,10 @@
 //! indices are in bits.
 //!
 //! The constructor of a window tests that it is in bounds of its bytes. Later calls panic, with a
-//! message, only for conditions that the constructor can't test: that two windows have the same
-//! length, or that an index is in bounds. A call that returns or grows a `Bitmap` (bits with their
-//! bytes) or a `Vec`, writes a bitmap with shared bytes, or returns a `Ranked` may allocate memory,
-//! and aborts if it runs out.
+//! message, only for conditions that the constructor can't test, such as equal lengths of two
+//! windows, or an index in bounds. A call that returns or grows a `Bitmap` (bits with their bytes)
+//! or a `Vec`, writes a bitmap with shared bytes, or returns a `Ranked` may allocate memory, and
+//! aborts if it runs out.
 //!
 //! # What is proved
 //!
@@ -37,8 +37,9 @@
 //! takes of values, and counts and sums by group, run them for more than 16 items. The rest is Rust
 //! of this crate, which isn't proved, but tested against loops over single bits:
 //!
-//! - single bits, other windows of at most 64, values at up to 16 indices, and types of values and
-//!   indices that [`Value`], [`Compare`], [`Summand`] and [`BitIndex`] exclude;
+//! - single bits, other windows of at most 64, values at up to 16 indices, and the types of
+//!   values and indices that plain Rust processes: see [`Value`], [`Compare`], [`Summand`] and
+//!   [`BitIndex`];
 //! - code that joins calls: `fill_with`, and the blocks that iterators fill;
 //! - sums, minimum and maximum without a mask; the minimum and maximum of floats, and their sums by
 //!   group; groups by codes of 64 bits; minimum, maximum and bitmaps by group, members of a set, and
@@ -54,15 +55,15 @@
 //!
 //! - `proved`: the build fails if the archives of the proved functions are missing, or if the
 //!   target isn't x86-64 Linux. Miri can't run them and is exempt. Without this feature, cargo
-//!   shows the warning about missing archives only for path dependencies. Archives of another
-//!   version's sources always fail the build. The processor is known only at run time: assert there
-//!   that [`Level::current`] isn't [`Level::Portable`].
+//!   shows the warning about missing archives only for path dependencies. With or without it,
+//!   the build fails if it would link archives of another version's sources. The processor is known
+//!   only at run time: assert there that [`Level::current`] isn't [`Level::Portable`].
 //! - `std` (default): tests the processor at run time. Without it, the compiler's target
 //!   (`-C target-cpu`) decides.
-//! - `alloc` (with `std`): adds `Bitmap`, which owns its bytes, `Ranked`, a bitmap with its ranks,
-//!   and the calls that return one.
-//! - `arrow` (with `alloc`): reads arrays and streams of Arrow's C interfaces in place, and exports
-//!   them. Only this part and the calls of proved functions use `unsafe`.
+//! - `alloc` (enabled by `std`): adds `Bitmap`, which owns its bytes, `Ranked`, a bitmap with its
+//!   ranks, and the calls that return one.
+//! - `arrow` (enables `alloc`): reads arrays and streams of Arrow's C interfaces in place, and
+//!   exports them. Only this part and the calls of proved functions use `unsafe`.
 //! - `levels`: adds `Level::make_current`, for measurements and tests.
 #![no_std]
 #![cfg_attr(docsrs, feature(doc_cfg))]

@@ -6,8 +6,8 @@ use crate::{BitIndex, Bits, BitsMut, Mask, portable};
 #[cfg(feature = "alloc")]
 use crate::Bitmap;
 
-/// Writes a bit per value to `out`: whether `mask` selects it and the bit of `set` at that index is
-/// set. A negative value, and one that isn't below the length of `set`, is no member. If the mask
+/// Writes a bit per value to `out`: whether `mask` selects it, and it is the index of a set bit of
+/// `set`. A negative value, and one that isn't below the length of `set`, is no member. If the mask
 /// is None, all values are selected. The parameters are those of `is_in`.
 ///
 /// ```

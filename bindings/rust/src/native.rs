@@ -8,7 +8,7 @@
 //!   may be read, or written if the pointer is `*mut`. No one else writes them during the call.
 //! - Windows are in bounds of their bytes, and end at a `usize`.
 //! - Windows of takes and packs have one bit per item. The output of a filter has one bit or item
-//!   per selected one. There is space for a value at each index. There is a bit of validity per
+//!   per selected one. The output of a take has an item per index. There is a bit of validity per
 //!   index, unless all are valid. A deposit has one bit per set bit of its mask. The mask of an
 //!   aggregate has one bit per value. There is one value, and one bit of the mask, per code.
 //! - A comparison is a number below 6, and there is one other per value.

@@ -18,8 +18,8 @@ pub(crate) mod sealed {
     /// The parts that a type of indices provides.
     pub trait Sealed: Copy {
         /// The end of the indices that the type can represent. A C function reads a negative index
-        /// as an unsigned number of the same width, which is at or above this, and so out of bounds
-        /// of a window that is cut here.
+        /// as an unsigned number of the same width. That is at least this end, and so out of bounds
+        /// of a window that ends here or before.
         #[cfg(vortex_bits_native)]
         const END: usize;
 
@@ -27,7 +27,7 @@ pub(crate) mod sealed {
         fn place(self) -> Option<usize>;
 
         /// Returns the index as a `usize`; if it is negative or doesn't fit, one that isn't below
-        /// the number of bits that any memory holds. Needs no test if that is a cast.
+        /// the number of bits that any memory holds. On 64-bit targets most types need only a cast.
         fn place_or_far(self) -> usize;
 
         /// Returns the index itself; `i128::MAX` if it is above that.

@@ -12,9 +12,9 @@ use crate::{Compare, Mask, portable};
 /// A batch allocates only if it has one of the first `k` values. The `TopK` holds at most about
 /// twice `k` values, and 128 more. After the first sort, a value that doesn't come before the last
 /// of the first `k` is only compared with it. The values are sorted whenever there are `k` more, or
-/// 64 more if `k` is smaller, and at the end of a batch, which inserts up to 16 new ones instead.
-/// So a batch with one of the first `k` values takes time in proportion to `k` too, however few
-/// rows it has.
+/// 64 more if `k` is smaller. At the end of a batch, up to 16 new ones are inserted; if there are
+/// more, all are sorted. So a batch with one of the first `k` values takes time in proportion to
+/// `k` too, however few rows it has.
 ///
 /// ```
 /// use vortex_bits::{Bits, TopK};
@@ -44,13 +44,13 @@ enum Order {
 }
 
 impl<T: Compare> TopK<T> {
-    /// Returns the greatest values of no rows, to find at most `k`. Does not allocate.
+    /// Returns a `TopK` without rows, for the `k` greatest values. Does not allocate.
     #[must_use]
     pub const fn greatest(k: usize) -> TopK<T> {
         TopK::new(k, Order::Greatest)
     }
 
-    /// Returns the least values of no rows, to find at most `k`. Does not allocate.
+    /// Returns a `TopK` without rows, for the `k` least values. Does not allocate.
     ///
     /// ```
     /// use vortex_bits::{Bits, TopK};

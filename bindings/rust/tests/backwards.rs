@@ -10,8 +10,8 @@ use std::ops::Range;
 use random::Random;
 use vortex_bits::Bits;
 
-/// Items from either end, by chance, are those of a queue, whose rest is walked from the front, from
-/// the back or asked for its last item.
+/// Compares random steps from either end with those of a queue, and then the rest from the front,
+/// from the back, and by its last item.
 #[track_caller]
 fn ends<T, I>(random: &mut Random, walk: I, all: impl IntoIterator<Item = T>, is_exact: bool)
 where

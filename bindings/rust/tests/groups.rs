@@ -10,7 +10,7 @@ mod support;
 
 const CODES: usize = 5;
 
-/// Returns codes of which few name no group if `has_wrong`.
+/// Returns random codes. If `has_wrong`, a few of them name no group.
 fn codes(random: &mut Random, len: usize, has_wrong: bool) -> Vec<i32> {
     let any = |random: &mut Random| match random.below(40) {
         0 if has_wrong => [-1, 5, i32::MAX, i32::MIN][random.below(4)],
@@ -132,7 +132,7 @@ fn minimum_and_maximum_by_group_are_those_of_a_loop() {
     let mut nans = [Some(f64::NAN); 2];
     values::group_min(&mut nans, &[0u8, 0, 0], &[f64::NAN, 2.0, 1.0], None::<Bits>);
     assert!(nans[0] == Some(1.0) && nans[1].is_some_and(f64::is_nan));
-    // Of equal values the first one.
+    // The first of equal values is the minimum.
     let mut zeros = [None];
     values::group_max(&mut zeros, &[0u8, 0], &[-0.0, 0.0], None::<Bits>);
     assert!(zeros[0].is_some_and(f64::is_sign_negative));

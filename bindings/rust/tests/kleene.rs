@@ -1,4 +1,4 @@
-//! Three-valued logic, beside a loop over the nine cases.
+//! Three-valued logic, compared with a loop over the nine cases.
 use vortex_bits::{Bitmap, Bits, BitsMut, Validity, values};
 
 /// A truth value; None is null.
@@ -22,8 +22,8 @@ fn or(a: Truth, b: Truth) -> Truth {
     }
 }
 
-/// Bits from `offset` on of bytes that are true before and behind them, as they are at nulls where
-/// `at_null` says so; and which are valid.
+/// The bits of truth values at this offset, and their validity. Bits before and after them are
+/// true, and those of nulls are `at_null`.
 fn column(truths: &[Truth], offset: usize, at_null: bool) -> [Bitmap; 2] {
     let ends = || (0..offset).map(|_| true);
     let bits = truths.iter().map(|it| it.unwrap_or(at_null));
@@ -33,8 +33,8 @@ fn column(truths: &[Truth], offset: usize, at_null: bool) -> [Bitmap; 2] {
     [bits, valid].map(|it| it.slice(offset..offset + truths.len()))
 }
 
-/// The answer as a list, of which the bits at nulls are false, and a validity isn't there where all
-/// are valid.
+/// A result as a list. Tests that bits of nulls are false, and that the validity is None if all are
+/// valid.
 #[track_caller]
 fn truths((trues, valid): (Bitmap, Option<Bitmap>)) -> Vec<Truth> {
     assert!(valid.as_ref().is_none_or(|valid| !valid.all()));
@@ -104,7 +104,7 @@ fn written(wanted: &[Truth], offsets: [usize; 2], write: impl Fn(BitsMut<'_>, Bi
     }
 }
 
-/// Rows in which each of `a` stands beside each of `b`, again and again.
+/// Rows that combine each of `a` with each of `b`, again and again.
 fn pairs(a: &[Truth], b: &[Truth], len: usize) -> [Vec<Truth>; 2] {
     let row = |row: usize| (a[row % a.len()], b[row / a.len() % b.len()]);
     let (a, b) = (0..len).map(row).unzip();
@@ -169,7 +169,7 @@ fn bitmaps_and_windows_stand_by_reference() {
     assert_eq!((trues, Some(known)), both);
 }
 
-/// Rows that are true are those of values that are and'ed with their validity first.
+/// The rows that are true can also be found without nulls: `&` each column with its validity first.
 #[test]
 fn a_where_without_not_needs_no_nulls() {
     for offsets in [[0, 0], [3, 5]] {

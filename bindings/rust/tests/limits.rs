@@ -1,5 +1,5 @@
-//! The last window that fits and those that don't, what each call refuses, and that nothing is
-//! written then.
+//! The last window that fits and those that don't, and the errors of each call, which writes
+//! nothing if it fails.
 use std::collections::HashSet;
 use std::error::Error;
 
@@ -8,7 +8,7 @@ use vortex_bits::*;
 
 mod support;
 
-/// What a take answers of the first bad index.
+/// The error of a take at the first bad index.
 fn no_place(position: usize, index: i128, len: usize) -> TakeError {
     TakeError::Index {
         position,

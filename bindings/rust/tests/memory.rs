@@ -63,7 +63,7 @@ fn time_of_half(rows: u32) -> Duration {
 /// One test, so that no other one allocates beside it.
 #[test]
 fn calls_allocate_what_their_documents_say() {
-    // A value that is among the first `k` at its time: each row of an ascending column.
+    // Worst case: each row of an ascending column is among the first `k` so far.
     let column: Vec<u64> = (0..100_000).collect();
     let mut best = TopK::greatest(1000);
     let ((), _, most) = counted(|| best.append(&column, None::<Bits>));

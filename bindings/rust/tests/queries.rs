@@ -1,4 +1,4 @@
-//! Calls of which one is a step of a query, compared with plain loops over rows, at every offset of
+//! Calls that do a step of a query at once, compared with plain loops over rows, at every offset of
 //! the bits that they read and write: two counts, comparisons in place, members of a set, and the
 //! first `k` of an order.
 use rows::{Random, Rows, each};
@@ -323,8 +323,8 @@ fn the_first_rows_of_an_order_are_those_of_a_sort() {
     assert_eq!(best.rows(), [(1, 2), (4, 1), (5, 0)]);
 }
 
-/// Appends batches of fewer than `most` rows by chance, beside a stable sort after each of them.
-/// Later values tend to come before those of earlier batches.
+/// Appends random batches of fewer than `most` rows, and compares with a stable sort after each of
+/// them. Later values tend to come before those of earlier batches.
 fn appended(random: &mut Random, k: usize, most: usize, is_greatest: bool) {
     let (mut best, sign) = if is_greatest {
         (TopK::greatest(k), 1.0)

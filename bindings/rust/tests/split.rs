@@ -1,5 +1,5 @@
-//! Parts of a window over bytes of their own: what they cover, what is refused, and that threads
-//! that write them lose no bit.
+//! Parts of a window that share no byte: what they cover, what is refused, and that no bit is lost
+//! if threads write them.
 use std::ops::Range;
 use std::thread;
 
@@ -15,7 +15,7 @@ fn addresses(part: &mut BitsMut<'_>) -> Range<usize> {
     bytes.start.addr()..bytes.end.addr()
 }
 
-/// The windows of some bytes that begin with the second or the third one.
+/// Windows that begin within the second or the third byte.
 fn windows() -> impl Iterator<Item = (usize, usize)> {
     (9..24).flat_map(|offset| {
         (0..=70)
@@ -60,8 +60,8 @@ fn a_split_gives_all_bits_once_and_shares_no_byte() {
     }
 }
 
-/// Takes the parts from both ends, from the front where `front` says so, and answers the length and
-/// the addresses of each in their order.
+/// Takes the parts from both ends, from the front if `front` says so. Returns the length and the
+/// addresses of each in their order.
 fn parts(mut chunks: ChunksMut<'_>, front: impl Fn(usize) -> bool) -> Vec<(usize, Range<usize>)> {
     let (count, mut first, mut last) = (chunks.len(), Vec::new(), Vec::new());
     for taken in 0..count {

@@ -1,5 +1,5 @@
-//! A call that writes stores no byte outside of its window's, also none as it was: the pages beside
-//! the window's page can't be written.
+//! A call that writes a window stores only to the window's bytes, and never rewrites a byte around
+//! them: the pages around the window's page can't be written.
 #![cfg(all(target_os = "linux", target_pointer_width = "64", not(miri)))]
 
 use std::ffi::{c_int, c_void};
@@ -24,7 +24,7 @@ unsafe extern "C" {
     fn munmap(at: *mut c_void, size: usize) -> c_int;
 }
 
-/// Whatever size pages have on the machine, so many bytes are some of them.
+/// A multiple of the page size of any machine.
 const PAGE: usize = 1 << 16;
 const READ: c_int = 1;
 const WRITE: c_int = 2;
@@ -220,7 +220,7 @@ fn whole<'a>(out: &'a mut BitsMut<'_>) -> BitsMut<'a> {
     out.slice(..)
 }
 
-/// As many bits as the window has.
+/// A bitmap of the window's length.
 fn beside(out: &BitsMut<'_>) -> Bitmap {
     Bitmap::new_unset(out.len())
 }
@@ -244,8 +244,8 @@ fn lengths() -> impl Iterator<Item = usize> {
     (0..=130).chain([191, 192, 193, 255, 500, 511, 512, 513, 1000, MOST])
 }
 
-/// The bits of the three pages at which a window begins that ends with the last byte of the middle
-/// page, and one that begins with the first byte of it.
+/// Where two windows begin in the three pages: one that ends with the last byte of the middle page,
+/// and one that begins with its first byte.
 fn starts(shift: usize, len: usize) -> [usize; 2] {
     let last = 8 * (2 * PAGE - (shift + len).div_ceil(8));
     [last + shift, 8 * PAGE + shift]
@@ -279,7 +279,7 @@ fn one(pages: &Pages, start: usize, len: usize, call: impl Fn(&mut BitsMut<'_>),
     );
 }
 
-/// Values that fill a whole number of bytes of a page.
+/// The calls on values of a type whose size divides a page.
 fn value_calls<T: Value + PartialEq>(pages: &Pages, read: &Read, make: fn(u8) -> T) {
     let column: Vec<T> = read.left.iter().copied().map(make).collect();
     let border = 2 * PAGE / size_of::<T>();
@@ -296,7 +296,7 @@ fn value_calls<T: Value + PartialEq>(pages: &Pages, read: &Read, make: fn(u8) ->
         ] {
             let kept = values::filter(values, mask);
             let place = border - kept.len();
-            // There is room in the page behind, too.
+            // `out` extends into the page after, which can't be written.
             let out = &mut pages.all()[place..];
             assert_eq!(mask.keep_into(values, out), kept.len());
             assert!(pages.all::<T>()[place..border] == kept[..]);

@@ -1,4 +1,4 @@
-//! Validities with bits and without, beside loops over rows.
+//! Validities with bits and without, compared with loops over rows.
 mod support;
 
 use std::ops::Bound;
@@ -6,7 +6,7 @@ use std::ops::Bound;
 use support::panics;
 use vortex_bits::{Bitmap, BitmapMut, Bits, Mask, Validity};
 
-/// Bits from `offset` on of bytes that are true beside them.
+/// The bits of these rows at this offset. Those around them are true.
 fn bitmap(rows: &[bool], offset: usize) -> Bitmap {
     let ends = || (0..offset).map(|_| true);
     let bits: Bitmap = ends().chain(rows.iter().copied()).chain(ends()).collect();
@@ -17,7 +17,7 @@ fn rows(len: usize, step: usize) -> Vec<bool> {
     (0..len).map(|row| row * row % step < 2).collect()
 }
 
-/// What is said of rows without bits, with bits that are all true, and with others.
+/// Calls `look` for rows without bits, with bits that are all true, and with others.
 fn each(len: usize, offset: usize, look: impl Fn(Validity<'_>, &[bool])) {
     let all = vec![true; len];
     look(Validity::new(None, len), &all);
@@ -49,7 +49,7 @@ fn rows_that_batches_keep_are_joined() {
                     (Vec::from(shared), Vec::from(own)),
                     (wanted.clone(), wanted)
                 );
-                // All rows, by a mask that isn't there and as they are.
+                // All rows: by a missing mask, and appended as they are.
                 let mut all = Bitmap::growing(0);
                 validity.filter_onto(None::<Bits>, &mut all);
                 all.extend([validity, validity.slice(len / 2..)]);

@@ -1,4 +1,4 @@
-//! Values at indices, under masks and by group: what is refused, of which widths, what stays, and
+//! Values at indices, under masks and by group: errors, widths of values, what stays unchanged, and
 //! sums.
 use support::panics;
 use vortex_bits::*;
@@ -143,7 +143,7 @@ fn sums_past_the_end_of_their_type() {
     assert_eq!(text.as_deref(), Some("a mask of 69 bits for 70"));
 }
 
-/// Rows with codes, of which those that no mask selects name no group.
+/// Returns codes, values and a mask. The codes of unselected rows name no group.
 fn rows(len: usize, step: usize) -> (Vec<i16>, Vec<i32>, Bitmap) {
     let mask: Bitmap = (0..len).map(|row| row % step == step / 2).collect();
     let code = |row: usize| {
@@ -305,7 +305,7 @@ fn floats_under_a_mask_are_summed_in_order_and_ordered() {
     }
 }
 
-/// Of all values, and of those that a mask selects, with each value at each place.
+/// Tests all values, and those that a mask selects, with each kind of value at each position.
 #[test]
 fn extremes_of_floats_are_those_of_a_loop_to_the_bit() {
     let kinds = [

@@ -1,4 +1,4 @@
-//! Walks stop once they have as many items as are asked for, whatever is behind these.
+//! Walks stop once they have the requested number of items, whatever follows.
 use std::hint::black_box;
 use std::time::{Duration, Instant};
 

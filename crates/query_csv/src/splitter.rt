@@ -200,7 +200,7 @@ impl Splitter {
         byte == self.dialect.delimiter || byte == b'\n' || byte == b'\r'
     }
 
-    /// Returns the error of a row that is too long, at the line where its field begins.
+    /// Returns the error of a row that is too long, at the line where the current field begins.
     fn too_long(&self) -> CsvError {
         let is_quoted = self.state == State::Quoted;
         CsvError::Malformed {

@@ -10,7 +10,7 @@ const MOST: usize = 32;
 
 /// Bins may grow with the numbers if the greatest is at least this many times the least.
 const DECADES: f64 = 1000.0;
-/// The least finite float. The first edge of a histogram may be below it.
+/// The least finite float. It replaces a first edge that would be below it.
 const LEAST: f64 = -1.7976931348623157e308;
 
 /// The factors of a power of ten in a step.

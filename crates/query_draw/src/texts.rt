@@ -10,7 +10,7 @@ pub fn width(text: &str) -> usize {
     width
 }
 
-/// Adds the spaces that a text of `given` characters lacks for `width` characters.
+/// Adds the spaces that align a text of `given` characters to `width`: `width - given`, or none.
 pub fn pad(out: &mut String, given: usize, width: usize) -> Result<(), AllocError> {
     for _ in given..width {
         out.push(' ')?;
@@ -19,7 +19,7 @@ pub fn pad(out: &mut String, given: usize, width: usize) -> Result<(), AllocErro
 }
 
 /// Returns the beginning of a text, at most about `most` letters wide. If the text is wider, the
-/// last character becomes dots. Characters of East Asia count as two letters.
+/// last character becomes dots. Characters from U+1100 on, as of East Asia, count as two letters.
 pub fn fitted(alloc: Global, text: &str, most: usize) -> Result<String, AllocError> {
     let mut fitted = String::new(alloc);
     let mut left = most;

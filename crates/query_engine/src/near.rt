@@ -15,8 +15,8 @@ pub enum Side {
     Below,
 }
 
-/// The comparison of values of one type that has the same result as a comparison with a number of
-/// another type.
+/// The test of values of one type that replaces their comparison with a number of another type: it
+/// has the same result for each value.
 #[derive(Clone, Copy, PartialEq, Eq)]
 pub enum Meaning {
     /// A comparison with the value next to the number.
@@ -46,8 +46,8 @@ pub fn among_floats(number: i64) -> (f64, Side) {
 }
 
 impl Side {
-    /// Returns the comparison of values with the neighboring value that has the same result as
-    /// `comparison` with a number on this side of it.
+    /// Returns the test that has the same result for each value as `comparison` with a number on
+    /// this side of the neighboring value.
     pub fn meaning(self, comparison: Comparison) -> Meaning {
         match (self, comparison) {
             (Side::At, _) => Meaning::Compare(comparison),

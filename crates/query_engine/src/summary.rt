@@ -14,7 +14,7 @@ use vortex_buffer::{BitBuffer, Buffer, Filter};
 pub struct Summary {
     column: usize,
     count: u64,
-    /// The total of a column of whole numbers, unless there is none.
+    /// The total of a column of whole numbers; None before the first number.
     wholes: Option<Wholes>,
     /// The total of a column of floats.
     floats: Option<Floats>,

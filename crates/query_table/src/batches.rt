@@ -7,7 +7,7 @@ use std::io::Read;
 /// The most rows of a batch.
 const BATCH: usize = 65_536;
 
-/// A batch ends with the row that brings it to this number of bytes or fields.
+/// A batch ends with the row that brings it to this many bytes, or to [`BATCH_FIELDS`] fields.
 const BATCH_BYTES: usize = 8_388_608;
 
 const BATCH_FIELDS: usize = 1_048_576;
@@ -33,8 +33,8 @@ impl<F: Read + Drop> Batches<F> {
     /// Reads the next batch of a table's rows. Returns whether there is one. Skips empty lines; in
     /// a table of one column they are nulls instead.
     ///
-    /// Fails if the file can't be read, isn't CSV, or a row has another number of fields than the
-    /// first one.
+    /// Fails if the file can't be read, isn't CSV, or a row has more fields than the table has
+    /// columns, or fewer unless rows may be short.
     pub fn next_batch(&mut self, alloc: Global, table: &Table) -> Result<bool> {
         self.rows.clear();
         for _ in 0..u64::MAX {

@@ -12,7 +12,7 @@ pub struct Condition {
 /// A step of a condition.
 #[derive(Drop)]
 pub enum Step {
-    /// Two operands that compare so.
+    /// A comparison of two operands.
     Compare(Operand, Sign, Operand),
     /// A column that is null.
     IsNull(Name),

@@ -7,7 +7,7 @@ use crate::input::Case;
 use anyhow::{Result, bail};
 use std::alloc::Global;
 
-/// The rows: each is a family, which has one input, and a call.
+/// The rows: each is a family and a call. The calls of a family have the same input.
 pub const ROWS: &[&str] = &[
     "ranked rank",
     "ranked select",

@@ -9,7 +9,7 @@ use anyhow::{Result, bail};
 use std::alloc::Global;
 use vortex_buffer::{Alignment, BitBuffer, Buffer, Take, take_bits};
 
-/// The number of values in a table that fits the caches; `LARGE` is that of one that doesn't.
+/// The number of values in a table that fits the caches. A table of `LARGE` values doesn't.
 const SMALL: usize = 50_000;
 
 const LARGE: usize = 6_000_000;

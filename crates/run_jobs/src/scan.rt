@@ -37,8 +37,8 @@ fn few(random: &mut Random) -> usize {
     random.below(most).saturating_add(1)
 }
 
-/// Adds the values of a batch that a condition and two masks select, and their bits of the first
-/// mask.
+/// Adds the values of a batch that a condition and one or two masks select, and the bits of the
+/// first mask in their rows.
 fn batch(
     alloc: Global,
     pages: &Pages,

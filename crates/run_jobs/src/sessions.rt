@@ -5,7 +5,7 @@ use anyhow::Result;
 use std::alloc::{AllocError, Global};
 use vb_script::{FromRead, ToWrite, drive};
 
-/// Runs `rounds` rounds of four sessions, each of tens of thousands of lines or of sets that print
+/// Runs `rounds` rounds of four sessions: three of 60,000 to 101,000 lines, and one that prints
 /// long lists.
 pub fn sessions(
     alloc: Global,
@@ -123,7 +123,7 @@ fn put_question(lines: &mut Vec<u8>, words: &str, number: usize) -> Added {
     put_number(lines, number)
 }
 
-/// Adds a set of 100,000 bits, edits of it, and after one edit in 500 lines that share it.
+/// Adds a set of 100,000 bits and 60,000 edits of it; after one in 500 edits also [`SHARED`].
 fn put_edits(lines: &mut Vec<u8>, random: &mut Random) -> Added {
     put(lines, "full 0 0 100000\n")?;
     for turn in 0..60_000 {
@@ -185,7 +185,7 @@ fn put_lists(lines: &mut Vec<u8>, random: &mut Random) -> Added {
     Ok(())
 }
 
-/// Adds ten thousand indices, with a comma between two.
+/// Adds 10,001 indices, with a comma between two.
 fn put_indices(lines: &mut Vec<u8>, random: &mut Random) -> Added {
     put(lines, " 1")?;
     for _ in 0..10_000 {

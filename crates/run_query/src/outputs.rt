@@ -28,8 +28,8 @@ pub struct Outputs<F: Write + Drop> {
     pub summaries: Vec<Summary>,
     /// The distribution of a column's values.
     pub histogram: Option<Histogram>,
-    /// The number of kept rows that come before the requested one in the next batches; None once
-    /// that is found, or if none is requested.
+    /// The number of kept rows before the requested row in the batches to come; None once the row
+    /// is found, or if no row is requested.
     pub before: Option<u64>,
     /// The requested row, once it is found.
     pub found: Option<Row>,

@@ -21,7 +21,7 @@ pub struct Query<'a> {
 }
 
 impl<'a> Query<'a> {
-    /// Reads the condition and the list of the options.
+    /// Parses the condition and the lists of answers and columns that the options have.
     pub fn parse(alloc: Global, options: &'a Options) -> Result<Query<'a>> {
         let condition = match &options.condition {
             Some(text) => Some(parse_condition(alloc, of_where(text.as_str()))?),

@@ -89,7 +89,7 @@ struct Run<'a, R: Files + Print + Eprint + AllocGlobal + Drop> {
 }
 
 impl<'a, R: Files + Print + Eprint + AllocGlobal + Drop> Run<'a, R> {
-    /// Returns the outputs of every run: the histogram and the strips.
+    /// Returns the outputs for the report and the picture: the strips and the histogram, if shown.
     fn outputs(&self) -> Result<Outputs<R::File>> {
         let alloc = self.rt.alloc();
         let mut outputs = Outputs::none(alloc);

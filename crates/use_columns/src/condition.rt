@@ -29,7 +29,7 @@ impl Condition {
         }
     }
 
-    /// Returns the comparison and the number that a value meeting the condition satisfies.
+    /// Returns `op` and `number`: a value meets the condition exactly if `value op number` is true.
     pub fn comparison(self) -> (Comparison, u32)
         ensures { (value : ℕ) → compares result.0 (pos value) (pos result.1) ≡ is_met self value }
     {

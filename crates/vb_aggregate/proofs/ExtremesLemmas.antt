@@ -40,7 +40,7 @@ module _ {T : Type 0} (number : T → ℤ) where
         (All-nil (λ y. number y ≤ℤ number x));
   }
 
-  -- the least of all values can start from any of them
+  -- a fold for the least value can start from one of the values
   pub least_chooses : Chooses (λ m xs. IsLeast number xs m)
   least_chooses = record {
     one = least_one;

@@ -30,7 +30,7 @@ kept-le (b ∷ mask) [] = omega arith
 kept-le (true ∷ mask) (v ∷ values) = let rest = kept-le mask values in omega arith
 kept-le (false ∷ mask) (v ∷ values) = let rest = kept-le mask values in omega arith
 
--- no bit is true in no bits
+-- no bit is true in an empty range
 pub empty_none : (bits : List Bool) (a : ℕ) → count (slice_range bits a a) ≡ 0
 empty_none bits a =
     let none : a - a ≡ 0 = omega arith in
@@ -44,7 +44,7 @@ empty_word bits a n keep gone of_mask =
     sym (ap count of_mask) ∙ ap (λ w. count (digits w 0 n)) gone
     ∙ count-digits_below 0 n (pow_pos n)
 
--- nor in two ranges, one after the other
+-- nor in two adjacent ranges, if none is in either
 pub empty_join : (bits : List Bool) (a b c : ℕ) → a ≤ b → b ≤ c
     → count (slice_range bits a b) ≡ 0 → count (slice_range bits b c) ≡ 0
     → count (slice_range bits a c) ≡ 0

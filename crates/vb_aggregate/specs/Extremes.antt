@@ -12,7 +12,7 @@ pub record IsGreatest {T : Type 0} (number : T → ℤ) (values : List T) (m : T
   pub there : Contains values m
   pub greatest : All (λ x. number x ≤ℤ number m) values
 
--- one value shows itself, and a value that comes twice at the front counts once
+-- a value shows the list of it alone, and a first value that is repeated counts once
 pub record Chooses {T : Type 0} (shows : T → List T → Type 0) : Type 0 where
   pub one : (x : T) → shows x (x ∷ [])
   pub twice : (x m : T) (xs : List T) → shows m (x ∷ x ∷ xs) → shows m (x ∷ xs)

@@ -25,12 +25,12 @@ pub trait FloatSummand: Copy {
     fn is_nan(self) -> bool
         ensures { result ≡ is_nan (float self) };
 
-    /// Returns whether this is a number below `other`, which must be one; -0.0 is below 0.0.
+    /// Returns whether this is a number below `other`, which must not be a NaN; -0.0 is below 0.0.
     fn is_below(self, other: Self) -> bool
         requires { NotNan (float other) }
         ensures { result ≡ comes_before upwards (float self) (float other) };
 
-    /// Returns whether this is a number above `other`, which must be one; 0.0 is above -0.0.
+    /// Returns whether this is a number above `other`, which must not be a NaN; 0.0 is above -0.0.
     fn is_above(self, other: Self) -> bool
         requires { NotNan (float other) }
         ensures { result ≡ comes_before downwards (float self) (float other) };

@@ -81,7 +81,7 @@ pub fn masked_sum<T: WideSummand>(values: &[T], mask: BitBufferView<'_>) -> T::T
 }
 
 /// Returns the sum of the values whose bit of the mask is true; `None` if the type has no such
-/// value. Sums of only some of these values may overflow the type.
+/// value. An intermediate sum may be outside the type.
 ///
 /// The mask must have one bit for each value. Does not allocate.
 pub fn masked_checked_sum<T: WideSummand>(values: &[T], mask: BitBufferView<'_>) -> Option<T>

@@ -69,7 +69,7 @@ pub valued_other : (v x : Bool) → x ≡ not v → cond v x (not x) ≡ false
 valued_other true x e = e
 valued_other false x e = ap not e
 
--- a digit of the word whose true digits are the digits equal to v
+-- digit i of `others (not v) w` is true exactly if digit i of w is v
 pub valued_digit : (v : Bool) (w i : ℕ) → w < 2 ^ 64 → i < 64
     → has_bit (others (not v) w) i ≡ cond v (has_bit w i) (not (has_bit w i))
 valued_digit true w i small h = refl
@@ -137,7 +137,7 @@ window_cut b o v n first inside =
     ∙ ap (λ l. places_of b o v 0 first ++ l)
     (places_in-cut value first (first + m) m (m + rest) rest refl refl)
 
--- the digits of a word that was read, replaced by whether each is v
+-- a word that was read, with each digit replaced by whether the bit there is v
 pub valued_read : (b : List ℕ) (o : ℕ) (v : Bool) (a n r w : ℕ)
     → n ≤ 64 → r < 2 ^ 64 → digits r 0 n ≡ bits b (o + a) n
     → digits w 0 n ≡ digits (others (not v) r) 0 n → (i : ℕ) → i < n

@@ -106,7 +106,7 @@ impl Two {
         }
     }
 
-    /// Combines sets that were made. An error of one of them is the answer.
+    /// Combines sets that were made. Returns an error of one of them.
     pub(crate) fn of_made<A: Allocator + Clone>(
         self,
         left: Result<BitBuffer<A>>,
@@ -152,7 +152,7 @@ pub(crate) enum One {
 pub(crate) const ONE: &[One] = &[One::Not, One::NotLent, One::Sliced, One::ShrinkOffset];
 
 impl One {
-    /// Makes a set of one that was made. An error of that is the answer.
+    /// Makes a set of one that was made. Returns an error of that one.
     pub(crate) fn make<A: Allocator + Clone>(
         self,
         set: Result<BitBuffer<A>>,

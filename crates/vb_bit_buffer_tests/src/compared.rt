@@ -1,6 +1,6 @@
 //! Comparisons of what is given with what is wanted. Each is proved once here, and so tests are
-//! proved in less time. A set is given up by a call of `drop`, which is proved in a fifth of the
-//! time that the end of a block takes.
+//! proved in less time. Sets are dropped by a call of `drop`: its proof takes a fifth of the time
+//! of the one of a drop at the end of a block.
 use std::alloc::Allocator;
 use std::fmt::Debug;
 use std::process::Abort;
@@ -45,7 +45,7 @@ pub(crate) fn shows_list<A: Allocator + Clone>(
     drop(set);
 }
 
-/// How many bits the set has that was made.
+/// The number of bits of the set that was made.
 pub(crate) fn len_of<A: Allocator + Clone>(made: Result<BitBuffer<A>>) -> Result<usize> {
     let set = made?;
     let len = set.len();

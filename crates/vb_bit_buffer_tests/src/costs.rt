@@ -1,4 +1,4 @@
-//! What calls ask of the allocator: nothing, since they share the bytes.
+//! Calls that share the bytes of a set, and so don't allocate.
 use crate::compared::equal;
 use crate::made::window;
 use crate::makers::{sliced, twin};

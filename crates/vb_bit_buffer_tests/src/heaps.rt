@@ -1,5 +1,5 @@
-//! Which of two allocators is asked for memory: the left value's, by an operator and by later calls
-//! on its result. No contract can say it.
+//! Which of two allocators is used: operators, and later calls on their results, allocate from the
+//! left value's. No contract can say it.
 //!
 //! Each request to the left value's heap is refused in turn, and the call returns that error. The
 //! right value's heap would refuse its first request, but gets none.
@@ -13,8 +13,8 @@ use vb_core::{BufferError, Result};
 use vb_mem::ByteBuffer;
 use vb_testing::{Handle, Refusing};
 
-/// A second owner of a set that was made, and then its bytes, to which some are added. Answers how
-/// many bits the set has.
+/// Clones a set that was made, drops the set, and adds bytes to those of the clone. Returns the
+/// number of bits of the set.
 fn grown<A: Allocator + Clone>(made: Result<BitBuffer<A>>) -> Result<usize> {
     let set = made?;
     let twin = set.clone();
@@ -24,7 +24,7 @@ fn grown<A: Allocator + Clone>(made: Result<BitBuffer<A>>) -> Result<usize> {
     Ok(len)
 }
 
-/// Adds bytes to some.
+/// Adds a thousand bytes.
 fn lengthened<A: Allocator + Clone>(bytes: ByteBuffer<A>) -> Result<()> {
     let mut bytes = bytes.into_mut()?;
     let added = bytes.push_n(0, 1000);

@@ -1,6 +1,6 @@
-//! Tests of shared sets of bits: calls whose requests for memory are refused, what calls ask of the
-//! allocator, and of which one where two could be meant; walks over sets, their equality, copies
-//! and text; operators, as worked rows and each call beside a plain loop over its bits.
+//! Tests of shared sets of bits: calls whose requests for memory are refused, what calls allocate,
+//! and from which of two allocators; walks over sets, their equality, copies and text; operators,
+//! as worked rows and each call compared with a plain loop over its bits.
 #![tactic(auto)]
 
 #[cfg(test)]

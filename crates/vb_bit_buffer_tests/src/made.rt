@@ -12,7 +12,7 @@ pub(crate) const LONGEST: usize = 200;
 /// Enough bytes for the longest list, at the greatest offset.
 const BYTES: usize = 30;
 
-/// A byte that a seed and a place determine.
+/// A byte that a seed and an index determine.
 fn noise(seed: usize, place: usize) -> u8 {
     let mixed = seed
         .wrapping_mul(0x9E37_79B9)

@@ -7,7 +7,7 @@ use vb_core::{BufferError, Result};
 use vb_mem::ByteBuffer;
 use vb_testing::{Handle, Refusing};
 
-/// A call that makes a set. If it makes the set of another one, that has nine true bits.
+/// A call that makes a set. Calls that need another set get one of nine true bits.
 enum Call {
     NewSet,
     NewUnset,
@@ -47,7 +47,7 @@ struct Column<A: Allocator + Clone> {
     valid: BitBuffer<A>,
 }
 
-/// The set of a copy of a column that has the set, and its bytes as values.
+/// Builds a column of the set and its bytes, copies the column, and returns the set of the copy.
 fn derived<A: Allocator + Clone>(made: Result<BitBuffer<A>>) -> Result<BitBuffer<A>> {
     let valid = made?;
     let values = match valid.inner().clone() {

@@ -1,5 +1,5 @@
-//! What calls ask of the allocator: an owner alone where they work in place, and else the bytes of
-//! the window and an owner.
+//! What calls allocate: only an owner if they work in place, otherwise the bytes of the window and
+//! an owner.
 use crate::calls::{LENT, OWNED, One, Two};
 use crate::compared::{equal, len_of};
 use crate::made::{ones, part};
@@ -64,7 +64,7 @@ fn a_lent_left_value_is_copied_alone(rt: HostRuntime) {
     drop(all);
 }
 
-/// A set that begins with its first byte is its own front.
+/// `sliced` shares the bytes of a set that begins with its first byte.
 #[test]
 fn the_front_of_a_front_is_shared(rt: HostRuntime) {
     let heap = Refusing::new(rt.alloc(), 0);

@@ -1,4 +1,4 @@
-//! Each call beside a plain loop over its bits.
+//! Each call compared with a plain loop over its bits.
 use crate::calls::{LENT, ONE, OWNED, One, Operator, Two};
 use crate::compared::{compares, shows_list};
 use crate::made::{LONGEST, front, list, set};
@@ -7,7 +7,7 @@ use std::process::Abort;
 use vb_bit_buffer::BitBuffer;
 use vb_core::Result;
 
-/// The places of the first bit on either side.
+/// The bit offsets of either side.
 const OFFSETS: [usize; 4] = [0, 3, 5, 7];
 
 const LENGTHS: [usize; 7] = [0, 1, 63, 64, 65, 129, LONGEST];
@@ -72,8 +72,8 @@ fn copies_and_negations_are_those_of_bits(rt: HostRuntime) {
     }
 }
 
-/// A set is equal to one of the same list, and not to one whose last bit is another, or that is
-/// shorter. Turns the last bit.
+/// A set is equal to one of the same list, and not to one whose last bit differs, or that is
+/// shorter. Flips the last bit of the list.
 fn equality_is_plain(
     rt: &impl Abort,
     alloc: Global,

@@ -16,8 +16,8 @@ fn prints(rt: &impl Abort, alloc: Global, made: Result<BitBuffer>, wanted: &str)
     drop(text);
 }
 
-/// How many bytes of four ones and four zeros, a window's length from bit 2 on, and how it is
-/// printed: whole where it has 64 bits, and of 65 the first 64.
+/// The number of bytes 0x0F, the length of a window from bit 2 on, and its text: all of 64 bits,
+/// and the first 64 of 65.
 const PRINTED: &[(usize, usize, &str)] = &[
     (1, 0, "BitBuffer()"),
     (1, 3, "BitBuffer(110)"),

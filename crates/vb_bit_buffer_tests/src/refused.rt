@@ -8,7 +8,7 @@ use std::process::Abort;
 use vb_core::BufferError;
 use vb_testing::{Handle, Refusing};
 
-/// The calls on one set, and how many requests each makes with those of the set, which are four.
+/// The calls on one set, and the number of requests, including the four that make the set.
 const REQUESTS: &[(One, u64)] = &[
     (One::Not, 7),
     (One::NotLent, 9),
@@ -29,7 +29,7 @@ fn each_request_of_a_copy_is_refused(rt: HostRuntime) {
     }
 }
 
-/// The lengths are looked at before memory is asked for.
+/// The lengths are compared before anything is allocated.
 fn lengths_come_first(rt: &impl Abort, alloc: Global, calls: &[Two]) {
     let heap = Refusing::new(alloc, 0);
     let refusal = BufferError::LengthMismatch {

@@ -1,6 +1,6 @@
-//! Whether sets are disjoint, or one is a subset of the other, and how many places an operator
-//! makes true of them: beside plain loops over their bits, refused for their lengths alone, and
-//! without memory.
+//! Whether sets are disjoint, or one is a subset of the other, and the number of ones that an
+//! operator gives: compared with plain loops. The calls fail only for lengths that differ, and
+//! don't allocate.
 use crate::compared::equal;
 use crate::made::{LONGEST, front, list, ones, set};
 use std::alloc::{Allocator, Global};
@@ -9,8 +9,8 @@ use vb_bit_buffer::BitBuffer;
 use vb_core::{BufferError, Result};
 use vb_testing::Refusing;
 
-/// What two sets answer: whether they are disjoint, and whether the first is a subset; and how many
-/// places `and`, `or`, `xor` and `and not` make true.
+/// What calls on two sets return: whether they are disjoint, whether the first is a subset, and the
+/// numbers of ones of `and`, `or`, `xor` and `and not`.
 type Answers = (Result<bool>, Result<bool>, Counts);
 
 type Counts = (Result<usize>, Result<usize>, Result<usize>, Result<usize>);
@@ -32,7 +32,7 @@ fn answers<A: Allocator + Clone>(
     given
 }
 
-/// What a loop over the bits answers.
+/// What a loop over the bits finds.
 fn plain(left: &[bool], right: &[bool]) -> Answers {
     let (mut both, mut first, mut second) = (0usize, 0usize, 0usize);
     for (l, r) in left.iter().zip(right) {
@@ -106,14 +106,14 @@ fn one_bit_of_many_tells(rt: HostRuntime) {
     }
 }
 
-/// What each call answers of two lengths.
+/// What each call returns for two lengths that differ.
 fn refused(left: usize, right: usize) -> Answers {
     let told = Err(BufferError::LengthMismatch { left, right });
     let count = Err(BufferError::LengthMismatch { left, right });
     (told, told, (count, count, count, count))
 }
 
-/// The lengths of two sets that differ, and what the calls are refused by.
+/// Sets of different lengths: each call fails, and makes no request.
 #[test]
 fn lengths_that_differ_are_refused_without_memory(rt: HostRuntime) {
     let heap = Refusing::new(rt.alloc(), 0);

@@ -1,4 +1,4 @@
-//! Worked rows: what operators, copies and the printed form answer.
+//! Worked rows: results of operators, copies, and the printed form.
 use crate::calls::One;
 use crate::compared::{equal, shows_list};
 use crate::made::{part, window};
@@ -72,7 +72,7 @@ fn prints(rt: &impl Abort, alloc: Global, made: Result<BitBuffer>, wanted: &str)
     drop(text);
 }
 
-/// A byte and how many of it, the window's offset and length, and how it is printed.
+/// The value of all bytes and their number, the window's offset and length, and its text.
 const PRINTED: &[(u8, usize, usize, usize, &str)] = &[
     (0x00, 0, 0, 0, "BitBuffer { len: 0, buffer: [] }"),
     (0x40, 1, 6, 2, "BitBuffer { len: 2, buffer: [true, false] }"),

@@ -32,7 +32,7 @@ fn runs_are_told<A: Allocator + Clone>(rt: &impl Abort, set: &BitBuffer<A>) {
     equal(rt, runs.next(), None);
 }
 
-/// The places of its true bits.
+/// The indices of its true bits.
 fn places_are_told<A: Allocator + Clone>(rt: &impl Abort, set: &BitBuffer<A>) {
     let mut places = set.set_indices();
     for place in [1, 2, 4, 5, 6] {

@@ -1,5 +1,5 @@
-//! Appends bytes so that the capacity does not change if it is large enough. No contract promises
-//! this of the buffer's own call.
+//! Appends bytes. If they are at most 64 and there is capacity, the capacity does not change. No
+//! contract promises this of the buffer's own call.
 ghost use Rattle.std.specs.Prelude.{◌≡◌, ◌+◌, ◌*◌, ◌≤◌, length, OnOk};
 ghost use Rattle.std.specs.Int.{w64, to_le_bytes};
 ghost use Rattle.vb_bits.specs.Digits.{digits};

@@ -167,7 +167,7 @@ has_bit-or v w i = ap (λ x. eqb x 1) (bit_at_or v w i)
     either zero (suc (suc y)) g h = absurd (omega arith)
     either (suc zero) (suc (suc y)) g h = absurd (omega arith)
 
--- a digit of one of the two
+-- a digit of exactly one of the two
 pub has_bit-xor : (v w i : ℕ)
     → has_bit (bit_xor v w) i ≡ cond (has_bit v i) (not (has_bit w i)) (has_bit w i)
 has_bit-xor v w i = ap (λ x. eqb x 1) (bit_at_xor v w i)

@@ -23,7 +23,7 @@ same-bits-add b c o p m n = (
       ∙ ap (λ l. bits c p m ++ l) e.1 ∙ sym (bits-add c p m n),
 )
 
--- equal windows are equal at equal offsets and lengths
+-- equal windows stay equal if their offsets and length are replaced by equal ones
 pub same-at : (b c : List ℕ) (o p n q r m : ℕ)
     → o ≡ q → p ≡ r → n ≡ m → bits b o n ≡ bits c p n → bits b q m ≡ bits c r m
 same-at b c o p n q r m at_b at_c len e = ap (λ i. bits b i m) (sym at_b) ∙ ap (bits b o) (sym len)

@@ -34,7 +34,7 @@ pub at-lane_bits : (v : List ℕ) (i : ℕ) (d : Bool) → i < 256
 unfolding lane_bits
 at-lane_bits v i d h = get_or-map-range_with_len (lane_bit v) 0 256 i i d h (zero-add i)
 
--- the digits are a window if each digit is its bit
+-- the digits are a window if digit i is bit o + i, for each i
 pub lane_bits-bits : (v b : List ℕ) (o : ℕ) → ((i : ℕ) → i < 256 → lane_bit v i ≡ bit_of b (o + i))
     → lane_bits v ≡ bits b o 256
 lane_bits-bits v b o h =
@@ -42,7 +42,7 @@ lane_bits-bits v b o h =
     let inside : i < 256 = omega (arith, length-lane_bits v) in
     at-lane_bits v i d inside ∙ h i inside ∙ sym (at-bits b o 256 i d inside))
 
--- if the digits are a window, each digit is its bit
+-- if the digits are a window, digit i is bit o + i
 pub lane_bit-bits : (v b : List ℕ) (o i : ℕ) → lane_bits v ≡ bits b o 256 → i < 256
     → lane_bit v i ≡ bit_of b (o + i)
 lane_bit-bits v b o i e h = sym (at-lane_bits v i (lane_bit v i) h)
@@ -60,7 +60,7 @@ part_bit k (suc n) x (suc j) i g h =
     let e : k + (k * j + i) ≡ k * suc j + i = omega (arith, mul-add k j 1, mul-one k) in
     part_bit k n (x / 2 ^ k) j i (omega arith) h ∙ has_bit_shr x k (k * j + i) ∙ ap (has_bit x) e
 
--- digit i of number j in the number that they make up
+-- digit i of number j of a list, as a digit of the number that the list represents
 whole_bit : (k : ℕ) (xs : List ℕ) (j i : ℕ) → Each1 (λ x. x < 2 ^ k) xs → i < k
     → has_bit (number_l (2 ^ k) xs) (k * j + i) ≡ has_bit (get_or xs j 0) i
 whole_bit k [] j i f h = ap (λ z. eqb z 1) (bit_at-zero (k * j + i) ∙ sym (bit_at-zero i))

@@ -163,7 +163,7 @@ AreRuns-few t a e (p ∷ ps) le h =
     let rest : p.1 + length ps ≤ e = AreRuns-few t p.1 e ps h.2 h.6 in
     omega (arith, h.0, h.1, rest)
 
--- there are at most as many runs as values
+-- the number of runs is at most the number of values
 pub runs_few : (l : List Bool) → length (runs l) ≤ length l
 runs_few l = omega (arith, AreRuns-few (at l) 0 (length l) (runs l) (omega arith) (AreRuns-runs l))
 

@@ -246,7 +246,7 @@ Writes_push b c o y v e f at =
     first w e zero d l = ap (bit_of c) (add-zero o) ∙ e
     first w e (suc i) d l = absurd (omega arith)
 
--- appended bytes whose digits are all v, and the bits up to them written
+-- a run of v: written up to the old end, and then in appended bytes whose digits are all v
 pub Writes_push_run : (b with_more c : List ℕ) (o n k y e : ℕ) (v : Bool)
     → with_more ≡ b ++ replicate k y → ((j : ℕ) → j < 8 → has_bit y j ≡ v) → e ≡ 8 * length b
     → o ≤ e → e ≤ o + n → o + n ≤ 8 * (length b + k)

@@ -32,7 +32,7 @@ fn words_of(bytes: &[u8]) -> u64x4
 }
 
 /// Returns the four words from bit `shift` of byte `first` on. It loads the 32 bytes from `first`
-/// on, and the 32 bytes that start one byte later for the digits that the shift lacks. The caller
+/// on, and the 32 bytes that start one byte later for each word's missing high digits. The caller
 /// must prove that `shift` is 1 to 7 and that 33 bytes are in bounds.
 #[inline(always)]
 pub fn shifted_words(bytes: &[u8], first: usize, shift: usize) -> u64x4

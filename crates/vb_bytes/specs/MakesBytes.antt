@@ -5,7 +5,7 @@ use Rattle.vb_core.specs.declared.error.BufferError.{BufferError}
 use Rattle.vb_core.specs.declared.error.BufferError.TheVariants.{OutOfMemory, TooManyBytes}
 use Rattle.vb_core.specs.declared.error.BufferError.TheVariants.{ByteLength}
 
--- P holds of the value made from n bytes. If n is 2 ^ 64 or more, the call returns `TooManyBytes`;
+-- P holds of the value, which has n bytes. If n is 2 ^ 64 or more, the call returns `TooManyBytes`;
 -- otherwise `OutOfMemory` is its only error
 pub record MakesBytes {T : Type 0} (n : ℕ) (P : T → Type 0)
     (result : Result T BufferError) : Type 0 where

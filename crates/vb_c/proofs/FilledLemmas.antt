@@ -18,7 +18,7 @@ Fills-full front rest all old new n whole len full items =
       items = items ∙ ap (λ l. l ++ drop n old) (sym first);
     }
 
--- the same from a write to the first k items alone, k being the number of those written
+-- the same from a write to the first k items alone, if no more items can be written
 pub Fills-in_front : {T : Type 0} (all old new : List T) (k n : ℕ)
     → k ≡ min (length all) (length old) → Fills all (take k old) new n
     → Fills all old (new ++ drop k old) n

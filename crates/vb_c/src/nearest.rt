@@ -11,8 +11,8 @@ use vb_bits::window_fits;
 use vb_c_core::Place;
 
 /// Returns the index of the first set bit at or after index `from` of the `len` bits from bit
-/// `offset` on; finds none if there is none, or if `from` is at least `len`. Reads word by word,
-/// from the third word on four at once, up to those that have it.
+/// `offset` on; finds none if there is none, or if `from` is at least `len`. Reads a word, then the
+/// next one, and then four words at a time, up to those that have the bit.
 #[unsafe(no_mangle)]
 pub extern "C" fn vb_next_set(bytes: &[u8], offset: usize, len: usize, from: usize) -> Place
     requires window { InBytes bytes.now offset len }

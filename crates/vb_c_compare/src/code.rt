@@ -8,7 +8,7 @@ ghost use Rattle.vb_compare.specs.Compares.{compares};
 use vb_bits::window_fits;
 use vb_compare::{CompareLanes, Comparison, compare_into, compare_with_into};
 
-/// Returns the comparison of a number, which must be below 6.
+/// Returns the comparison that `code` represents; `code` must be below 6.
 pub(crate) fn comparison_of(code: u8) -> Comparison
     requires { code < 6 }
     ensures { result ≡ comparison_of code }

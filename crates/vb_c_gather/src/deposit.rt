@@ -9,9 +9,9 @@ use vb_count::count_ones_wide;
 use vb_filter::deposit_into;
 use vb_view::BitBufferView;
 
-/// Writes `len` bits to `out` from bit `o` on: where the bit of `mask` from bit `m` on is true,
-/// those of `bytes` from bit `offset` on, in order; elsewhere false. `bytes` must have a bit for
-/// each set bit of the mask. Every other bit of `out` is unchanged. It is the inverse of
+/// Writes `len` bits to `out` from bit `o` on. Where a bit of `mask`, from bit `m` on, is true,
+/// writes the next bit of `bytes`, from bit `offset` on; elsewhere writes false. `bytes` must have
+/// a bit for each set bit of the mask. Every other bit of `out` is unchanged. It is the inverse of
 /// `vb_filter_bits` for the bits that the mask selects.
 #[unsafe(no_mangle)]
 pub extern "C" fn vb_deposit_bits(

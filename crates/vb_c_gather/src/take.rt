@@ -22,7 +22,7 @@ use vb_view::BitBufferView;
 /// If `all_valid` is true, each position counts, and the validity is ignored. Else a position
 /// counts if its bit of `validity`, from bit `v` on, is true; the others get false, and their
 /// indices are ignored. Every other bit of `out` is unchanged. If a position is returned, the bits
-/// of the indices are unspecified.
+/// of `out` for the indices are unspecified.
 #[unsafe(no_mangle)]
 pub extern "C" fn vb_take_bits_u8(
     out: &mut [u8],

@@ -116,7 +116,7 @@ odd_pairs digits odd =
 -- facts about pairs
 pub ruleset pairs = (pairs_digits, pairs_even, even_pairs, odd_pairs)
 
--- each of the digits is a digit
+-- if all bytes are digits, the one at index i is
 pub digit_at : (digits : List ℕ) (i : ℕ) → list_all is_digit digits ≡ true → i < length digits
     → is_digit (get_or digits i 0) ≡ true
 digit_at digits i all within = AllPass-from_list_all is_digit digits all i 0 within

@@ -1,4 +1,4 @@
--- The parts of a word between commas, and the items that they write.
+-- The parts of a word between commas, and the items that they represent.
 use Rattle.std.proofs.Common.{◌≡◌, ℕ, ◌+◌, ◌<◌, ◌≤◌, Bool, true, List, [], ◌∷◌, ◌++◌, length}
 use Rattle.std.proofs.Common.{false, cond, codes, refl, ap, ◌∙◌, Option, Some, None, arith}
 use Rattle.std.specs.List.{slice_split, position_or_len, before_first, after_first}

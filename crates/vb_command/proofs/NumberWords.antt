@@ -100,18 +100,18 @@ few_other w i within is =
     ap all_ascii_digits (drop-cons w i 0 within)
     ∙ ap (λ b. b && all_ascii_digits (drop (suc i) w)) is
 
--- the number of i + 1 digits stays below 10 ^ (i + 1)
+-- a number of i + 1 digits is below 10 ^ (i + 1)
 pub few_small : (n d i : ℕ) → n < 10 ^ i → d ≤ 9 → 10 * n + d < 10 ^ (i + 1)
 few_small n d i small digit =
     let next : i + 1 ≡ suc i = omega arith in
     let more : 10 ^ (i + 1) ≡ 10 ^ i * 10 = ap (λ k. 10 ^ k) next ∙ pow-suc 10 i in
     omega (arith, more)
 
--- the number of at most 19 digits is below 10 ^ 19
+-- a number of at most 19 digits is below 10 ^ 19
 pub few_below : (n i : ℕ) → n < 10 ^ i → i ≤ 19 → n < 10 ^ 19
 few_below n i small few = omega (arith, pow-le-pow_right {n = 10} (omega arith) few)
 
--- a limit is one more test of a number
+-- a test of a number and then a test of its limit are one test
 limit : (b : Bool) (v most : ℕ)
     → (cond b (Some v) None >>= (λ n. cond (nat_le n most) (Some n) None))
     ≡ cond (b && nat_le v most) (Some v) None
@@ -177,7 +177,7 @@ plain_index w o plain is =
 pub no_index : (w : List ℕ) → get_or w 0 0 ≢ 45 → number w ≡ None → index w ≡ None
 no_index w plain none = plain_index w None plain none
 
--- a number, and whether it fits
+-- the index of a word that is a number without a minus: that number, if it fits
 pub index_of : {E : Type 0} (w : List ℕ) (n : ℕ) (r : Result ℤ E)
     → OkIff r (FitsSigned w64 (pos n)) (pos n) → number w ≡ Some n → get_or w 0 0 ≢ 45
     → result_ok r ≡ index w

@@ -185,7 +185,7 @@ abbrev pub all_below : ℕ → List ℕ → Bool
 all_below n numbers = list_all (λ i. nat_lt i n) numbers
 
 -- whether a window of n bits from bit o on begins in the first byte, is in bounds of the bytes, and
--- ends at an index of 64 bits
+-- has an end that fits in 64 bits
 abbrev pub fits : ℕ → ℕ → List ℕ → Bool
 fits o n bytes =
     nat_lt o 8 && nat_le (o + n) (8 * length bytes) && nat_lt (o + n) (2 ^ 64)

@@ -1,4 +1,4 @@
--- The words of a line, and the fields that words write: numbers, truth values and modes.
+-- The words of a line, and the fields that words represent: numbers, truth values and modes.
 use Rattle.std.specs.Prelude.{ℕ, ◌^◌, Bool, true, false, ◌&&◌, List, codes, length}
 use Rattle.std.specs.Prelude.{filter, Option, Some, None, nat_lt, ◌==◌, if◌then◌else◌}
 use Rattle.std.specs.List.{slice_split}

@@ -7,7 +7,7 @@ use std::alloc::{AllocError, AllocFailed};
 /// The reason why the command of a line cannot be returned.
 #[derive(Clone, Copy, Debug, PartialEq, Eq)]
 pub enum Unread {
-    /// The allocation of the line's bytes or numbers failed.
+    /// Memory ran out for the line's bytes or numbers.
     Memory,
     /// The line cannot be parsed.
     Unreadable,

@@ -1,4 +1,4 @@
--- A write to the bytes from one of them on.
+-- A write to k bytes from byte a on, as a write to all bytes.
 use Rattle.std.proofs.Common.{◌≡◌, ◌⊎◌, inl, inr, ℕ, ◌+◌, ◌-◌, ◌*◌, ◌/◌, ◌%◌, ◌<◌, ◌≤◌, Bool, List}
 use Rattle.std.proofs.Common.{length, take, drop, get_or, ap, sym, ◌∙◌, arith, zero-add}
 use Rattle.std.proofs.lemmas.Bool.{cases_lt}

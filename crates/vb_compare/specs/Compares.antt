@@ -6,7 +6,7 @@ use Rattle.vb_compare.specs.declared.comparison.Comparison.TheVariants.{Equal, N
 use Rattle.vb_compare.specs.declared.comparison.Comparison.TheVariants.{LessOrEqual, Greater}
 use Rattle.vb_compare.specs.declared.comparison.Comparison.TheVariants.{GreaterOrEqual}
 
--- whether a compares with b by a comparison
+-- whether a comparison of a with b is true
 abbrev pub compares : Comparison → ℤ → ℤ → Bool
 compares Equal a b = int_eq a b
 compares NotEqual a b = not (int_eq a b)

@@ -17,8 +17,8 @@ use crate::write::write_truths;
 /// These bits must be in `out`, and `offset` plus the number of values must fit in a `usize`. Does
 /// not allocate.
 ///
-/// Compares 64 values at a time by vectors, those of 64 bits and more eight at a time. Compares
-/// fewer than 64 by eights, and fewer than eight one by one.
+/// Compares 64 values at a time, or eight at a time if a value has at least 64 bits. Compares fewer
+/// than 64 values by eights, and fewer than eight one by one.
 pub fn compare_into<T: CompareLanes>(
     out: &mut [u8],
     offset: usize,
@@ -62,8 +62,8 @@ pub fn compare_into<T: CompareLanes>(
 /// `others` must have the same length as `values`. These bits must be in `out`, and `offset` plus
 /// the number of values must fit in a `usize`. Does not allocate.
 ///
-/// Compares 64 values at a time by vectors, those of 64 bits and more eight at a time. Compares
-/// fewer than 64 by eights, and fewer than eight one by one.
+/// Compares 64 values at a time, or eight at a time if a value has at least 64 bits. Compares fewer
+/// than 64 values by eights, and fewer than eight one by one.
 #[tactic(auto, using(crate::proofs::TruthLemmas::length_paired))]
 pub fn compare_with_into<T: CompareLanes>(
     out: &mut [u8],

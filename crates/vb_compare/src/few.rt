@@ -7,7 +7,7 @@ use std::simd::prelude::*;
 
 /// Returns a word whose lowest bits are the last `n` truth values, fewer than 64.
 ///
-/// Computes eight or more of them by eights; the last eight may begin before the end of the
+/// If `n` is at least 8, computes eight at a time; the last eight may begin before the end of the
 /// previous eight.
 #[inline(always)]
 pub(crate) fn last_values<S: Truths>(source: &S, n: usize) -> u64

@@ -29,7 +29,7 @@ pub trait CompareLanes: BitIndex + Element {
         ensures numbers { numbers result ≡ map Self.number (take 64 values.now) }
         ensures block { is_block result };
 
-    /// Returns a block of 64 times `value`.
+    /// Returns a block of 64 copies of `value`.
     fn splat(value: Self) -> Self::Block
         ensures numbers { numbers result ≡ replicate 64 (Self.number value) }
         ensures block { is_block result };

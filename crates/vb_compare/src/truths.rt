@@ -12,8 +12,8 @@ use std::marker::PhantomData;
 /// in a row at once.
 pub trait Truths {
     /// Whether 64 calls of [`one`](Truths::one), eight at a time, are faster than a call of
-    /// [`word`](Truths::word). They are for whole numbers of eight bytes and more, since a vector
-    /// holds few of these.
+    /// [`word`](Truths::word). True for whole numbers of eight bytes and more, since a vector holds
+    /// few of these.
     const IS_WIDE: bool;
 
     // The truth values.

@@ -90,8 +90,8 @@ fn write_words<S: Truths>(out: &mut [u8], offset: usize, source: &S, from: usize
 /// Does [`write_truths`] for the last `n` truth values. `n` must be below 64, and there must be at
 /// least 64 truth values. The first of their bits must be the first bit of a byte.
 ///
-/// It passes on only the bytes from that one on, so that it reads none that it has just written: a
-/// load of such bytes waits for their store.
+/// Passes only the bytes from that byte on to `write_digits`, so that no byte that was just written
+/// is read: a load of such bytes waits for their store.
 #[inline(always)]
 fn write_rest<S: Truths>(out: &mut [u8], offset: usize, source: &S, n: usize)
     requires few { n < 64 }

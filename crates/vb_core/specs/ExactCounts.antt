@@ -79,7 +79,7 @@ signed_range_counts =
     (λ x y end next below.
     ap (λ z. int_gap z end + 1) (next ∙ +ℤ_one x) ∙ int_gap-suc_ℤ x end below)
 
--- a slice iterator has the number of items of its rest
+-- the number of remaining items of a slice iterator is the length of its rest
 pub slice_iter_counts : {T : Type 0} → IsExactCount (iter_steps {A = T})
     (λ s. at_most (length (iter_rest s))) (λ s. length (iter_rest s))
 slice_iter_counts =
@@ -88,7 +88,7 @@ slice_iter_counts =
     (λ s t step. step.0)
     (λ s. tt)
 
--- an iterator with its number of items counts down
+-- the number that is kept with an iterator and counts down is an exact count
 pub adapter_counts : {I A : Type 0} (steps : I → Option A → I → Type 0)
     → IsExactCount
     (λ (s : Counted I) r (t : Counted I). CountsDown (steps s.iter r t.iter) s.left r t.left)

@@ -21,7 +21,7 @@ pub record Counted (I : Type 0) : Type 0 where
   pub iter : I
   pub left : ℕ
 
--- a call with n items left returned r and left m: `None` if n was 0, else an item, for which G
--- holds
+-- a call with n remaining items returned r, and m items remain after it: r is `None` if n was 0,
+-- else an item, and then G holds
 abbrev pub CountsDown : {A : Type 0} → Type 0 → ℕ → Option A → ℕ → Type 0
 CountsDown G n r m = MatchOption r ((n ≡ 0) × (m ≡ n)) (λ _. (m + 1 ≡ n) × G)

@@ -19,7 +19,7 @@ pub looks_on : (was now more most a b : ℕ)
     → now + a ≤ was + most → a ≡ 1 + b → more ≡ now + 1 → more + b ≤ was + most
 looks_on was now more most a b before one look = omega arith
 
--- one more look made, of those to come
+-- one more look made, if at least one was to come
 pub looks_had : (was now more most a : ℕ)
     → now + a ≤ was + most → 1 ≤ a → more ≡ now + 1 → more ≤ was + most
 looks_had was now more most a before some look = omega arith

@@ -48,8 +48,8 @@ pub record IsLook (a n : ℕ) : Type 0 where
   pub whole : 8 < n → a % 8 ≡ 0
   pub in_byte : n ≤ 8 → a % 8 + n ≤ 8
 
--- one look at a whole byte reads n of the m bits there: a chunk, a word or a byte, or all of them
--- if they are fewer
+-- one look from a byte boundary on reads n of the m bits there: a chunk, a word or a byte, or all
+-- of them if they are fewer
 pub record IsWholeLook (m n : ℕ) : Type 0 where
   pub chunk : chunk_bits ≤ m → n ≡ chunk_bits
   pub word : m < chunk_bits → word_bits ≤ m → n ≡ word_bits

@@ -1,9 +1,9 @@
 //! Counts the set bits of a window.
 //!
 //! The window is split as in Mula, Kurz and Lemire's "Faster Population Counts Using AVX2
-//! Instructions". The first and last bits are counted by words and bytes, and, unlike there, before
-//! the whole vectors. Carry-save adders count the vectors if there are many. The compiler chooses
-//! how to count a word or a vector.
+//! Instructions". Unlike there, the first and last bits are counted before the whole vectors, by
+//! words and bytes. Carry-save adders count the vectors if there are many. The compiler chooses how
+//! to count a word or a vector.
 ghost use Rattle.std.specs.Prelude.{◌≡◌, ◌+◌, ◌-◌, ◌*◌, ◌/◌, ◌%◌, ◌^◌, ◌<◌, ◌≤◌, length, min};
 ghost use Rattle.vb_bits.specs.Bits.{bits, count};
 ghost use Rattle.vb_bits.specs.InBytes.{InBytes};
@@ -22,8 +22,8 @@ use vb_bits::read_bits;
 /// the caches.
 const MIN_ADDER_CHUNKS: usize = 64;
 
-/// This number of chunks, 8 MiB, exceeds the caches of most machines. Adders then win at each
-/// width, since they read memory at four addresses.
+/// This number of chunks, 8 MiB, exceeds the second-level caches of most machines. Adders then win
+/// at each width, since they read at four addresses.
 const PAST_CACHES: usize = 131_072;
 
 /// Returns the number of set bits among the `len` bits from bit `offset` on. The caller must prove
@@ -177,8 +177,8 @@ fn count_part<G: Glance>(src: &mut G, at: usize, len: usize) -> usize
 /// `usize`.
 ///
 /// It counts fewer than [`min_adder_chunks`] chunks word by word. From that number on, adders count
-/// sixteen chunks at a time, and the rest is counted word by word. It isn't inlined: callers with
-/// few chunks then keep no value across it.
+/// sixteen chunks at a time, and the rest is counted word by word. It isn't inlined, so that
+/// callers with few chunks save no registers for the adders.
 #[tactic(auto, using(vb_bits::proofs::BitsLemmas::windows))]
 #[inline(never)]
 pub fn add_chunks<G: Glance>(src: &mut G, at: usize, n: usize, ones: usize) -> usize
@@ -211,9 +211,9 @@ fn min_adder_chunks<G: Glance>() -> usize
 /// Returns `ones` plus the number of set bits in the `n` chunks from byte `at` on, by the counts of
 /// their words.
 ///
-/// Each turn sums two chunks before it adds their sum: a compiler that counts the bits of bytes
-/// then adds those counts as bytes and widens them once per turn. It isn't inlined: next to the
-/// sums of other parts the compiler wouldn't see its four sums as the lanes of one vector.
+/// Each turn first sums two chunks, so that a compiler that counts the bits of each byte can add
+/// these counts as bytes and widen them once per turn. It isn't inlined: next to the sums of other
+/// parts the compiler wouldn't see its four sums as the lanes of one vector.
 #[tactic(auto, using(vb_bits::proofs::BitsLemmas::windows))]
 #[inline(never)]
 fn add_few<G: Glance>(src: &mut G, at: usize, n: usize, ones: usize) -> usize

@@ -18,7 +18,7 @@ pub fn most_looks(len: usize) -> usize
 }
 
 /// Returns the number of bits that the first look reads, if the `len` bits from bit `at` on are
-/// read from front to back. The look reads the bits of a partial first byte. At a whole byte it
+/// read from front to back. The look reads the bits of a partial first byte. If there is none, it
 /// reads the largest of a chunk, a word or a byte that the bits fill, or all of them if they fill
 /// none. The caller must prove that `len` isn't 0.
 ///
@@ -42,8 +42,9 @@ pub fn first_look(at: usize, len: usize) -> usize
 }
 
 /// Returns the number of bits that the first look reads, if the `len` bits from bit `offset` on are
-/// read from back to front: those of a partial last byte, else as [`first_look`] at a whole byte.
-/// The caller must prove that `len` isn't 0 and that `offset + len` fits in a `usize`.
+/// read from back to front: those of a partial last byte, or if there is none, the number that
+/// [`first_look`] returns at a byte boundary. The caller must prove that `len` isn't 0 and that
+/// `offset + len` fits in a `usize`.
 pub fn last_look(offset: usize, len: usize) -> usize
     requires some { 0 < len }
     requires fits { offset + len < 2 ^ 64 }
@@ -60,7 +61,7 @@ pub fn last_look(offset: usize, len: usize) -> usize
     }
 }
 
-/// Returns the number of bits that one look at a whole byte reads, of `len` bits.
+/// Returns the number of bits that one look from a byte boundary on reads, of `len` bits.
 fn whole_look(len: usize) -> usize
     ensures { IsWholeLook len result }
 {

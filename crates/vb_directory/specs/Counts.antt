@@ -8,8 +8,8 @@ use Rattle.vb_rank.specs.declared.size.TheConstants.{BLOCK_BITS}
 use Rattle.vb_directory.specs.declared.size.TheConstants.{GROUP_BLOCKS, GROUP_BITS}
 use Rattle.vb_directory.specs.declared.size.TheConstants.{GROUP_NUMBERS, BEFORE_DIGITS}
 
--- the number of numbers of the counts of n bits: one for each block of 512 bits, and three more for
--- each group
+-- the length of the list for n bits: one number for each block of 512 bits, and three more for each
+-- group
 abbrev pub numbers_for : ℕ → ℕ
 numbers_for n = div_ceil n BLOCK_BITS + (BEFORE_DIGITS - 1) * div_ceil n GROUP_BITS
 

@@ -19,8 +19,7 @@ use vb_rank::{BLOCK_BITS, find_block, rank_from, select_from};
 /// from bit `offset` on. `i` must be above 0, and the counts must be those of the window.
 ///
 /// Makes at most 16 looks at bits. Makes no probe if the window is a single block, which has no
-/// bits before it; else one or two, as `ones_before` does for the block of the last of the `i`
-/// bits.
+/// bits before it; else one or two, those of `ones_before` for the block of bit `i - 1`.
 pub(crate) fn rank_in_groups<G: Glance, S: ProbeGroups>(
     src: &mut G,
     offset: usize,

@@ -1,4 +1,4 @@
-//! Counts by groups whose contracts count the reads, and the levels that a search reads.
+//! Counts by groups, whose every read is counted by contracts, and the levels that a search reads.
 ghost use Rattle.std.specs.Prelude.{◌≡◌, ℕ, List, ◌+◌, ◌-◌, ◌*◌, ◌<◌, ◌≤◌, length, slice_index};
 ghost use Rattle.vb_directory.specs.Counts.{count_before_group, count_in_group};
 ghost use Rattle.vb_directory.specs.Counts.{counts_before, counts_within};

@@ -36,8 +36,8 @@ impl<A: Allocator> Counts<A> {
 
     /// Returns the index of the `n`-th bit that is `value`, counted from 0; `None` if at most `n`
     /// bits are. These counts must be those of `bits`. Searches the groups for its block, and then
-    /// the block: reads at most one count for each binary digit of the number of blocks plus 1, and
-    /// the bits of one block. Does not allocate.
+    /// the block: reads at most one count for each binary digit of `blocks + 1`, where `blocks` is
+    /// the number of blocks, and the bits of one block. Does not allocate.
     #[inline(always)]
     pub fn select(&self, bits: BitBufferView<'_>, n: usize, value: bool) -> Option<usize>
         requires { AreCounts (bits_of bits) self.now.numbers }
@@ -75,7 +75,7 @@ impl<A: Allocator> Counts<A> {
 }
 
 /// Writes the first results of [`Counts::select_many`], eight at a time, and returns their number:
-/// 0 if there is only one group, else all but the last ones, fewer than eight.
+/// 0 if there is only one group, else the number of ranks, rounded down to a multiple of eight.
 #[inline(always)]
 fn select_eights<A: Allocator>(
     bits: BitBufferView<'_>,

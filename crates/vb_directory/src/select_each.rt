@@ -15,8 +15,8 @@ use crate::size::{GROUP_BITS, GROUP_BLOCKS};
 use vb_count::Glance;
 use vb_rank::{BLOCK_BITS, LANES, find_blocks, select_each_from};
 
-/// Does `select_in_groups` for eight selects, with at most 136 looks and eight times as many
-/// probes.
+/// Does `select_in_groups` for eight selects: makes at most 136 looks, and at most eight times the
+/// probes of one select.
 pub(crate) fn select_each_in_groups<G: Glance, S: ProbeGroups>(
     src: &mut G,
     offset: usize,

@@ -58,8 +58,8 @@ fn ranks(rt: &impl Abort, alloc: Global, bits: BitBufferView<'_>, i: usize) {
     drop(counts);
 }
 
-/// Tests that selects are right, and that they make at most one probe for each binary digit of the
-/// number of blocks plus one.
+/// Tests that selects are right, and that they make at most one probe for each binary digit of
+/// `blocks + 1`, where `blocks` is the number of blocks.
 fn selects(rt: &impl Abort, alloc: Global, bits: BitBufferView<'_>, n: usize) {
     holds(rt, 0 < bits.len());
     let counts = Counts::of(alloc, bits, bits.len()).expect(rt, "counts");

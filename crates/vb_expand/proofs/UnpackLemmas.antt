@@ -19,7 +19,7 @@ use Rattle.vb_bits.proofs.BitsLemmas.{bits-add, length-bits}
 use Rattle.vb_bits.proofs.DigitsLemmas.{digits-add, digits_part, length-digits}
 use Rattle.vb_bits.proofs.ShiftLemmas.{digits_shr}
 
--- the lane for one digit of a byte: the smaller one of 1 and the digit's value in the byte
+-- the lane for one digit of a byte y, where p is 2 to its position: 1 if the digit is 1, else 0
 abbrev pub lane : ℕ → ℕ → ℕ
 lane y p = cond (top 7 (cond (nat_lt (bit_and y p) 1) 255 0)) (bit_and y p) 1
 

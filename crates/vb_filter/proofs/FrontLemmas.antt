@@ -46,11 +46,11 @@ module _ {T : Type 0} {mask : List Bool} {values old mid : List T} {t len : ℕ}
       ones : count (slice_range mask (64 * t) (64 * t + n)) ≡ count_ones keep
       ones = ones-of mask keep (64 * t) n clear of_mask
 
-      -- its values fit where those of the mask do
+      -- with its values, no more are in front than the mask selects
       pub front_room : len + count_ones keep ≤ count mask
       front_room = omega (arith, so_far.number, ones, word.room)
 
-      -- their number fits where the length of the mask does
+      -- so their number is at most the length of the mask
       pub front_fits : len + count_ones keep ≤ all
       front_fits = omega (arith, front_room, count-le mask, len_is)
 

@@ -129,13 +129,13 @@ first_bits-past_word b c p w len n clear past few write =
     ∙ ap (λ l. front ++ (digits p 0 s ++ l)) (sym cut)
     ∙ sym (append_assoc front (digits p 0 s) (digits w 0 n))
 
--- the rest of a word has no other ones
+-- the rest of a word of n bits has no ones after those bits
 pub rest-lt : (w s n : ℕ) → w < 2 ^ n → s < 64 → 64 ≤ s + n → w / 2 ^ (64 - s) < 2 ^ (s + n - 64)
 rest-lt w s n small inside past =
     let all : n ≡ s + n - 64 + (64 - s) = omega arith in
     shr_lt (s + n - 64) (64 - s) (subst (λ k. w < 2 ^ k) all small)
 
--- bytes may be overwritten up to bit n
+-- if the bits from bit n on are the same, only the first n bits were written
 pub Writes_up_to : (b c : List ℕ) (n : ℕ) → length c ≡ length b
     → ((i : ℕ) → n ≤ i → bit_of c i ≡ bit_of b i) → Writes b c 0 (bits c 0 n)
 Writes_up_to b c n same behind = record {

@@ -71,7 +71,7 @@ puts_block xs len start n keep before inside clear full =
           ∙ ap (λ k. drop k xs) (sym end);
     })
 
--- n values that are where they go
+-- n values that are at their new indices already
 pub puts_same : {T : Type 0} (xs : List T) (len start n keep : ℕ) → len ≡ start
     → start + n ≤ length xs → keep < 2 ^ n → count_ones keep ≡ n
     → PutsAt len (kept_by (digits keep 0 n) (slice_range xs start (start + n))) xs xs
@@ -115,7 +115,7 @@ module _ {T : Type 0} {mask : List Bool} {old mid : List T} {t len : ℕ}
     length-take (64 * t) mask,
   )
 
-  -- so no value is written in front of where it was
+  -- so no value is written behind where it was
   pub front_behind : len ≤ 64 * t
   front_behind = omega (
     arith,

@@ -34,7 +34,7 @@ static KEPT_BYTES: [[u8; 16]; 16] = [
     [0, 1, 2, 3, 4, 5, 6, 7, 8, 9, 10, 11, 12, 13, 14, 15],
 ];
 
-/// The most selected elements of 64 for which one by one is faster than four at once.
+/// Up to this number of selected elements of 64, one by one is faster than four at once.
 const SINGLE_ELEMENTS: usize = 16;
 
 /// Writes the elements whose bit of the mask is true, in order, to the front of `out`, and returns

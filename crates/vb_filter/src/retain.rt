@@ -35,8 +35,8 @@ pub fn retain_values<T: Copy>(values: &mut [T], mask: BitBufferView<'_>) -> usiz
     len + move_word(values, len, 64 * whole, n, keep)
 }
 
-/// Moves values behind the first `len` ones, and returns their number: of the `n` values from index
-/// `start` on, it moves value `start + k` if bit `k` of `keep` is 1.
+/// Moves values behind the first `len` values, and returns the number of moved ones: of the `n`
+/// values from index `start` on, it moves value `start + k` if bit `k` of `keep` is 1.
 #[inline(always)]
 fn move_word<T: Copy>(values: &mut [T], len: usize, start: usize, n: usize, keep: u64) -> usize
     requires few { n ≤ 64 }

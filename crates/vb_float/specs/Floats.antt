@@ -6,7 +6,7 @@ use Rattle.vb_compare.specs.declared.comparison.Comparison.TheVariants.{Equal, N
 use Rattle.vb_compare.specs.declared.comparison.Comparison.TheVariants.{LessOrEqual, Greater}
 use Rattle.vb_compare.specs.declared.comparison.Comparison.TheVariants.{GreaterOrEqual}
 
--- whether a compares with b by a comparison, as IEEE 754 defines it: with a NaN only NotEqual is
+-- whether a comparison of a with b is true, as IEEE 754 defines it: with a NaN only NotEqual is
 -- true
 abbrev pub compares_floats : Comparison → Float → Float → Bool
 compares_floats Equal a b = eq a b

@@ -15,7 +15,7 @@ pub trait Filter: Sized {
     // the number of values
     ghost len: { Self → ℕ };
 
-    // the third value has the values of the first that the mask, the second, selects
+    // the third argument has those values of the first that the second, a mask, selects
     ghost keeps: { Self → List Bool → Self → Type 0 };
 
     /// Returns a copy of the values whose bit in the mask is true, in order. A buffer has the

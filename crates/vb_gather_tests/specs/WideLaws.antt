@@ -1,4 +1,4 @@
--- A value of 128 KiB as an element. The laws of `Element` cite these lemmas, and so they stand in
+-- A value of 128 KiB as an element. The laws of `Element` cite these lemmas, and so they are in
 -- specs.
 use Rattle.std.proofs.Common.{◌≡◌, ℕ, List, length, refl, lit<}
 use Rattle.std.specs.Prelude.{replicate}
@@ -13,7 +13,7 @@ wide_of bytes = record { bytes = bytes }
 abbrev pub wide_bytes : Wide → List ℕ
 wide_bytes x = x.bytes
 
--- they are so many, and bytes
+-- there are 131,072 of them, each below 256
 abbrev pub IsWide : Wide → Type 0
 IsWide x = (length x.bytes ≡ 131072) × AreBytes x.bytes
 
@@ -21,7 +21,7 @@ IsWide x = (length x.bytes ≡ 131072) × AreBytes x.bytes
 abbrev pub wide_zero : Wide
 wide_zero = record { bytes = replicate 131072 0 }
 
--- bytes stand for themselves
+-- the bytes of a value represent it
 pub wide_laws : IsElement 131072 1 0 IsWide wide_bytes wide_of
 wide_laws = record {
   size_is_positive = lit< tt;

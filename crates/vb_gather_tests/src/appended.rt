@@ -1,4 +1,4 @@
-//! Sets added to sets: worked rows, growth, and what stands after a refusal.
+//! Sets added to sets: worked rows, growth, and what a refusal leaves.
 use crate::compared::{REFUSED, answers, equal, holds};
 use crate::made::bits;
 use std::alloc::Allocator;
@@ -35,7 +35,7 @@ fn stale_bits_are_written_over(rt: HostRuntime) {
     }
 }
 
-/// A set from bit 11 on that false bits fill up to its capacity. All bits of its bytes are false.
+/// A set at offset 11, filled with false bits up to its capacity. All bits of its bytes are false.
 fn full_of_false<A: Allocator + Clone>(rt: &impl Abort, alloc: A) -> Result<BitBufferMut<A>> {
     let bytes = ByteBufferMut::full(alloc, 0, 3)?;
     holds(rt, bytes.len() == 3);
@@ -45,8 +45,8 @@ fn full_of_false<A: Allocator + Clone>(rt: &impl Abort, alloc: A) -> Result<BitB
     Ok(set)
 }
 
-/// Adds a set of a hundred true bits to one whose room is full of false ones. A refusal leaves the
-/// set, its bytes and its room.
+/// Adds a set of a hundred true bits to one that is full of false ones. A refusal leaves the set,
+/// its bytes and its capacity.
 fn add<A: Allocator + Clone>(
     rt: &impl Abort,
     set: &mut BitBufferMut<A>,
@@ -110,8 +110,8 @@ fn append_again<A: Allocator + Clone>(rt: &impl Abort, alloc: A, added: &BitBuff
     drop(set);
 }
 
-/// A body that gives up once the set has grown to some length fails here, and so does one that asks
-/// for room at each call, or for more and more of it.
+/// A body that gives up once the set has grown to some length fails here, and so does one that
+/// allocates at each call, or allocates more and more.
 #[test]
 fn appends_go_on_while_there_is_memory(rt: HostRuntime) {
     let heap = &Refusing::new(rt.alloc(), 0);

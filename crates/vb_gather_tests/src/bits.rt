@@ -7,7 +7,7 @@ use vb_bit_buffer::BitBuffer;
 use vb_core::{BufferError, Result};
 use vb_testing::{Handle, Refusing};
 
-/// As many bits as a row's mask has, from bit 2 of their bytes on. Every third bit of the bytes is
+/// One bit per bit of a row's mask, from bit 2 of their bytes on. Every third bit of the bytes is
 /// true.
 pub(crate) fn bits(row: &Row) -> Row {
     Row(row.0, 2, Kept::OneIn(3))

@@ -1,4 +1,4 @@
-//! Values at indices by blocks of 64 positions, beside a plain loop.
+//! Values taken at indices in blocks of 64 positions, compared with a plain loop.
 use crate::compared::{equal, equal_lists};
 use crate::masks::{Kept, Row, mask};
 use std::alloc::Global;
@@ -11,7 +11,7 @@ use vb_view::BitBufferView;
 /// How many positions there are: blocks alone, one fewer and one more.
 const LENGTHS: &[usize] = &[0, 1, 63, 64, 65, 128];
 
-/// Which positions count: all, none, and of each 64 positions 20, the threshold, or more.
+/// Which positions count: all, none, or 20 (the threshold) or more of each 64 positions.
 const COUNTING: &[Kept] = &[
     Kept::OneIn(1),
     Kept::OneIn(5000),
@@ -83,7 +83,7 @@ fn leaves_what_a_loop_leaves<T: Element + PartialEq + Debug, I: BitIndex>(
     drop((out, wanted));
 }
 
-/// So many indices: the five in turn, but at position `at` one that names no value.
+/// `len` indices: the five in turn, except that the one at position `at` names no value.
 fn indices<I: BitIndex>(
     rt: &impl Abort,
     alloc: Global,
@@ -101,8 +101,8 @@ fn indices<I: BitIndex>(
     indices
 }
 
-/// Takes at these positions. Each position in turn has an index that names no value, and at last
-/// none has one.
+/// Takes at the positions of a row: once for each position whose index names no value, and once
+/// with no such index.
 fn is_that_of_a_loop<T: Element + PartialEq + Debug, I: BitIndex>(
     rt: &impl Abort,
     alloc: Global,
@@ -122,7 +122,7 @@ fn is_that_of_a_loop<T: Element + PartialEq + Debug, I: BitIndex>(
     drop(mask);
 }
 
-/// The same where there is no validity, at so many positions.
+/// The same without a validity, at `len` positions.
 fn is_that_of_a_loop_over_all<T: Element + PartialEq + Debug, I: BitIndex>(
     rt: &impl Abort,
     alloc: Global,

@@ -14,7 +14,7 @@ use vb_view::BitBufferView;
 #[derive(Clone, Copy)]
 enum Call {
     Filtered,
-    /// The items at the numbers from 0 on, as many as the set has bits.
+    /// The items at the indices from 0 on, one per bit of the set.
     Taken,
     /// The same where the set is true, and 0 elsewhere.
     TakenWhereValid,
@@ -42,18 +42,18 @@ impl Call {
 type Row = (Call, Bits, usize);
 
 const ROWS: &[Row] = &[
-    // A body that makes room for all items, and cuts it, fails here.
+    // A body that allocates for all items, and shrinks that, fails here.
     (Call::Filtered, Bits(100_000, 1000), 100),
     (Call::Filtered, Bits(100_000, 1), 100_000),
-    // A body that makes room for all items fails here.
+    // A body that allocates for all items fails here.
     (Call::Taken, Bits(100, 1), 100),
     (Call::Taken, Bits(0, 1), 0),
-    // A body that makes room for the valid ones alone, or for all items, fails here.
+    // A body that allocates for only the valid ones, or for all items, fails here.
     (Call::TakenWhereValid, Bits(100, 50), 100),
     (Call::TakenWhereValid, Bits(0, 1), 0),
 ];
 
-/// A call asks for the bytes of the items that it makes, and for the count of their owners.
+/// A call allocates the bytes of the items that it makes, and the count of their owners.
 fn asks_for_what_it_makes(rt: &impl Abort, heap: &Refusing<Global>, alloc: Global, row: &Row) {
     let items = numbers(heap, 100_000).expect(rt, "memory");
     let given = row.1.set(alloc).expect(rt, "memory");
@@ -74,7 +74,7 @@ fn buffers_take_the_bytes_of_their_items(rt: HostRuntime) {
     }
 }
 
-/// None of the items is kept: there are no bytes to ask for.
+/// No item is kept: no bytes are allocated.
 #[test]
 fn no_items_take_no_bytes(rt: HostRuntime) {
     let heap = Refusing::new(rt.alloc(), 0);
@@ -87,7 +87,7 @@ fn no_items_take_no_bytes(rt: HostRuntime) {
     drop((items, none, made));
 }
 
-/// A bad index is refused after the bytes were asked for, and before their owner.
+/// A bad index is an error after the bytes are allocated, and before their owner is.
 #[test]
 fn memory_comes_before_indices(rt: HostRuntime) {
     let heap = Refusing::new(rt.alloc(), 0);

@@ -9,7 +9,7 @@ use vb_core::{BufferError, Element, Result};
 use vb_mem::Buffer;
 use vb_testing::Refusing;
 
-/// What a call answers that is refused memory.
+/// What a call returns when memory runs out.
 pub(crate) const REFUSED: Result<()> = Err(BufferError::OutOfMemory);
 
 /// The condition holds.
@@ -50,7 +50,7 @@ pub(crate) fn shows_set<A: Allocator + Clone>(rt: &impl Abort, set: &BitBuffer<A
     }
 }
 
-/// The call made a set of these bits, or was refused so.
+/// The call made a set of these bits, or failed with this error.
 pub(crate) fn answers<A: Allocator + Clone>(
     rt: &impl Abort,
     made: Result<BitBuffer<A>>,
@@ -69,8 +69,8 @@ pub(crate) fn answers<A: Allocator + Clone>(
 /// More bytes than the block that counts owners takes.
 const OWNER: usize = 256;
 
-/// The heap was asked for this number of blocks of `bytes` bytes each, and for an owner of each.
-/// Blocks of no bytes aren't requested.
+/// This number of blocks of `bytes` bytes each was requested, and an owner of each. Blocks of no
+/// bytes aren't requested.
 pub(crate) fn asked_for(rt: &impl Abort, heap: &Refusing<Global>, blocks: u64, bytes: usize) {
     let owners = blocks;
     let requests = if bytes > 0 {

@@ -16,7 +16,7 @@ const VALUES: &[i32] = &[i32::MIN, -3, 0, 7, 7, i32::MAX];
 /// What they are compared with, one by one.
 const OTHERS: &[i32] = &[0, -3, 7, -7, 7, i32::MIN];
 
-/// A comparison, and what it answers of the values and -3, and of the values and the others.
+/// A comparison, its result for the values and -3, and that for the values and the others.
 const ROWS: &[(Comparison, &str, &str)] = &[
     (Comparison::Equal, "010000", "010010"),
     (Comparison::NotEqual, "101111", "101101"),
@@ -44,7 +44,7 @@ fn shows(
     Ok(())
 }
 
-/// The comparison with -3, and with the others, of which those count that are valid.
+/// The comparisons with -3 and with the others, under a validity.
 fn where_valid(
     rt: &impl Abort,
     heap: Heap<'_>,
@@ -66,7 +66,7 @@ fn where_valid(
     second
 }
 
-/// The same of all.
+/// The same without a validity.
 fn of_all(rt: &impl Abort, heap: Heap<'_>, row: &(Comparison, &str, &str)) -> Result<()> {
     if OTHERS.len() != VALUES.len() {
         return Err(BufferError::NotAligned);

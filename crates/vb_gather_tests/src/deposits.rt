@@ -1,4 +1,4 @@
-//! Sets of bits that are put back where a mask is true.
+//! Sets of bits that are deposited where a mask is true.
 use crate::bits::{bits, kept_bits};
 use crate::compared::equal;
 use crate::masks::{ROWS, Row, mask};
@@ -9,7 +9,7 @@ use vb_core::{BufferError, Result};
 use vb_gather::Deposit;
 use vb_testing::{Handle, Refusing};
 
-/// By which of the two calls.
+/// Which of the two calls deposits the bits.
 #[derive(Clone, Copy)]
 enum Call {
     Deposited,
@@ -29,7 +29,7 @@ impl Call {
     }
 }
 
-/// What the mask of a row kept of its bits, put back.
+/// Filters the bits of a row by its mask, and deposits the result by that mask.
 fn put_back<A: Allocator + Clone>(alloc: A, row: &Row, call: Call) -> Result<BitBuffer<A>> {
     let values = kept_bits(alloc.clone()?, row)?;
     let mask = match mask(alloc, row) {
@@ -87,8 +87,8 @@ fn a_mask_of_kept_rows_becomes_one_of_all_or_is_refused(rt: HostRuntime) {
 /// A mask with four true bits.
 const PLACES: [bool; 6] = [true, false, true, true, false, true];
 
-/// Five bits are refused to a mask with four true ones, and no memory is asked; four make a set by
-/// one request for its bytes and one for its owners.
+/// Five bits for a mask of four true ones are an error, and nothing is allocated. Four bits make a
+/// set by one request for its bytes and one for its owners.
 fn ask_four_of_six(rt: &impl Abort, heap: &Refusing<Global>, call: Call, refused: BufferError) {
     let mask = BitBuffer::from_bools(heap, &PLACES).expect(rt, "memory");
     let five = BitBuffer::new_set(heap, 5).expect(rt, "memory");

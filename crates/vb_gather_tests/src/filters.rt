@@ -29,7 +29,7 @@ pub(crate) fn filtered<F: Filter + Drop, A: Allocator + Clone>(
     kept
 }
 
-/// What a mask keeps of values, by one request for it and one for its owners.
+/// The values that a mask keeps. The call makes one request for them, and one for their owners.
 pub(crate) fn filtered_by_two<F: Filter>(
     rt: &impl Abort,
     heap: &Refusing<Global>,

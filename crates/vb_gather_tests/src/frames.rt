@@ -1,5 +1,5 @@
-//! Calls on elements of 128 KiB: none of them keeps 64 elements on the stack. A stack of 8 MiB, as
-//! is usual, has no room for so many.
+//! Calls on elements of 128 KiB: none of them keeps 64 elements on the stack. A usual stack of 8
+//! MiB is too small for so many.
 use crate::compared::{equal, holds};
 use crate::wide::Wide;
 use std::alloc::{Allocator, Global};
@@ -14,7 +14,7 @@ use vb_take::take_values_into;
 /// How many elements there are: some behind two blocks of 64.
 const MANY: usize = 130;
 
-/// The byte of the element at a place.
+/// The byte of the element at an index.
 fn byte_at(place: usize) -> u8 {
     (place % 65) as u8
 }
@@ -39,7 +39,7 @@ fn elements(rt: &impl Abort, alloc: Global) -> Buffer<Wide, Global> {
     all.freeze().expect(rt, "memory")
 }
 
-/// The element at a place has this byte.
+/// The element at an index has this byte.
 fn has(rt: &impl Abort, items: &[Wide], place: usize, byte: u8) {
     let ends = match items.get(place) {
         Some(wide) => Some(wide.ends()),

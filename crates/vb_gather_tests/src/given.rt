@@ -9,7 +9,7 @@ use vb_core::Result;
 use vb_mem::Buffer;
 use vb_view::BitBufferView;
 
-/// So many bits, of which one in so many is true, from the first on.
+/// `Bits(len, n)`: `len` bits, every `n`-th of them true, beginning with the first.
 #[derive(Clone, Copy)]
 pub(crate) struct Bits(pub(crate) usize, pub(crate) usize);
 

@@ -1,4 +1,4 @@
-//! Truth values that may be null, combined beside the table of the nine pairs.
+//! Truth values that may be null: combinations compared with the table of the nine pairs.
 ghost use Rattle.std.specs.Prelude.{◌≡◌, ◌<◌, length, IsTrue};
 ghost use Rattle.std.specs.Option.{ForSome};
 ghost use Rattle.vb_view.specs.View.{bits_of};
@@ -22,7 +22,7 @@ const F: Truth = Some(false);
 
 const N: Truth = None;
 
-/// A connective, by the values on the left and on the right, which stand in the order of T, F, N.
+/// A connective, indexed by the left and the right value, each in the order T, F, N.
 pub(crate) type Table = [[Truth; 3]; 3];
 
 pub(crate) const AND: &Table = &[[T, F, N], [F, F, F], [N, F, N]];

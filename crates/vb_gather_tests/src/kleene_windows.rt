@@ -1,5 +1,5 @@
-//! Three-valued logic into windows, beside the table of the nine pairs: at every place of the
-//! windows in their bytes, and at lengths that differ.
+//! Three-valued logic into windows, compared with the table of the nine pairs: at every offset of
+//! the windows in their bytes, and at lengths that differ.
 ghost use Rattle.std.specs.Prelude.{◌≡◌, length};
 ghost use Rattle.std.specs.Option.{ForSome};
 ghost use Rattle.vb_view.specs.View.{bits_of};
@@ -88,7 +88,7 @@ fn validity<'a>(
     }
 }
 
-/// The table's answers, one after the other.
+/// The results of the table, one after the other.
 fn combine_by_rows(trues: &mut [u8], valid: &mut [u8], bytes: &[u8], table: &Table, at: Windows) {
     for place in 0..at.len {
         let row = combined(
@@ -101,7 +101,7 @@ fn combine_by_rows(trues: &mut [u8], valid: &mut [u8], bytes: &[u8], table: &Tab
     }
 }
 
-/// What both write, in all bytes.
+/// The call and the table leave the same in all bytes.
 fn combines_as_the_table(rt: &impl Abort, alloc: Global, bytes: &[u8], and: bool, at: Windows) {
     let mut trues = copied(rt, alloc, bytes);
     let mut valid = copied(rt, alloc, bytes);

@@ -41,8 +41,8 @@ const LENS: &[Lens] = &[
 ];
 
 impl Lens {
-    /// What a call is refused by, if it is. A comparison has one validity, the first, and with a
-    /// number no right values.
+    /// The error of a call, if it fails. A comparison has one validity, the first; one with a
+    /// number has no right values.
     fn refusal(&self, call: Call) -> Option<BufferError> {
         let Lens(left, right, first, second) = *self;
         let others = match call {
@@ -61,7 +61,7 @@ impl Lens {
     }
 }
 
-/// So many bits, all true but one in so many, the first of them.
+/// `len` bits, of which every `one_in`-th is false, beginning with the first.
 fn set(rt: &impl Abort, alloc: Global, len: usize, one_in: usize) -> BitBuffer {
     BitBuffer::from_iter(alloc, (0..len).map(|place| is_true(place, one_in))).expect(rt, "memory")
 }
@@ -85,7 +85,7 @@ const VALUES: [i32; LONGEST] = [3; LONGEST];
 
 const OTHERS: [i32; LONGEST] = [4; LONGEST];
 
-/// What a call answers at a place: whether it is true there, and valid.
+/// The result of a call at an index: whether it is true, and whether it is valid.
 fn wanted(call: Call, lens: &Lens, place: usize) -> (bool, bool) {
     let left = truth(place, 3, lens.2, 5);
     let right = truth(place, 2, lens.3, 7);

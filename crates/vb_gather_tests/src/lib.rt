@@ -1,8 +1,8 @@
-//! Tests of values and bits filtered by masks and of bits deposited by them, beside a plain loop at
-//! each kind of mask and at lengths that differ; of values and bits taken at indices, of sets made
-//! of places and of sets added to sets, of comparisons, and of three-valued logic; with each
-//! request for memory refused, and with what calls ask of the allocator, in requests and in bytes.
-//! And of elements so large that a stack has no room for 64 of them.
+//! Tests of values and bits filtered by masks and of bits deposited by them, compared with a plain
+//! loop for each kind of mask and for lengths that differ; of values and bits taken at indices, of
+//! sets made from indices and of sets added to sets, of comparisons, and of three-valued logic;
+//! with each request for memory refused, and with the number of requests and their bytes. Also
+//! tests of elements so large that 64 of them don't fit on a stack.
 #![tactic(auto)]
 
 #[cfg(test)]

@@ -19,7 +19,7 @@ enum Call {
 }
 
 impl Call {
-    /// By the values, which are indices too: by those that are valid, where there is a validity.
+    /// Uses the values as values or as indices; if there is a validity, only the valid ones.
     fn make<A: Allocator + Clone>(
         self,
         alloc: A,
@@ -41,11 +41,11 @@ impl Call {
     }
 }
 
-/// Bodies with room for all bits that they take from, or that take twice the bytes, fail here.
+/// Bodies that allocate for all bits that they take from, or twice the bytes, fail here.
 const CALLS: &[Call] = &[Call::TakeBits, Call::Compared, Call::ComparedWith];
 
-/// A call asks for the bytes of the bits that it makes, and for the count of their owners: with a
-/// validity as without one.
+/// A call allocates the bytes of the bits that it makes, and the count of their owners, with and
+/// without a validity.
 fn asks_for_what_it_makes(rt: &impl Abort, alloc: Global, call: Call, len: u32) {
     let heap = Refusing::new(alloc, 0);
     let bits = Bits(100_000, 3).set(alloc).expect(rt, "memory");

@@ -9,7 +9,7 @@ use vb_core::Result;
 pub(crate) struct Row(pub(crate) usize, pub(crate) usize, pub(crate) Kept);
 
 impl Row {
-    /// Whether the bit at a place of the mask is true.
+    /// Whether the bit at an index of the mask is true.
     pub(crate) fn has(&self, place: usize) -> bool {
         self.2.has(self.1.saturating_add(place))
     }

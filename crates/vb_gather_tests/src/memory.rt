@@ -29,7 +29,7 @@ impl Call {
     }
 }
 
-/// Takes at these indices from four bits, which may also say which positions count.
+/// Takes at these indices from four bits. If `is_valid`, the bits are the validity too.
 fn take<A: Allocator + Clone>(alloc: A, indices: &[u8], is_valid: bool) -> Result<BitBuffer<A>> {
     let set = BitBuffer::from_indices(alloc.clone()?, 4, [1, 3])?;
     let bits = set.as_view();

@@ -28,7 +28,7 @@ enum Call {
 const INDICES: [u8; 3] = [0, 9, 200];
 
 impl Call {
-    /// What is refused: nine true bits or items beside eight true bits, and at the indices.
+    /// The error of the call with nine true bits or items and eight true bits, or at the indices.
     fn refusal<A: Allocator + Clone>(
         self,
         bits: &BitBuffer<A>,
@@ -63,8 +63,8 @@ const LENGTHS: BufferError = BufferError::LengthMismatch { left: 9, right: 8 };
 
 const SECOND: BufferError = BufferError::TakeOutOfRange { position: 1 };
 
-/// The calls, what each is refused for with ample memory, and how many requests come before: for
-/// an index a copy of the allocator and the bytes, and not those of the owner.
+/// The calls, the error of each with ample memory, and the number of requests before it. Before an
+/// index they are a copy of the allocator and the bytes, but not the owner.
 const ROWS: &[(Call, BufferError, u64)] = &[
     (Call::FilterBits, LENGTHS, 0),
     (Call::FilterItems, LENGTHS, 0),

@@ -1,10 +1,10 @@
-//! Sets made of places: worked rows, and how far the iterator is asked.
+//! Sets made from indices: worked rows, and how far the iterator is polled.
 use crate::compared::{answers, equal};
 use std::alloc::Allocator;
 use vb_set::{BitBuffer, BitBufferMut, BufferError, Result};
 use vb_testing::{Handle, Refusing};
 
-/// A length, places below it or not, and the bits or the refusal.
+/// A length, indices below it or not, and the bits or the refusal.
 const PLACES: &[(usize, &[usize], Result<&str>)] = &[
     (4, &[1, 1, 3], Ok("0101")),
     (0, &[], Ok("")),
@@ -20,7 +20,7 @@ const PLACES: &[(usize, &[usize], Result<&str>)] = &[
     ),
 ];
 
-/// A set to be shared, made directly or by way of one to edit.
+/// A set to be shared, made directly or from a set to edit.
 fn made<A: Allocator + Clone>(
     alloc: A,
     is_shared: bool,
@@ -42,7 +42,7 @@ fn places_make_sets_or_are_refused(rt: HostRuntime) {
     }
 }
 
-/// The error of a call that gets the numbers 2, 3, 4 and 5 as places below 4, and the next number
+/// The error of a call that gets the indices 2, 3, 4 and 5 for a length of 4, and the next index
 /// that the iterator has left.
 fn number_left<A: Allocator + Clone>(
     alloc: A,

@@ -34,7 +34,7 @@ const AT_0: Result<&str> = Err(BufferError::TakeOutOfRange { position: 0 });
 
 const AT_2: Result<&str> = Err(BufferError::TakeOutOfRange { position: 2 });
 
-/// The bits that are taken from, the indices, and the answer.
+/// The bits that are taken from, the indices, and the result.
 const TAKEN: &[(&str, Indices, Result<&str>)] = &[
     ("1111", Indices::U8(&[9]), AT_0),
     ("0101", Indices::I64(&[3, 0, -1]), AT_2),
@@ -69,7 +69,7 @@ fn null_positions_become_false(rt: HostRuntime) {
     }
 }
 
-/// Indices that name no place of 40,000 bits, all true.
+/// Indices out of range for 40,000 true bits.
 const PAST: &[Indices] = &[
     Indices::I16(&[-1]),
     Indices::I64(&[i64::MIN]),

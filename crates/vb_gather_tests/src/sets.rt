@@ -15,7 +15,7 @@ enum Call {
     Filtered,
     Deposited,
     IntersectByRank,
-    /// The bits at the numbers from 0 on, as many as the other set has bits.
+    /// The bits at the indices from 0 on, one per bit of the other set.
     Taken,
     /// The same where the other set is true, and false elsewhere.
     TakenWhereValid,
@@ -45,7 +45,7 @@ impl Call {
 type Row = (Call, Bits, Bits, usize);
 
 const ROWS: &[Row] = &[
-    // A body that makes room for all bits, and cuts it, fails here.
+    // A body that allocates for all bits, and shrinks that, fails here.
     (Call::Filtered, Bits(100_000, 3), Bits(100_000, 1000), 100),
     // A body that takes a byte for a bit fails here.
     (Call::Filtered, Bits(100_000, 3), Bits(100_000, 10), 10_000),
@@ -63,17 +63,17 @@ const ROWS: &[Row] = &[
     ),
     (Call::IntersectByRank, Bits(8000, 1), Bits(8000, 3), 8000),
     (Call::IntersectByRank, Bits(0, 1), Bits(0, 1), 0),
-    // Bodies with room for all bits, or for a byte of each bit that is taken, fail here.
+    // Bodies that allocate for all bits, or a byte for each taken bit, fail here.
     (Call::Taken, Bits(100_000, 3), Bits(8, 1), 8),
     (Call::Taken, Bits(100_000, 3), Bits(8000, 1), 8000),
     (Call::Taken, Bits(100_000, 3), Bits(0, 1), 0),
-    // Bodies that copy the validity, or ask once more, fail here.
+    // Bodies that copy the validity, or allocate once more, fail here.
     (Call::TakenWhereValid, Bits(100_000, 3), Bits(8, 2), 8),
     (Call::TakenWhereValid, Bits(100_000, 3), Bits(8000, 2), 8000),
     (Call::TakenWhereValid, Bits(100_000, 3), Bits(0, 1), 0),
 ];
 
-/// A call asks for the bytes of the bits that it makes, and for the count of their owners.
+/// A call allocates the bytes of the bits that it makes, and the count of their owners.
 fn asks_for_what_it_makes(rt: &impl Abort, heap: &Refusing<Global>, alloc: Global, row: &Row) {
     let set = row.1.set(heap).expect(rt, "memory");
     let other = row.2.set(alloc).expect(rt, "memory");
@@ -94,7 +94,7 @@ fn sets_take_the_bytes_of_their_bits(rt: HostRuntime) {
     }
 }
 
-/// A bad index is refused after the bytes were asked for, and before their owner.
+/// A bad index is an error after the bytes are allocated, and before their owner is.
 #[test]
 fn memory_comes_before_indices(rt: HostRuntime) {
     let heap = Refusing::new(rt.alloc(), 0);

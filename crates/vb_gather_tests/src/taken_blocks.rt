@@ -19,7 +19,7 @@ fn scattered<A: Allocator + Clone>(rt: &impl Abort, alloc: A, len: usize) -> Bit
     set.freeze().expect(rt, "memory")
 }
 
-/// The bit at a place; false where there is none.
+/// The bit at an index; false if there is no index.
 fn bit_at(bits: BitBufferView<'_>, place: Option<usize>) -> bool {
     match place {
         Some(place) => place < bits.len() && bits.value(place),
@@ -35,8 +35,8 @@ fn counts(validity: Option<BitBufferView<'_>>, position: usize) -> bool {
     }
 }
 
-/// Takes at the indices, and compares each bit with that of the set; or each null position with
-/// false.
+/// Takes at the indices, and compares each result with the bit at its index, or with false at a
+/// null position.
 fn beside_a_loop<I: BitIndex>(
     rt: &impl Abort,
     alloc: Global,
@@ -82,7 +82,7 @@ fn blocks_take_what_a_loop_takes(rt: HostRuntime) {
     }
 }
 
-/// Null positions whose indices name no place.
+/// Null positions whose indices are out of range.
 #[test]
 fn null_positions_are_not_looked_at(rt: HostRuntime) {
     let set = scattered(&rt, rt.alloc(), 300);

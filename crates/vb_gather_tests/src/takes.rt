@@ -41,7 +41,7 @@ fn squares<A: Allocator + Clone, I: BitIndex>(
     taken
 }
 
-/// The squares of 4, 0 and 4 are taken by these indices of a type.
+/// Takes the squares of 4, 0 and 4 by these indices.
 fn takes<I: BitIndex>(rt: &impl Abort, alloc: Global, indices: &[I]) {
     let values = Buffer::copy_from(alloc, SQUARES).expect(rt, "memory");
     let taken = values.taken(indices, None);
@@ -133,7 +133,7 @@ fn blocks_take_what_a_loop_takes(rt: HostRuntime) {
     }
 }
 
-/// The loop over all positions: what it leaves in `out`, and the position that it refuses.
+/// A loop over all positions: writes `out`, and returns the first valid position with a bad index.
 fn loop_takes(out: &mut [u32], indices: &[u64], row: &Row) -> Option<usize> {
     for k in 0..indices.len().min(out.len()) {
         let named = SQUARES.get(indices[k] as usize).copied();

@@ -10,13 +10,13 @@ use vb_mem::Buffer;
 use vb_testing::{Handle, Refusing};
 use vb_view::BitBufferView;
 
-/// Whether these are the places of a row that a plain loop keeps by its mask.
+/// Whether these are the indices that a plain loop keeps by the mask of a row.
 fn is_plain(given: &[u32], row: &Row) -> bool {
     let places = (0..row.0).filter(|place| row.has(*place));
     given.iter().map(|value| *value as usize).eq(places)
 }
 
-/// As many numbers as a row's mask has bits, from 0 on.
+/// The numbers from 0 on, one per bit of a row's mask.
 fn numbers<A: Allocator + Clone>(alloc: A, row: &Row) -> Result<Buffer<u32, A>> {
     Buffer::from_trusted_len_iter(alloc, 0..u32::try_from(row.0).unwrap_or(0))
 }

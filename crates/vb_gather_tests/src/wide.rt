@@ -66,7 +66,7 @@ impl Element for Wide {
     }
 }
 
-/// Always true. A proof knows of a slice's bytes, and not of an array's, that they are below 256.
+/// Always true. Proofs know that the bytes of a slice are below 256, but not those of an array.
 fn are_bytes(bytes: &[u8]) -> bool
     ensures holds { IsTrue result }
     ensures all { AreBytes bytes.now }

@@ -1,5 +1,5 @@
-//! Bits deposited by windows of masks, beside a plain loop: at every place of the three windows in
-//! their bytes.
+//! Bits deposited by windows of masks, compared with a plain loop: at every offset of the three
+//! windows in their bytes.
 use crate::compared::{equal_lists, holds};
 use crate::masks::Kept;
 use std::alloc::Global;
@@ -8,7 +8,7 @@ use vb_bits::window_fits;
 use vb_filter::deposit_into;
 use vb_view::BitBufferView;
 
-/// Masks for each path that the code takes for a word of a mask.
+/// Masks that cover each path of the code for one word of a mask.
 const MASKS: &[Kept] = &[
     Kept::OneIn(1),
     Kept::OneIn(5000),
@@ -32,7 +32,7 @@ struct Windows {
     len: usize,
 }
 
-/// What is in the bytes of the three.
+/// The bytes of the three windows.
 #[derive(Drop)]
 struct Bytes {
     out: Vec<u8>,
@@ -52,7 +52,7 @@ impl Bytes {
     }
 }
 
-/// So many bytes, whose bits are true where they are kept.
+/// `count` bytes; a bit is true if `kept` has its index.
 pub(crate) fn bytes_of(rt: &impl Abort, alloc: Global, count: usize, kept: Kept) -> Vec<u8> {
     let mut made = Vec::new(alloc);
     for at in 0..count {

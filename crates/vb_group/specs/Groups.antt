@@ -36,8 +36,8 @@ pub record AddsRows {C V T : Type 0} (number : C → ℤ) (plus : T → V → T)
   pub each : (g : ℕ) (d : T) → g < length old → slice_index_or new g d
       ≡ fold plus (slice_index_or old g d) (values_of number g rows)
 
--- the rows with the code of a group are added to the totals, and each total that gets a value was
--- in its type; `good` is whether each row has a group, and always true for additions that skip rows
+-- the rows with the code of a group are added to the totals; each old total that gets a value is in
+-- its type; `good` is whether each row has a group, and always true for additions that skip rows
 pub record TriesRows {C V T : Type 0} (number : C → ℤ) (plus : T → V → T) (is_total : T → Type 0)
     (skips : Bool) (old new : List T) (rows : List (C × V)) (good : Bool) : Type 0 where
   pub adds : AddsRows number plus old new rows

@@ -10,7 +10,7 @@ use vb_aggregate::{
 use vb_bits::window_fits;
 use vb_view::BitBufferView;
 
-/// A mask of as many bits as there are values, the first one at bit 3 of the bytes.
+/// A mask of `len` bits, the first one at bit 3 of the bytes.
 fn mask<'a>(rt: &impl Abort, bytes: &'a [u8], len: usize) -> BitBufferView<'a>
     ensures { length (bits_of result) ≡ len }
 {
@@ -18,7 +18,7 @@ fn mask<'a>(rt: &impl Abort, bytes: &'a [u8], len: usize) -> BitBufferView<'a>
     BitBufferView::new_with_offset(bytes, len, 3)
 }
 
-/// What each call answers of some values.
+/// What each call returns for some values.
 #[derive(Drop)]
 struct Row<T, S> {
     sum: S,
@@ -28,8 +28,7 @@ struct Row<T, S> {
     greatest: Option<T>,
 }
 
-/// The row is that of the values whose bit of the mask is true. The mask begins at bit 3 of the
-/// bytes.
+/// Asserts the row of the values that the mask selects. The mask begins at bit 3 of the bytes.
 fn answers<T: WideSummand<Total = S> + PartialEq + Drop, S: PartialEq + Drop>(
     rt: &impl Abort,
     values: &[T],

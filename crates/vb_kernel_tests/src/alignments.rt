@@ -15,7 +15,7 @@ fn an_alignment_is_its_exponent(rt: HostRuntime) {
     equal(&rt, Alignment::of::<u128>().as_usize(), 16);
 }
 
-/// Exponents, each with what two calls answer: the second one for input that isn't trusted.
+/// Exponents, each with the results of two calls, the second one for untrusted input.
 const EXPONENTS: &[(u8, Result<u8>, Result<u8>)] = &[
     (16, Ok(16), Ok(16)),
     (17, Ok(17), Err(BufferError::Untrusted { exponent: 17 })),

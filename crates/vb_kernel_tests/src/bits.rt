@@ -20,7 +20,7 @@ fn a_single_bit_is_set_unset_and_read(rt: HostRuntime) {
     equal(rt, bytes, [0, 0b1000_0000]);
 }
 
-/// Windows, and whether they lie in one byte.
+/// Windows, and whether they fit in a slice of one byte.
 const WINDOWS: [(usize, usize, bool); 8] = [
     (0, 8, true),
     (3, 5, true),

@@ -14,10 +14,10 @@ use vb_kernel::{
 /// Where two windows begin, and how long both are.
 pub(crate) type Windows = (usize, usize, usize);
 
-/// The operators whose true answers are counted.
+/// The operators whose ones are counted.
 const OPERATORS: [BitOp; 4] = [BitOp::And, BitOp::Or, BitOp::Xor, BitOp::AndNot];
 
-/// For how many bits of two windows each of these answers true.
+/// The number of ones that each of these gives for two windows.
 pub(crate) type Counts = [usize; 4];
 
 /// Updates the counts of two windows for one more bit of each.
@@ -39,7 +39,7 @@ pub(crate) fn plain_counts(left: &[u8], l: usize, right: &[u8], r: usize, len: u
     counts
 }
 
-/// The counts of two windows, as the calls over slices answer them.
+/// The counts of two windows by the calls over slices.
 pub(crate) fn slice_counts(left: &[u8], l: usize, right: &[u8], r: usize, len: usize) -> Counts
     requires left { InBytes left.now l len }
     requires right { InBytes right.now r len }
@@ -134,8 +134,8 @@ fn counts_of_long_windows_are_plain(rt: HostRuntime) {
     }
 }
 
-/// A window whose only true bit is bit 203, if it has that bit, beside one of true bits and one of
-/// false bits. So bit 203 alone decides.
+/// Compares a window, whose only true bit is bit 203 (if it has that bit), with one of true bits
+/// and with one of false bits. So bit 203 alone decides.
 #[test]
 fn windows_are_told_by_their_last_bit(rt: HostRuntime) {
     let (clear, full) = (&[0; 40], &[0xFF; 40]);
@@ -150,7 +150,7 @@ fn windows_are_told_by_their_last_bit(rt: HostRuntime) {
     }
 }
 
-/// Bits outside of the windows count in none.
+/// No count includes bits outside of the windows.
 #[test]
 fn bits_beside_two_windows_count_in_none(rt: HostRuntime) {
     let (left, right) = (&[0xFF, 0xF0], &[0x00, 0xFF]);

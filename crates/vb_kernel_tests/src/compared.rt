@@ -1,5 +1,5 @@
-//! Comparisons of what is given with what is wanted. Each is proved once here, whereas an
-//! `assert_eq!` is proved again, with all that it prints, wherever it stands.
+//! Comparisons of what is given with what is wanted. Each is proved once here, whereas each use of
+//! `assert_eq!` is proved again, with all that it prints.
 ghost use Rattle.std.specs.Iterator.{IsFinite};
 ghost use Rattle.std.specs.Prelude.{IsTrue};
 

@@ -1,4 +1,4 @@
-//! Bits unpacked to bytes, and values scattered by a mask, beside a plain loop.
+//! Bits unpacked to bytes, and values scattered by a mask, compared with a plain loop.
 use crate::compared::{equal_at, holds};
 use crate::plain_loop::LONG;
 use crate::values::values;
@@ -36,7 +36,7 @@ fn bit(bytes: &[u8], offset: usize, k: usize) -> bool {
     place / 8 < bytes.len() && get_bit(bytes, place)
 }
 
-/// Unpacks a window over stale bytes: each bit is its byte, and the others stay.
+/// Unpacks a window over stale bytes: byte `k` becomes bit `k`, and the bytes after them stay.
 fn unpacked_at(rt: &impl Abort, bytes: &[u8], offset: usize, len: usize) {
     let mut out = [7u8; ITEMS];
     holds(rt, window_fits(bytes, offset, len));

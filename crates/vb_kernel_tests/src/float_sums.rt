@@ -1,5 +1,5 @@
-//! Sums, the least and the greatest of floats that a mask keeps, beside a plain loop over their
-//! bits, and in worked rows.
+//! Sums, the least and the greatest of floats that a mask keeps, compared with a plain loop over
+//! their bits, and in worked rows.
 use crate::compared::{equal, holds};
 use crate::float_values::{ByBits, bits_of, rank};
 use crate::plain_loop::{LONG, first};
@@ -61,7 +61,7 @@ impl Term for f64 {
     }
 }
 
-/// Where a number is in the order of all, with -0.0 below 0.0. None for a NaN.
+/// The rank of a number among all numbers, with -0.0 below 0.0. None for a NaN.
 fn order<T: Term>(bits: u64) -> Option<i128> {
     let rank = rank::<T>(bits)?;
     Some(if bits >= T::SIGN {
@@ -208,7 +208,7 @@ fn floats_of_64_bits_are_aggregated_as_in_a_loop(rt: HostRuntime) {
     beside_a_loop::<f64>(&rt, rt.alloc(), true);
 }
 
-/// What the calls return of floats whose bit is true.
+/// What the calls return for the floats that the mask selects.
 fn answers(rt: &impl Abort, floats: &[f64], bytes: &[u8]) -> [Option<u64>; 3] {
     holds(rt, window_fits(bytes, 0, floats.len()));
     let mask = BitBufferView::new_with_offset(bytes, floats.len(), 0);

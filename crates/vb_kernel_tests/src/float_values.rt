@@ -108,11 +108,11 @@ pub(crate) fn bits_of<T: ByBits>(kind: usize) -> u64 {
     T::BITS.get(kind % kinds).copied().unwrap_or(0)
 }
 
-/// Where a float is in the order of all numbers: 0 for both zeros, below 0 where the sign is set.
-/// None for a NaN.
+/// The rank of a float among all numbers: 0 for both zeros, negative if the sign is set. None for a
+/// NaN.
 pub(crate) type Rank = Option<i128>;
 
-/// Of the float with these bits.
+/// The rank of the float with these bits.
 pub(crate) fn rank<T: ByBits>(bits: u64) -> Rank {
     let (is_negative, size) = match bits.checked_sub(T::SIGN) {
         Some(size) => (true, size),
@@ -139,7 +139,7 @@ impl Pairs for Ranks<'_> {
     }
 }
 
-/// What IEEE 754 says of two floats of these ranks: of a NaN `NotEqual` alone holds.
+/// The result by IEEE 754 for two floats of these ranks. With a NaN only `NotEqual` holds.
 fn answer(left: Rank, op: Comparison, right: Rank) -> bool {
     let (Some(left), Some(right)) = (left, right) else {
         return op == Comparison::NotEqual;

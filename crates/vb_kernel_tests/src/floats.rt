@@ -1,4 +1,4 @@
-//! Comparisons of floats, beside the answers that IEEE 754 gives for their bits.
+//! Comparisons of floats, compared with what IEEE 754 says for their bits.
 use crate::float_values::{ByBits, Rank, Ranks, bits_of, rank};
 use crate::written::{ALL, ROOM, STALE, are_written, holds};
 use std::alloc::Global;
@@ -6,7 +6,7 @@ use std::process::Abort;
 use vb_bits::window_fits;
 use vb_float::{compare_floats_into, compare_floats_with_into};
 
-/// Floats and their ranks, as many of the one as of the other.
+/// Floats, and one rank per float.
 #[derive(Drop)]
 struct Floats<T> {
     values: Vec<T, Global>,
@@ -90,8 +90,8 @@ fn around_blocks<T: ByBits>(rt: &impl Abort, alloc: Global) {
     }
 }
 
-/// Each float of [`ByBits::BITS`] with each: with it as a number, and in two slices of all pairs,
-/// most of which are in whole blocks.
+/// Compares each float of [`ByBits::BITS`] with each: as a single number, and in two slices of all
+/// pairs, most of which are in whole blocks.
 fn each_with_each<T: ByBits>(rt: &impl Abort, alloc: Global) {
     let kinds = T::BITS.len();
     let pairs = kinds.saturating_mul(kinds);

@@ -1,4 +1,4 @@
-//! Counts and sums by group, beside a plain loop.
+//! Counts and sums by group, compared with a plain loop.
 use crate::compared::{equal, holds};
 use crate::plain_loop::{LONG, first};
 use std::alloc::Global;
@@ -15,7 +15,7 @@ const GROUPS: usize = 7;
 /// The number of bytes that hold the longest window at any offset.
 const ROOM: usize = 150;
 
-/// The counts and the sums of the groups, and the first selected row without one.
+/// The counts and the sums of the groups, and the first selected row without a group.
 #[derive(Clone, Copy, Debug, PartialEq)]
 struct Found {
     counts: [u64; GROUPS],
@@ -95,7 +95,7 @@ fn byte(kind: usize, k: usize) -> u8 {
     }
 }
 
-/// The code that the lowest bytes of the number stand for.
+/// The code that the lowest bytes of the number represent.
 fn code<C: Element>(number: u64) -> C {
     let bytes = number.to_le_bytes();
     if C::SIZE > 8 {
@@ -119,8 +119,7 @@ fn at_offset<C: Summand>(rt: &impl Abort, codes: &[C], values: &[i32], offset: u
     equal(rt, both_calls(rt, codes, values, None), wanted);
 }
 
-/// First all codes name groups. Then one doesn't: that of the first row, of the last row, or of a
-/// row on either side of the end of a mask's word.
+/// First all codes name groups. Then the code of row 0, 63, 64 or 199 doesn't.
 fn beside_a_loop<C: Summand>(rt: &impl Abort, alloc: Global) {
     let mut codes = Vec::new(alloc);
     let mut values = Vec::new(alloc);

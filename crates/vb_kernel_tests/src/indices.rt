@@ -1,9 +1,9 @@
-//! Numbers that name places.
+//! Numbers as indices.
 use crate::compared::equal;
 use std::process::Abort;
 use vb_core::BitIndex;
 
-/// The number names this place, or none.
+/// The number is this index, or none.
 fn names<I: BitIndex>(rt: &impl Abort, index: I, place: Option<usize>) {
     equal(rt, index.place(), place);
 }

@@ -1,4 +1,4 @@
-//! Sums, the least and the greatest of values that a mask keeps, beside a plain loop.
+//! Sums, the least and the greatest of values that a mask keeps, compared with a plain loop.
 use crate::compared::holds;
 use crate::plain_loop::{LONG, first};
 use crate::terms::Term;
@@ -20,8 +20,7 @@ struct Found<T> {
     greatest: Option<T>,
 }
 
-/// The values whose bit of the mask is true, one after the other. The bit of the first value is bit
-/// `offset`.
+/// Visits the values that the mask selects, one after the other. The mask begins at bit `offset`.
 fn found_by_loop<T: Term>(values: &[T], mask: &[u8], offset: usize) -> Found<T> {
     let mut found: Found<T> = Found {
         sum: 0,

@@ -1,8 +1,8 @@
-//! Tests of the kernels, beside plain loops over single bits and values, at many offsets and
+//! Tests of the kernels, compared with plain loops over single bits and values, at many offsets and
 //! lengths: counts, selects, searches, copies and combinations; walks and views; comparisons of
 //! whole numbers and of floats; sums and extremes under a mask, counts and sums by group; unpacked
-//! bits and scattered values. And of what all crates share: errors, alignments, elements, indices
-//! and iterators of known length.
+//! bits and scattered values. Also tests of what all crates share: errors, alignments, elements,
+//! indices and iterators of known length.
 #![tactic(auto)]
 
 #[cfg(test)]

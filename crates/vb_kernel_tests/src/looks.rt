@@ -16,7 +16,7 @@ struct Reads {
 }
 
 impl Reads {
-    /// Reads the byte of bit `at`, if the window has it and it isn't the first of its byte.
+    /// Reads the byte of bit `at`, if the window has that bit and doesn't begin with the byte.
     fn from(at: usize, len: usize) -> Reads {
         let is_inside = 0 < len && 0 < at % 8;
         Reads {
@@ -30,7 +30,7 @@ impl Reads {
         }
     }
 
-    /// Goes on by `n` parts of `bits` each, and reads at each that has bits which weren't read.
+    /// Goes over `n` parts of `bits` bits. Each part with unread bits takes one look.
     fn parts(mut self, n: usize, bits: usize) -> Reads {
         for _ in 0..n {
             self.at = self.at.saturating_add(bits);
@@ -43,8 +43,8 @@ impl Reads {
     }
 }
 
-/// How often a source is looked at from bit `at` on, where the left one's window begins at bit `l`
-/// and is cut at its bytes: into a head, chunks, words, bytes and a tail.
+/// The number of looks at a source whose window begins at bit `at`. The parts are those of the left
+/// window, which begins at bit `l`: a head, chunks, words, bytes and a tail.
 pub(crate) fn looks_at(at: usize, l: usize, len: usize) -> u64 {
     let head = len.min((8 - l % 8) % 8);
     let rest = len - head;

@@ -1,4 +1,4 @@
-//! The nearest bits from each place on, beside plain loops.
+//! The nearest bits from each index on, compared with plain loops.
 use crate::compared::{equal, equal_at, holds};
 use crate::plain::{next_match, previous_match};
 use crate::sample::mix;
@@ -11,7 +11,7 @@ use vb_kernel::{
 /// A window: its bytes, the bit at which it begins, and how many bits it has.
 type Window<'a> = (&'a [u8], usize, usize);
 
-/// The bits from a place on, and those before it.
+/// The bits from an index on, and those before it.
 fn place_is_plain(rt: &impl Abort, (bytes, offset, len): Window<'_>, place: usize) {
     holds(rt, window_fits(bytes, offset, len));
     let given = (
@@ -45,7 +45,7 @@ fn window_is_plain(rt: &impl Abort, (bytes, offset, len): Window<'_>) {
     equal_at(rt, given, wanted, (offset, len));
 }
 
-/// From each place of the window, from its end on, and from the greatest number.
+/// Searches from each index of the window, from its end, and from the greatest number.
 fn places_are_plain(rt: &impl Abort, window: Window<'_>) {
     window_is_plain(rt, window);
     for place in 0..=window.2 {
@@ -57,7 +57,7 @@ fn places_are_plain(rt: &impl Abort, window: Window<'_>) {
 /// The most bytes of a slice: five words, and a part of one.
 const MOST: usize = 44;
 
-/// The window from every place, in the fewest bytes that have it.
+/// Searches the window from every index, in the fewest bytes that contain the window.
 fn front_is_plain(rt: &impl Abort, bytes: &[u8; MOST], offset: usize, len: usize) {
     let end = offset.saturating_add(len).div_ceil(8).min(MOST);
     places_are_plain(rt, (&bytes[..end], offset, len));
@@ -83,8 +83,8 @@ fn places_in_mixed_bytes(rt: HostRuntime) {
     }
 }
 
-/// All bits are equal but those of one byte: in a word that is read alone, in one of those that are
-/// passed together, and behind them.
+/// One byte differs from all others. It is in a word that is read alone, in one of several words
+/// that are skipped together, or after these.
 #[test]
 fn places_in_equal_bytes(rt: HostRuntime) {
     for equal in [0, u8::MAX] {
@@ -114,8 +114,8 @@ fn places_behind_many_words(rt: HostRuntime) {
     }
 }
 
-/// Windows of up to this many bits are in fewer than eight bytes, in one word, in two that overlap,
-/// or have words between these.
+/// Windows of up to this many bits cover all cases: fewer than eight bytes, one word, two words
+/// that overlap, and words between the first and the last one.
 const MOST_BITS: usize = 200;
 
 /// The bit at `place` differs from the other bits of the window, and equals the bits outside of it.

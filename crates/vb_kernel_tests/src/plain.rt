@@ -30,7 +30,7 @@ pub(crate) fn count_ones(bytes: &[u8], offset: usize, len: usize) -> usize
     ones
 }
 
-/// The place of the `n`-th true bit of the window.
+/// The index of the `n`-th true bit of the window.
 #[tactic(auto, using(vb_bits::proofs::BitsLemmas::windows))]
 pub(crate) fn bit_select(bytes: &[u8], offset: usize, len: usize, n: usize) -> Option<usize>
     requires window { InBytes bytes.now offset len }
@@ -48,7 +48,7 @@ pub(crate) fn bit_select(bytes: &[u8], offset: usize, len: usize, n: usize) -> O
     None
 }
 
-/// The place of the `n`-th false bit of the window.
+/// The index of the `n`-th false bit of the window.
 #[tactic(auto, using(vb_bits::proofs::BitsLemmas::windows))]
 pub(crate) fn bit_select_unset(bytes: &[u8], offset: usize, len: usize, n: usize) -> Option<usize>
     requires window { InBytes bytes.now offset len }
@@ -66,7 +66,7 @@ pub(crate) fn bit_select_unset(bytes: &[u8], offset: usize, len: usize, n: usize
     None
 }
 
-/// The place of the first bit from place `from` on that is `value`.
+/// The index of the first bit from index `from` on that is `value`.
 pub(crate) fn next_match(
     bytes: &[u8],
     offset: usize,
@@ -84,7 +84,7 @@ pub(crate) fn next_match(
     None
 }
 
-/// The place of the last bit before place `before` that is `value`.
+/// The index of the last bit before index `before` that is `value`.
 pub(crate) fn previous_match(
     bytes: &[u8],
     offset: usize,

@@ -1,4 +1,4 @@
-//! Comparisons of whole numbers beside a plain loop.
+//! Comparisons of whole numbers, compared with a plain loop.
 use crate::values::{value, values};
 use crate::written::{ALL, Pairs, ROOM, STALE, are_written, holds};
 use std::alloc::Global;
@@ -9,7 +9,7 @@ use vb_compare::{CompareLanes, Comparison, compare_into, compare_with_into};
 /// Lengths above 200.
 pub(crate) const LONG: [usize; 4] = [256, 511, 1000, 1027];
 
-/// What the operator answers.
+/// The result of the operator.
 fn answer<T: Ord>(left: &T, op: Comparison, right: &T) -> bool {
     match op {
         Comparison::Equal => left == right,

@@ -1,5 +1,5 @@
-//! Whether views are disjoint, or one is a subset of the other, and how many places an operator
-//! makes true of them: beside plain loops over their bits.
+//! Whether views are disjoint, or one is a subset of the other, and the number of ones that an
+//! operator gives: compared with plain loops over their bits.
 use crate::compared::{equal, equal_at};
 use crate::sample::{mix, view};
 use std::process::Abort;
@@ -7,7 +7,7 @@ use vb_bits::set_bit_to;
 use vb_core::{BufferError, Result};
 use vb_view::BitBufferView;
 
-/// What the right bits are, by the left ones and noise.
+/// How the right bits are made from the left ones and noise.
 #[derive(Clone, Copy)]
 enum Right {
     Noise,
@@ -40,15 +40,15 @@ fn write(bytes: &mut [u8], offset: usize, left: &BitBufferView<'_>, right: Right
     }
 }
 
-/// Turns a bit, if the bytes have it.
+/// Flips a bit, if the bytes have it.
 fn turn(bytes: &mut [u8], place: usize) {
     if place / 8 < bytes.len() {
         bytes[place / 8] ^= 1 << (place % 8);
     }
 }
 
-/// What a loop over the bits answers: whether no place is true in both views, and whether each that
-/// is true in the left one is true in the right one.
+/// What a loop over the bits finds: whether no index is true in both views, and whether each index
+/// that is true in the left one is true in the right one.
 fn plain(left: &BitBufferView<'_>, right: &BitBufferView<'_>) -> (bool, bool) {
     let (mut disjoint, mut within) = (true, true);
     for i in 0..left.len().min(right.len()) {
@@ -61,7 +61,7 @@ fn plain(left: &BitBufferView<'_>, right: &BitBufferView<'_>) -> (bool, bool) {
     (disjoint, within)
 }
 
-/// How many places `and`, `or`, `xor` and `and not` make true, by the calls that compare lengths.
+/// The numbers of ones of `and`, `or`, `xor` and `and not`, by the calls that compare lengths.
 type Counts = (Result<usize>, Result<usize>, Result<usize>, Result<usize>);
 
 fn counts(left: &BitBufferView<'_>, right: &BitBufferView<'_>) -> Counts {
@@ -103,7 +103,7 @@ fn is_plain(rt: &impl Abort, left: &[u8], right: &[u8], case: (usize, usize, usi
     equal_at(rt, counts(one, other), plain_counts(one, other), case);
 }
 
-/// Right bits of each kind, and with one of them turned: the first, one in the middle, the last.
+/// Right bits of each kind, and with one of them flipped: the first, one in the middle, the last.
 fn each_is_plain(rt: &impl Abort, left: &[u8], noise: &[u8], (l, r, len): (usize, usize, usize)) {
     let mut bytes = [0; 600];
     let bytes = &mut bytes[..noise.len().min(600)];

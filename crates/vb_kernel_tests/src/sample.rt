@@ -30,7 +30,7 @@ pub(crate) fn stretch(bytes: &mut [u8], len: usize) {
     }
 }
 
-/// The window of the bytes, in which it has to lie.
+/// A window of the bytes. It has to fit in them.
 pub(crate) fn view<'a>(
     rt: &impl Abort,
     bytes: &'a [u8],

@@ -48,7 +48,7 @@ fn selects_are_those_of_a_loop(rt: HostRuntime) {
     }
 }
 
-/// Where adders pass 64 chunks and more.
+/// Windows of more than 64 chunks, which the adders of the wide selects pass over.
 #[test]
 fn wide_selects_are_those_by_words(rt: HostRuntime) {
     let mut bytes = [0; 8200];
@@ -87,7 +87,7 @@ fn a_true_bit_behind_a_chunk_is_found(rt: HostRuntime) {
     equal(&rt, count_ones_by(&mut Tally::new(bytes), 0, 513), 513);
 }
 
-/// Ranks, and how often a select of 260 bits looks for one.
+/// Ranks, and the number of looks of a select among 260 true or 260 false bits.
 const LOOKS: [(usize, u64); 6] = [(0, 1), (255, 1), (256, 2), (259, 2), (260, 2), (1000, 2)];
 
 #[test]

@@ -11,8 +11,8 @@ use vb_kernel::{
 /// A window: its bytes, the bit at which it begins, and how many bits it has.
 type Window<'a> = (&'a [u8], usize, usize);
 
-/// How many of the `len` bits from bit `at` on are read, part by part, up to the bit at `place`:
-/// those up to the end of its part, or all if there is none.
+/// How many of the `len` bits from bit `at` on a search reads, part by part: those up to the end of
+/// the part that contains `place`, or all if `place` is None.
 fn bits_read(at: usize, len: usize, place: Option<usize>) -> usize {
     let head = len.min((8 - at % 8) % 8);
     let Some(place) = place else {
@@ -36,8 +36,8 @@ fn looks_to(at: usize, len: usize, place: Option<usize>) -> u64 {
     looks_at(at, at, bits_read(at, len, place))
 }
 
-/// How many a search takes from the end of the window on, to the front: those of the same window
-/// seen from its end.
+/// The number of looks of a search from the end of the window to its front: that of a search in the
+/// mirrored window.
 fn looks_back(offset: usize, len: usize, place: Option<usize>) -> u64 {
     let at = (8 - offset.saturating_add(len) % 8) % 8;
     let place = place.map(|place| len.saturating_sub(place).saturating_sub(1));

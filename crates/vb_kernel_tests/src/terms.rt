@@ -3,10 +3,10 @@ use vb_aggregate::WideSummand;
 
 /// A whole number of at most 64 bits.
 pub(crate) trait Term: WideSummand + Ord {
-    /// The number that it is.
+    /// The value as an `i128`.
     fn number(self) -> i128;
 
-    /// The number that a sum is.
+    /// The sum as an `i128`.
     fn sum(total: Self::Total) -> Option<i128>;
 }
 

@@ -3,10 +3,10 @@ use std::alloc::Global;
 use std::process::Abort;
 use vb_core::Element;
 
-/// The bytes of the greatest value of a type, but for the last one.
+/// The bytes of the greatest signed value of a type, except its last byte.
 const ONES: [u8; 16] = [0xFF; 16];
 
-/// The value that the first bytes stand for.
+/// The value that the first bytes represent.
 fn of_bytes<T: Element>(bytes: &[u8]) -> T {
     if bytes.len() < T::SIZE {
         return T::zero();

@@ -1,4 +1,4 @@
-//! Walks over windows: worked rows, and each beside the bits of a view.
+//! Walks over windows: worked rows, and each walk compared with the bits of a view.
 use crate::compared::{equal, equal_at, gives};
 use std::process::Abort;
 use vb_core::TrustedLen;
@@ -38,7 +38,7 @@ pub(crate) fn ends_are_plain(rt: &impl Abort, view: &BitBufferView<'_>, mut bits
     equal(rt, bits.next_back(), None);
 }
 
-/// The places are those of the view's true bits. Answers the last one.
+/// The indices are those of the view's true bits. Returns the last one.
 pub(crate) fn places_are_plain(
     rt: &impl Abort,
     view: &BitBufferView<'_>,

@@ -1,4 +1,4 @@
-//! Windows of many offsets and lengths: all that is made of one, beside its bits one by one.
+//! Windows of many offsets and lengths: the result of each call compared with a loop over bits.
 use crate::compared::{equal_at, holds};
 use crate::sample::{mix, stretch};
 use crate::walks::{bits_are_plain, ends_are_plain, places_are_plain, runs_are_plain};
@@ -61,8 +61,8 @@ fn walks_of_mixed_bytes_are_those_of_a_loop(rt: HostRuntime) {
     }
 }
 
-/// One byte that differs, behind so many bytes that are all 0, or all ones: in each of the words
-/// that are passed over by four, and in those that are left over.
+/// One byte differs from the others, which are all 0 or all ones. It is in each of the words that
+/// are skipped four at a time, and in the rest.
 #[test]
 fn a_byte_that_differs_is_found_in_each_word(rt: HostRuntime) {
     for equal in [0, u8::MAX] {

@@ -1,4 +1,4 @@
-//! Words of windows: worked rows, and beside the bits of a view.
+//! Words of windows: worked rows, and words compared with the bits of a view.
 ghost use Rattle.std.specs.Iterator.{IsFinite};
 
 use crate::compared::{equal, equal_at, gives};
@@ -8,7 +8,7 @@ use vb_core::TrustedLen;
 use vb_view::BitBufferView;
 use vb_walk::{BitChunkIterator, UnalignedBitChunkIterator};
 
-/// The bits of word `k` one by one, where `lead` bits that are 0 stand before those of the view.
+/// The bits of word `k` one by one, where `lead` zero bits precede those of the view.
 fn plain_word(view: &BitBufferView<'_>, lead: usize, k: usize) -> u64 {
     let mut word = 0u64;
     for i in 0..64u32 {
@@ -51,7 +51,7 @@ pub(crate) fn chunks_are_plain(rt: &impl Abort, view: &BitBufferView<'_>) {
     words_are_plain(rt, view, chunks.iter_padded(), 0, full.saturating_add(1));
 }
 
-/// Each bit of the words stands where the bytes have it, and no other bit is set.
+/// Each bit of the words is where the bytes have it, and no other bit is set.
 pub(crate) fn unaligned_is_plain(rt: &impl Abort, view: &BitBufferView<'_>) {
     let unaligned = &view.unaligned_chunks();
     let lead = if view.is_empty() { 0 } else { view.offset() };

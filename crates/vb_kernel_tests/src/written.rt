@@ -30,12 +30,12 @@ pub(crate) const STALE: u8 = 0x5A;
 
 /// Pairs of values that are compared.
 pub(crate) trait Pairs {
-    /// What the comparison answers of pair `k`, if there is one.
+    /// The result of the comparison for pair `k`, if there is one.
     fn answer(&self, k: usize) -> Option<bool>;
 }
 
-/// The `len` bits from bit `offset` on are what `pairs` answers, and the bits before and after them
-/// are those of [`STALE`].
+/// The `len` bits from bit `offset` on are the answers of `pairs`, and the bits before and after
+/// them are those of [`STALE`].
 pub(crate) fn are_written(
     rt: &impl Abort,
     out: &[u8],

@@ -48,7 +48,7 @@ part_negated l x a b e =
     ap complement e
     ∙ sym (ap (take (b - a)) (drop-map not a l) ∙ take-map not (b - a) (drop a l))
 
--- w values written after those before them
+-- writes of the first m values and of the w after them are one write
 pub Writes-part : (b c d : List ℕ) (o p m w e : ℕ) (l : List Bool) → m ≤ length l
     → p ≡ o + m → m + w ≡ e → Writes b c o (take m l) → Writes c d p (slice_range l m (m + w))
     → Writes b d o (take e l)

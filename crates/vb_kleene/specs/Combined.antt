@@ -1,4 +1,4 @@
--- Truth values that may be null, combined by their true and by their false ones.
+-- Which results of a combination of truth values are true, and which aren't null.
 use Rattle.std.specs.Prelude.{Bool, true, false, ◌||◌, List, map, Option}
 use Rattle.std.specs.Option.{option_map}
 use Rattle.vb_bits.specs.Operators.{merged_by}
@@ -10,7 +10,7 @@ use Rattle.vb_view.specs.View.{bits_of}
 abbrev pub column : Column → List (Option Bool)
 column c = truths (bits_of c.values) (option_map bits_of c.validity)
 
--- which results are true, from the true ones of both sides
+-- which results are true, from the true values of both sides
 abbrev pub trues_by : (Bool → Bool → Bool) → List (Option Bool) → List (Option Bool) → List Bool
 trues_by f l r = merged_by f (map (is_truth true) l) (map (is_truth true) r)
 

@@ -85,7 +85,7 @@ pub(crate) fn write_few<T: Merge, F: Merge>(
 }
 
 /// Does [`write_combined`] for the first `256 * n` truth values. If one of the two windows doesn't
-/// begin at a byte boundary, computes them in bytes of its own and copies these.
+/// begin at a byte boundary, computes them in separate bytes and copies these.
 fn write_blocks<T: Merge, F: Merge>(
     trues: &mut [u8],
     t: usize,

@@ -5,7 +5,7 @@ use Rattle.std.proofs.lemmas.Nat.{mul-mod_first}
 use Rattle.std.proofs.lemmas.Nat.Gcd.{dvd-zero, dvd_of_mod-eq-zero, mod-eq-zero_of_dvd}
 use Rattle.std.proofs.Math.Pow.{mod-mod-pow}
 
--- a remainder by a power of two keeps the remainder by a lesser one
+-- n and its remainder by a power of two have the same remainder by a lesser power of two
 pub mod-mod-lesser : (n j k : ℕ) → k ≤ j → n % 2 ^ j % 2 ^ k ≡ n % 2 ^ k
 mod-mod-lesser n j k h =
     let e : (j - k) + k ≡ j = omega arith in

@@ -26,8 +26,8 @@ pub(crate) enum Content<T: Element, A: Allocator> {
 impl<T: Element, A: Allocator> Content<T, A> {
     ghost use Rattle.vb_mem.specs.Content.{seen, IsSound, IsWhole};
 
-    // Returns whether `alignment` divides the byte offset of the item at index `items_on`. An
-    // offset that wraps keeps its remainder.
+    // Returns whether `alignment` divides the byte offset of the item at index `items_on`. The
+    // offset may wrap, since each alignment divides 2^64.
     pub(crate) fn is_place_divided(&self, alignment: Alignment, items_on: usize) -> bool
         ensures { IsTrue result
             ↔ (((seen T.SIZE self.now).place + items_on * T.SIZE) % 2 ^ alignment ≡ 0) }

@@ -1,4 +1,4 @@
-//! Which of two allocators is asked for memory by calls that have both. No contract can say it.
+//! From which of two allocators calls that have both allocate. No contract can say it.
 use crate::compared::equal;
 use bytes::Bytes;
 use std::alloc::{AllocError, Allocator};
@@ -7,20 +7,20 @@ use vb_core::{Alignment, BufferError, Result};
 use vb_mem::{Buffer, BufferMut, ByteBuffer};
 use vb_testing::Refusing;
 
-/// A way to a growing buffer from an allocator and a vector that has another one.
+/// A way to make a growing buffer from an allocator and a vector with another allocator.
 enum Way {
     CopyFrom,
     CopyFromFrozen,
     FromBytes,
-    /// By the shared buffer that is made of both.
+    /// Makes a shared buffer of both first.
     Shared(OfShared),
-    /// By the growing one that this becomes.
+    /// Opens this shared buffer first.
     Open(OfOpen),
 }
 
-/// A way on from a shared buffer.
+/// How the shared buffer becomes a growing one.
 enum OfShared {
-    /// By another buffer, beside the shared one.
+    /// By a second buffer, made while the shared one exists.
     Beside(Beside),
     IntoMut,
     TryIntoMut,
@@ -31,7 +31,7 @@ enum OfShared {
     FromByteBuffer,
 }
 
-/// A way to another buffer from a shared one, which is dropped then.
+/// How a second buffer is made from the shared one, which is then dropped.
 enum Beside {
     IntoMut,
     ItemsMut,
@@ -39,7 +39,7 @@ enum Beside {
     Allocator,
 }
 
-/// A way on from a growing buffer.
+/// How the growing buffer becomes another one.
 enum OfOpen {
     FromMut,
     Frozen,
@@ -163,7 +163,7 @@ fn by_bytes<A: Allocator + Clone>(rt: &impl Abort, buffer: ByteBuffer<A>) -> Mad
     opened(Buffer::from_bytes(alloc, bytes))
 }
 
-/// Room from the allocator of a buffer.
+/// A buffer with capacity from the allocator of a buffer.
 fn room_of<A: Allocator>(alloc: Result<A, AllocError>) -> Made<A> {
     BufferMut::with_capacity(alloc?, 3)
 }
@@ -185,7 +185,7 @@ fn cloned<A: Allocator + Clone>(open: BufferMut<u8, A>) -> Made<A> {
     clone
 }
 
-/// Which heaps are asked: that which was given, and that of the vector.
+/// Which heaps get requests: the one that was given, and that of the vector.
 type Heaps = (bool, bool);
 
 const GIVEN: Heaps = (true, false);
@@ -194,8 +194,8 @@ const VECTORS: Heaps = (false, true);
 
 const BOTH: Heaps = (true, true);
 
-/// The ways, with the heaps that each asks, and those that growth and a clone of what it makes ask.
-/// `from_vec` asks the one that was given, for the block that counts owners.
+/// The ways, with the heaps that each allocates from, and those that growth and clones of its
+/// result allocate from. `from_vec` allocates the block that counts owners from the given one.
 const WAYS: &[(Way, Heaps, Heaps)] = &[
     (Way::CopyFrom, GIVEN, GIVEN),
     (Way::CopyFromFrozen, GIVEN, GIVEN),
@@ -205,7 +205,7 @@ const WAYS: &[(Way, Heaps, Heaps)] = &[
     (Way::Shared(OfShared::IntoMut), GIVEN, VECTORS),
     (Way::Shared(OfShared::TryIntoMut), GIVEN, VECTORS),
     (Way::Shared(OfShared::ItemsMut), GIVEN, VECTORS),
-    // A copy has memory of the buffer's allocator, which was given.
+    // A copy is allocated by the buffer's allocator, the given one.
     (Way::Shared(OfShared::Beside(Beside::IntoMut)), GIVEN, GIVEN),
     (
         Way::Shared(OfShared::Beside(Beside::ItemsMut)),
@@ -232,7 +232,7 @@ const WAYS: &[(Way, Heaps, Heaps)] = &[
     (Way::Open(OfOpen::LeftByTake), GIVEN, VECTORS),
 ];
 
-/// These heaps were asked since the last call of this function, and no others.
+/// Exactly these heaps got requests since the last call of this function.
 fn are_asked<B: Allocator>(
     rt: &impl Abort,
     given: &Refusing<B>,
@@ -244,7 +244,7 @@ fn are_asked<B: Allocator>(
     vectors.refuse(0);
 }
 
-/// What was made, grown past its room.
+/// What was made, grown past its capacity.
 fn grown<A: Allocator>(rt: &impl Abort, made: Made<A>) -> BufferMut<u8, A> {
     let mut open = made.expect(rt, "a buffer");
     open.push_n(7, 1000).expect(rt, "room");

@@ -51,8 +51,8 @@ fn bytes_that_are_no_items_are_refused(rt: HostRuntime) {
     seven_are_refused(&rt, Buffer::copy_from(rt.alloc(), &[0; 7]), rt.alloc());
 }
 
-/// A thousand items are asked for by one request, and the count of owners by another one. A body
-/// that copies the bytes first, or asks before it counts them, fails here.
+/// One request allocates a thousand items, and another one the count of owners. A body that copies
+/// the bytes first, or allocates before it counts them, fails here.
 #[test]
 fn bytes_of_a_slice_are_read_once(rt: HostRuntime) {
     let heap = Refusing::new(rt.alloc(), 0);
@@ -123,7 +123,7 @@ fn bytes_of_another_crate_go_both_ways(rt: HostRuntime) {
     has_items(&rt, back, &[u128::MAX, 1], 16);
 }
 
-/// A way from items to bytes.
+/// How the items become bytes.
 enum Form {
     AsBytes,
     IntoByteBuffer,
@@ -168,7 +168,7 @@ fn in_bytes<A: Allocator + Clone>(alloc: &A) -> Result<Bytes<A>> {
 /// The bytes of 1 and 2.
 const BYTES: &[u8] = &[1, 0, 0, 0, 2, 0, 0, 0];
 
-/// A way from items to bytes and back, or from bytes to items.
+/// How items become bytes and items again, or bytes become items.
 enum Way {
     Buffer(Form),
     BufferAligned(Form),

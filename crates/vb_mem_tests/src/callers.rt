@@ -24,7 +24,7 @@ fn numbers_of_a_range_are_as_many_as_it_has(rt: HostRuntime) {
     drop((hundred, part));
 }
 
-/// The first two items, where there are two.
+/// The first two items, or None if there are fewer.
 fn first_two<A: Allocator + Clone>(values: &Buffer<u32, A>) -> Result<Option<Buffer<u32, A>>> {
     if values.len() >= 2 {
         return Ok(Some(values.slice(0..2)?));

@@ -64,7 +64,7 @@ fn try_extend<A: Allocator>(buffer: &mut BufferMut<u32, A>) -> Result<()> {
 enum Trial {
     /// A change of a buffer that is full of sevens.
     Full(Change),
-    /// Items are added one by one, and the room is made more than once.
+    /// Items are added one by one, and the capacity grows more than once.
     Extend,
     /// A clone is made mutable.
     OpenClone,
@@ -108,7 +108,7 @@ fn is_seven(item: &u32) -> bool {
     *item == 7
 }
 
-/// Adds items of which each is its place. Those that came before a refusal stay.
+/// Adds items that equal their indices. Those added before a refusal stay.
 fn extend<A: Allocator>(rt: &impl Abort, made: Result<BufferMut<usize, A>>) -> Result<()> {
     let mut buffer = made?;
     let answer = buffer.extend((3..100usize).filter(each));
@@ -189,7 +189,7 @@ const GROWING: &[(Change, &[u32])] = &[
     (Change::TryExtendTrusted, &[8]),
 ];
 
-/// Makes a change again and again, from no room on.
+/// Makes a change again and again, beginning without capacity.
 fn grow<A: Allocator + Clone>(rt: &impl Abort, alloc: A, change: &Change, items: &[u32]) {
     let mut buffer = BufferMut::empty(alloc);
     for _ in 0..5000 {
@@ -203,7 +203,7 @@ fn grow<A: Allocator + Clone>(rt: &impl Abort, alloc: A, change: &Change, items:
 }
 
 /// A body that gives up once the buffer has grown to some length fails here, and so does one that
-/// asks for room at each call, or for more and more of it.
+/// allocates at each call, or allocates more and more.
 #[test]
 fn growth_goes_on_while_there_is_memory(rt: HostRuntime) {
     let heap = Refusing::new(rt.alloc(), 0);

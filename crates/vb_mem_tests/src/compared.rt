@@ -11,12 +11,12 @@ pub fn equal<T: Copy + PartialEq + Debug>(rt: &impl Abort, given: T, wanted: T) 
     assert_eq!(rt; given, wanted);
 }
 
-/// The items are the numbers from 0 on, so many.
+/// The items are the numbers below `n` in order.
 pub fn counts(rt: &impl Abort, items: &[usize], n: usize) {
     equal(rt, items.iter().copied().eq(0..n), true);
 }
 
-/// The answer is a refusal where a request was refused, and none where none was.
+/// The answer is `OutOfMemory` exactly if the heap refused a request.
 pub fn answers<B: Allocator>(rt: &impl Abort, heap: &Refusing<B>, answer: Result<()>) {
     let refused = Err(BufferError::OutOfMemory);
     equal(rt, answer, heap.wanted(Ok(()), refused));

@@ -1,5 +1,5 @@
-//! What calls ask of the allocator: an owner for `freeze`, nothing for other calls that share or
-//! work in place, and at most twice the bytes that they need where they copy or grow.
+//! What calls allocate: an owner for `freeze`, nothing for other calls that share or work in place,
+//! and at most twice the bytes that they need if they copy or grow.
 use crate::compared::equal;
 use crate::makers::{Twin, cloned, frozen, opened};
 use crate::sharing::fill_items;
@@ -65,9 +65,9 @@ const GROWING: &[(Growing, u64, usize, usize)] = &[
     // A body that raises the declared alignment and moves no item fails here.
     (Growing::AlignedBeyond, 1, 4000, 8000),
     (Growing::Clone, 1, 4000, 8000),
-    // A body that asks for four times the room fails here.
+    // A body that allocates four times the capacity fails here.
     (Growing::Reserve, 1, 8000, 16000),
-    // A body that doubles the room fails here.
+    // A body that doubles the capacity fails here.
     (Growing::ReserveExact, 1, 6000, 6000),
     (Growing::Push, 1, 4004, 8008),
     (Growing::Within, 0, 0, 0),
@@ -97,7 +97,7 @@ fn growing_buffers_ask_for_what_they_need(rt: HostRuntime) {
     }
 }
 
-/// The items of a buffer as a vector, for which the heap is asked for nothing.
+/// Turns a buffer into a vector. That doesn't allocate.
 fn is_vector<A: Allocator>(
     rt: &impl Abort,
     heap: &Refusing<Global>,
@@ -178,7 +178,7 @@ fn written<A: Allocator + Clone>(
 }
 
 /// The calls, how many requests each makes, and for how many bytes: at least, and at most. `freeze`
-/// asks for an owner.
+/// allocates an owner.
 const SHARED: &[(Shared, u64, usize, usize)] = &[
     // A body that copies the items fails here.
     (Shared::Twin(Twin::Clone), 0, 0, 0),
@@ -220,7 +220,7 @@ fn shared_buffers_ask_for_what_they_need(rt: HostRuntime) {
     }
 }
 
-/// A call that makes room for many items.
+/// A call that allocates for many items.
 enum Room {
     WithCapacity,
     WithCapacityAligned,
@@ -240,7 +240,7 @@ impl Room {
 
 const ROOMS: &[Room] = &[Room::WithCapacity, Room::WithCapacityAligned, Room::Zeroed];
 
-/// A body that asks for a megabyte more fails here.
+/// A body that allocates a megabyte more fails here.
 #[test]
 fn room_is_what_was_asked_for(rt: HostRuntime) {
     let heap = Refusing::new(rt.alloc(), 0);

@@ -44,7 +44,7 @@ fn fill_room<A: Allocator>(rt: &impl Abort, made: Result<BufferMut<u32, A>>) {
     buffer.push_unchecked(2);
     buffer.push_n_unchecked(3, 2);
     buffer.truncate(9);
-    // Room past the address space.
+    // A capacity beyond the address space.
     let refused = Err(BufferError::OutOfMemory);
     equal(rt, buffer.reserve(usize::MAX), refused);
     equal(rt, buffer.push_n(0, usize::MAX / 4), refused);
@@ -60,7 +60,7 @@ fn room_is_filled_or_refused(rt: HostRuntime) {
     fill_room(&rt, BufferMut::copy_from(rt.alloc(), &[1]));
 }
 
-/// Cuts a buffer, fills it up within its room, and takes its items away from the end.
+/// Cuts a buffer, fills it within its capacity, and pops its items.
 fn resize_and_pop<A: Allocator>(rt: &impl Abort, made: Result<BufferMut<u32, A>>) {
     let mut buffer = made.expect(rt, "room");
     let room = buffer.capacity();
@@ -97,7 +97,7 @@ fn values_before_an_error_stay(rt: HostRuntime) {
     extend_to_an_error(&rt, BufferMut::copy_from(rt.alloc(), &[0, 10]));
 }
 
-/// What was made has the numbers from 0 on, so many.
+/// What was made has the numbers below `n` in order.
 fn has_counted<A: Allocator>(rt: &impl Abort, made: Result<BufferMut<usize, A>>, n: usize) {
     let buffer = made.expect(rt, "room");
     counts(rt, buffer.as_slice(), n);

@@ -10,7 +10,7 @@ pub const FOUR: &[u32] = &[1, 2, 3, 4];
 /// An item of an iterator that may also give errors.
 pub const TRIED: &[Result<u32>] = &[Ok(8)];
 
-/// The error of a call that got items, and maybe an error among them.
+/// The error of a call whose iterator may also give errors.
 pub fn refusal(stopped: ExtendError<BufferError>) -> BufferError {
     match stopped {
         ExtendError::Memory => BufferError::OutOfMemory,

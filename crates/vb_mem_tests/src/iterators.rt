@@ -7,7 +7,7 @@ use std::process::Abort;
 use vb_core::{Alignment, Result, TrustedLen};
 use vb_mem::{Buffer, BufferIterator, BufferMut, Iter};
 
-/// So many items are left.
+/// `n` items are left.
 fn has_left<I: TrustedLen + ExactSizeIterator>(rt: &impl Abort, items: &I, n: usize) {
     equal(rt, (items.len(), items.exact_len()), (n, n));
     equal(rt, items.size_hint(), (n, Some(n)));
@@ -42,7 +42,7 @@ fn gives_from_both_ends<A: Allocator>(rt: &impl Abort, mut items: BufferIterator
     drop(items);
 }
 
-/// A `for` goes over 10, 20 and 30.
+/// A `for` loop visits 10, 20 and 30.
 fn is_gone_over<A: Allocator>(rt: &impl Abort, buffer: &Buffer<u32, A>) {
     let mut wanted = 10;
     for item in buffer {
@@ -52,7 +52,7 @@ fn is_gone_over<A: Allocator>(rt: &impl Abort, buffer: &Buffer<u32, A>) {
     equal(rt, wanted, 40);
 }
 
-/// The same of a growing buffer.
+/// A `for` loop over a growing buffer visits 10, 20 and 30.
 fn is_gone_over_open<A: Allocator>(rt: &impl Abort, buffer: &BufferMut<u32, A>) {
     let mut wanted = 10;
     for item in buffer {
@@ -62,7 +62,7 @@ fn is_gone_over_open<A: Allocator>(rt: &impl Abort, buffer: &BufferMut<u32, A>) 
     equal(rt, wanted, 40);
 }
 
-/// The items 10, 20 and 30 are lent, and then handed out.
+/// Iterators give 10, 20 and 30: first references, then the items.
 fn gives_in_turn<A: Allocator + Clone>(rt: &impl Abort, made: Result<Buffer<u32, A>>, alloc: A) {
     let buffer = made.expect(rt, "a buffer");
     lends_in_turn(rt, buffer.iter());

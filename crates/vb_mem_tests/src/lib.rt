@@ -1,7 +1,6 @@
 //! Tests of list buffers: how they are made, grow and share their storage; what is read of them, by
-//! iterators, comparisons and bytes; their places and alignments; each request for memory refused
-//! in turn, what a refused one leaves, what calls ask of the allocator, and of which one where two
-//! could be meant.
+//! iterators, comparisons and bytes; their offsets and alignments; each request for memory refused
+//! in turn, what a refused one leaves, what calls allocate, and from which of two allocators.
 #![tactic(auto)]
 
 #[cfg(test)]

@@ -1,4 +1,4 @@
-//! Alignments and places of buffers and of their slices.
+//! Alignments of buffers and of their slices at several offsets.
 use crate::compared::{equal, is_aligned, shows};
 use std::alloc::Allocator;
 use std::ops::Range;
@@ -33,8 +33,7 @@ fn tail_of<A: Allocator + Clone>(rt: &impl Abort, made: Result<Buffer<u32, A>>) 
     tail
 }
 
-/// The tail begins four bytes on, which is no multiple of eight. To be aligned to eight bytes, its
-/// items are copied.
+/// The tail begins at byte 4, which is no multiple of eight. So `aligned` copies its items.
 fn tail_is_copied<A: Allocator + Clone>(
     rt: &impl Abort,
     tail: Buffer<u32, A>,
@@ -47,7 +46,7 @@ fn tail_is_copied<A: Allocator + Clone>(
     tail.aligned(eight)
 }
 
-/// The half begins eight bytes on, so it is aligned to eight bytes in place.
+/// The half begins at byte 8, so it is already aligned to eight bytes.
 fn half_is_there<A: Allocator + Clone>(
     rt: &impl Abort,
     made: Result<Buffer<u32, A>>,
@@ -69,7 +68,7 @@ fn a_slice_keeps_its_place(rt: HostRuntime) {
     equal(&rt, there, Ok(()));
 }
 
-/// What was sliced has no items, and is aligned to so many bytes.
+/// The slice has no items, and reports an alignment of `alignment` bytes.
 fn is_nothing<T: Element, A: Allocator>(rt: &impl Abort, nothing: Buffer<T, A>, alignment: usize) {
     equal(rt, nothing.is_empty(), true);
     equal(rt, nothing.alignment().as_usize(), alignment);

@@ -24,7 +24,7 @@ fn counts(rt: &impl Abort, items: &[u32], numbers: Range<u32>) {
     equal(rt, items.iter().copied().eq(numbers), true);
 }
 
-/// The upper half of the numbers stands 512 bytes behind the start of its storage.
+/// The upper half of the numbers begins at byte 512 of its storage.
 fn is_upper_half<A: Allocator>(rt: &impl Abort, part: &Buffer<u32, A>) {
     counts(rt, part.as_slice(), 128..256);
     let alignments = (part.alignment().as_usize(), part.declared().as_usize());
@@ -89,7 +89,7 @@ fn a_refused_write_leaves_the_part(rt: HostRuntime) {
         let wanted = heap.wanted(Ok(()), Err(BufferError::OutOfMemory));
         equal(&rt, answer, wanted);
     }
-    // The storage and its owner, and the copy and its own, are asked for, beside five copies of the
-    // allocator.
+    // Requests for the storage and its owner, for the copy and its owner, and for five copies of
+    // the allocator.
     equal(&rt, (heap.has_refused(), heap.asked()), (false, 9));
 }

@@ -30,7 +30,7 @@ fn a_clone_made_mutable_leaves_the_original(rt: HostRuntime) {
     clone_is_apart(&rt, BufferMut::copy_from(rt.alloc(), &[1, 2, 3]));
 }
 
-/// The numbers below a hundred, of which 32 are opened from 64 on, and grow.
+/// Opens a slice of 32 of the numbers below a hundred, those from 64 on, and lets it grow.
 fn opened_part_grows<A: Allocator + Clone>(rt: &impl Abort, alloc: A) {
     let whole = Buffer::from_trusted_len_iter(alloc, 0..100usize).expect(rt, "a buffer");
     part_grows(rt, whole.slice(64..96));
@@ -82,7 +82,7 @@ fn items_are_written_for_one_owner(rt: HostRuntime) {
     written_for_one(&rt, Buffer::copy_from(rt.alloc(), &[1, 2, 3]));
 }
 
-/// Opens a buffer or is given it back, with its items in both cases.
+/// Tries to open a buffer. The result, open or the same buffer, has its items.
 fn open_or_same<A: Allocator>(rt: &impl Abort, buffer: Buffer<u32, A>, items: &[u32]) {
     match buffer.try_into_mut() {
         Ok(open) => {

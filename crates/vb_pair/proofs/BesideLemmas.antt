@@ -14,7 +14,7 @@ use Rattle.vb_bits.proofs.BytesLemmas.{bits_of_read_byte}
 use Rattle.vb_pair.proofs.MergedLemmas.{merged_ones-le, merged_ones_none, merged_ones_split}
 
 -- ---- looks
--- parts with at most as many looks, and one more look
+-- a sum of looks whose head and tail parts are at most those of another sum, and n more looks
 parts_le : (a b c d e u v w n : ℕ) → a ≤ n → b ≤ d → c ≤ e
     → a + b + u + v + w + c ≤ d + u + v + w + e + n
 parts_le a b c d e u v w n first head tail = omega arith
@@ -73,8 +73,8 @@ merged_ones_if_any f a b c d o p q r n left right = elim (cases_lt 0 n) [
       ∙ sym (ap (λ z. merged_ones f c q d r z) none ∙ merged_ones_none f c d q r)
 ]
 
--- n bits of a unit of k bytes that was read, combined with those of the held byte y and of the k
--- bytes read after it, from byte j on
+-- n bits of a unit of k bytes, combined with n bits of the other window: those of the held byte y,
+-- and then those of the k bytes read from byte j on
 pub merged_ones_of_unit : (f : Bool → Bool → Bool) (a b xs ys : List ℕ) (y i j k x n o p : ℕ)
     → bits xs 0 (8 * k) ≡ bits a (8 * i) (8 * k)
     → (0 < n - bits_held p → bits ys 0 (8 * k) ≡ bits b (8 * j) (8 * k)) → IsHeld b p y

@@ -67,7 +67,8 @@ merged_nowhere f a b c o p n m i same end none on =
 abbrev unit_looks : ℕ → ℕ
 unit_looks m = m / 64 + m % 64 / 8 + m % 8
 
--- the looks at n bits from bit p on, after the h of them that end a byte of the left window
+-- the looks at n bits from bit p on after the byte of bit p is held; the first h of them end a byte
+-- of the left window
 abbrev looks_behind : ℕ → ℕ → ℕ → ℕ
 looks_behind h p n =
     part_looks p h + (n - h) / 8 / 64 + (n - h) / 8 % 64 / 8 + (n - h) / 8 % 8

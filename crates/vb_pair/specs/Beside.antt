@@ -12,7 +12,7 @@ bits_held p = (8 - p % 8) % 8
 pub record IsHeld (bytes : List ℕ) (p y : ℕ) : Type 0 where
   pub held : 0 < p % 8 → y ≡ get_or bytes (p / 8) 0
 
--- the looks at no more than eight bits from bit p on: one at the next byte if they continue in it
+-- the looks at at most eight bits from bit p on: one, unless the held byte has all of them
 abbrev pub part_looks : ℕ → ℕ → ℕ
 part_looks p n = min (n - bits_held p) 1
 

@@ -16,9 +16,9 @@ use vb_count::Glance;
 /// Returns the number of `i` below `len` for which bit `l + i` of `left` and bit `r + i` of `right`
 /// are true.
 ///
-/// `BitOp::And` sets these bits. The caller must prove that both windows are in bounds and that
-/// their ends fit in a `usize`; `vb_bits::window_fits` tests this at run time. It processes words
-/// of 64 bits, four at a time past 512 bits, at any two offsets. Does not allocate.
+/// It counts the bits that `BitOp::And` sets. The caller must prove that both windows are in bounds
+/// and that their ends fit in a `usize`; `vb_bits::window_fits` tests this at run time. It
+/// processes words of 64 bits, four at a time past 512 bits, at any two offsets. Does not allocate.
 pub fn and_count(left: &[u8], l: usize, right: &[u8], r: usize, len: usize) -> usize
     requires left { InBytes left.now l len }
     requires right { InBytes right.now r len }
@@ -30,9 +30,9 @@ pub fn and_count(left: &[u8], l: usize, right: &[u8], r: usize, len: usize) -> u
 /// Returns the number of `i` below `len` for which bit `l + i` of `left` or bit `r + i` of `right`
 /// is true.
 ///
-/// `BitOp::Or` sets these bits. The caller must prove that both windows are in bounds and that
-/// their ends fit in a `usize`; `vb_bits::window_fits` tests this at run time. It processes words
-/// of 64 bits, four at a time past 512 bits, at any two offsets. Does not allocate.
+/// It counts the bits that `BitOp::Or` sets. The caller must prove that both windows are in bounds
+/// and that their ends fit in a `usize`; `vb_bits::window_fits` tests this at run time. It
+/// processes words of 64 bits, four at a time past 512 bits, at any two offsets. Does not allocate.
 pub fn or_count(left: &[u8], l: usize, right: &[u8], r: usize, len: usize) -> usize
     requires left { InBytes left.now l len }
     requires right { InBytes right.now r len }
@@ -44,9 +44,9 @@ pub fn or_count(left: &[u8], l: usize, right: &[u8], r: usize, len: usize) -> us
 /// Returns the number of `i` below `len` for which bit `l + i` of `left` differs from bit `r + i`
 /// of `right`.
 ///
-/// `BitOp::Xor` sets these bits. The caller must prove that both windows are in bounds and that
-/// their ends fit in a `usize`; `vb_bits::window_fits` tests this at run time. It processes words
-/// of 64 bits, four at a time past 512 bits, at any two offsets. Does not allocate.
+/// It counts the bits that `BitOp::Xor` sets. The caller must prove that both windows are in bounds
+/// and that their ends fit in a `usize`; `vb_bits::window_fits` tests this at run time. It
+/// processes words of 64 bits, four at a time past 512 bits, at any two offsets. Does not allocate.
 pub fn xor_count(left: &[u8], l: usize, right: &[u8], r: usize, len: usize) -> usize
     requires left { InBytes left.now l len }
     requires right { InBytes right.now r len }
@@ -58,9 +58,9 @@ pub fn xor_count(left: &[u8], l: usize, right: &[u8], r: usize, len: usize) -> u
 /// Returns the number of `i` below `len` for which bit `l + i` of `left` is true and bit `r + i` of
 /// `right` isn't.
 ///
-/// `BitOp::AndNot` sets these bits. The caller must prove that both windows are in bounds and that
-/// their ends fit in a `usize`; `vb_bits::window_fits` tests this at run time. It processes words
-/// of 64 bits, four at a time past 512 bits, at any two offsets. Does not allocate.
+/// It counts the bits that `BitOp::AndNot` sets. The caller must prove that both windows are in
+/// bounds and that their ends fit in a `usize`; `vb_bits::window_fits` tests this at run time. It
+/// processes words of 64 bits, four at a time past 512 bits, at any two offsets. Does not allocate.
 pub fn andnot_count(left: &[u8], l: usize, right: &[u8], r: usize, len: usize) -> usize
     requires left { InBytes left.now l len }
     requires right { InBytes right.now r len }

@@ -26,7 +26,7 @@ pub get_seen : {S M : Type 0} (see : S → M) (l : List S) (seen : List M) (k : 
 get_seen see l seen k x view held =
     ap (option_map see) held ∙ sym (slice_get-map see l k) ∙ ap (λ m. slice_get m k) view
 
--- the end of a list under a view, after a loan of a part of item k
+-- after a loan of a part of item k, the view of the list differs only at index k
 pub lent : {S M W E : Type 0} (ends : (W → List M) → List M → E) (see : S → M) (make : W → S)
     (l : List S) (seen : List M) (k : ℕ) (x : S)
     → map see l ≡ seen → Some x ≡ slice_get l k

@@ -15,8 +15,7 @@ abbrev pub reply_of : {A : Type 0} → Result (Answer A) Refusal → Reply
 reply_of (Ok answer) = reply answer
 reply_of (Err why) = Refused why
 
--- an order that reads all bits of a set: it returns them as a list or a text, or compares them with
--- another set
+-- an order that returns a list or a text of the bits of a set, or compares two sets
 abbrev pub AsksWhole : Order → Type 0
 AsksWhole (Bits k) = Unit {0}
 AsksWhole (Places k) = Unit {0}
@@ -25,7 +24,7 @@ AsksWhole (Show k) = Unit {0}
 AsksWhole (Eq k j) = Unit {0}
 AsksWhole order = ⊥
 
--- an order that returns a number or an index, or reads all bits of a set
+-- an order that returns a number or an index, returns a list or a text, or compares two sets
 abbrev pub IsQuestion : Order → Type 0
 IsQuestion (Len k) = Unit {0}
 IsQuestion (Count k) = Unit {0}

@@ -49,7 +49,7 @@ impl<A: Allocator + Clone> Pool<A> {
     {
         self.frozen_at(j)?;
         let mut set = self.take_open(k)?;
-        // Slot `j` still holds its set, since slot `k` held an open one.
+        // Slot `j` still holds its frozen set: slot `k` held an open one, so it is another slot.
         let Ok(more) = self.frozen_at(j) else {
             drop(set);
             return Err(Refusal::BadSlot);

@@ -23,7 +23,7 @@ pub(crate) fn append_parts<A: Allocator + Clone>(
     ensures needs { NeedsBits (length (bits_of bits.entry)) result set.old set.new }
 {
     set.reserve(bits.len())?;
-    // This tells the prover that the bits are in bounds of the bytes.
+    // This shows the prover that the bits are in bounds of the bytes.
     let _bytes = set.as_slice();
     for part in 0..bits.len().div_ceil(PART_BITS) {
         let start = PART_BITS * part;

@@ -73,8 +73,8 @@ impl<A: Allocator + Clone> Ranked<A> {
 
     /// Returns a copy of the set, with all its bytes, and of its counts, without counting again.
     /// Allocates once for the bytes with the set's allocator, and once for the counts of the copy's
-    /// capacity with the counts' allocator; does not allocate for no bytes or no bits. Returns
-    /// `OutOfMemory` if memory runs out.
+    /// capacity with the counts' allocator; omits the first if there are no bytes, and the second
+    /// if there are no bits. Returns `OutOfMemory` if memory runs out.
     pub fn clone(&self) -> Result<Self>
         ensures { Makes (λ s. s ≡ record self.now { room = s.room }) result }
     {
@@ -161,7 +161,7 @@ impl<A: Allocator + Clone> Ranked<A> {
     }
 
     /// Returns the index of the `n`-th false bit, counted from 0, or `None` if at most `n` bits are
-    /// false. It runs at the cost of [`select`](Self::select).
+    /// false. It costs as much as [`select`](Self::select).
     pub fn select_unset(&self, n: usize) -> Option<usize>
         ensures place { Selects (complement self.now.bits) n result }
         ensures each { InvertsCount (complement self.now.bits) n result }
@@ -186,7 +186,7 @@ impl<A: Allocator + Clone> Ranked<A> {
 
     /// Finds the false bits of many ranks: sets `places[k]` to the result of
     /// [`select_unset`](Self::select_unset) for `ranks[k]`. `places` must have the length of
-    /// `ranks`. It runs at the cost of [`select_many`](Self::select_many).
+    /// `ranks`. It costs as much as [`select_many`](Self::select_many).
     pub fn select_unset_many(&self, ranks: &[usize], places: &mut [Option<usize>])
         requires { length places.old ≡ length ranks.now }
         ensures places { AllZip (Selects (complement self.now.bits)) ranks.now places.new }

@@ -121,7 +121,7 @@ impl<A: Allocator + Clone> RankedBuffer<A> {
     }
 
     /// Returns the index of the `n`-th false bit, counted from 0, or `None` if at most `n` bits are
-    /// false. It runs at the cost of [`select`](Self::select).
+    /// false. It costs as much as [`select`](Self::select).
     pub fn select_unset(&self, n: usize) -> Option<usize>
         ensures place { Selects (complement self.now.bits) n result }
         ensures each { InvertsCount (complement self.now.bits) n result }
@@ -146,7 +146,7 @@ impl<A: Allocator + Clone> RankedBuffer<A> {
 
     /// Finds the false bits of many ranks: sets `places[k]` to the result of
     /// [`select_unset`](Self::select_unset) for `ranks[k]`. `places` must have the length of
-    /// `ranks`. It runs at the cost of [`select_many`](Self::select_many).
+    /// `ranks`. It costs as much as [`select_many`](Self::select_many).
     pub fn select_unset_many(&self, ranks: &[usize], places: &mut [Option<usize>])
         requires { length places.old ≡ length ranks.now }
         ensures places { AllZip (Selects (complement self.now.bits)) ranks.now places.new }

@@ -64,7 +64,7 @@ pub(crate) fn make_first_room<A: Allocator + Clone>(
     // The 7 bits cover a capacity that is rounded up to a whole byte, as in `ask_for_room`.
     counts.reserve(LEAST_ROOM + 7)?;
     set.reserve_exact(LEAST_ROOM)?;
-    // This tells the prover that the capacity fits in `usize`.
+    // This shows the prover that the capacity fits in `usize`.
     let _room = set.capacity();
     Ok(())
 }
@@ -100,7 +100,7 @@ pub(crate) fn make_room_for<A: Allocator + Clone>(
 }
 
 /// Does the work of [`make_room_for`] for at least one bit if the set is too full or has no bits.
-/// Does not allocate for the counts if they already have the space, as after each growth.
+/// Allocates nothing for the counts if they already have the space.
 ///
 /// A set that is too full gets at least twice the bytes, so that a bit takes amortized constant
 /// time. The call allocates the counts first, so that the capacity of the set does not change if
@@ -138,7 +138,7 @@ fn ask_for_room<A: Allocator + Clone>(
     // The 7 bits cover a capacity that is rounded up to a whole byte.
     counts.reserve((len + more).saturating_add(7))?;
     set.reserve_exact(more)?;
-    // This tells the prover that the capacity fits in `usize`.
+    // This shows the prover that the capacity fits in `usize`.
     let _room = set.capacity();
     Ok(())
 }

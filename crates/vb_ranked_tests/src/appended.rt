@@ -1,5 +1,5 @@
-//! Many bits added at once, beside a plain set and a directory made anew; room, and what a refusal
-//! leaves.
+//! Many bits added at once, compared with a plain set and with a directory made anew; capacity, and
+//! what a refusal leaves.
 use crate::compared::{answers_at, equal, holds};
 use crate::edits::{is_as_new, next};
 use crate::made::{mixed, ones};
@@ -89,7 +89,7 @@ fn directories_with_views_added_are_as_new(rt: HostRuntime) {
 /// True bits: enough for 1,000 of them from bit 5 on.
 const TRUE: [u8; 126] = [0xFF; 126];
 
-/// A call that needs room for bits.
+/// A call that needs capacity for bits.
 #[derive(Clone, Copy)]
 enum Call {
     Reserve,
@@ -100,7 +100,7 @@ enum Call {
 const CALLS: [Call; 3] = [Call::Reserve, Call::AppendN, Call::AppendView];
 
 impl Call {
-    /// Adds 1,000 true bits, or makes room for them.
+    /// Adds 1,000 true bits, or reserves capacity for them.
     fn make<A: Allocator + Clone>(&self, ranked: &mut Ranked<A>) -> Result<()> {
         match self {
             Call::Reserve => ranked.reserve(1000),
@@ -120,8 +120,8 @@ impl Call {
     }
 }
 
-/// Makes a call on a directory of so many true bits. Where it is refused, the directory is as it
-/// was, and the call is made again.
+/// Makes a call on a directory of `len` true bits. If it fails, the directory is unchanged, and the
+/// call is made again.
 fn is_made_or_left<A: Allocator + Clone + Copy>(
     rt: &impl Abort,
     alloc: A,
@@ -161,7 +161,7 @@ fn a_refused_call_leaves_the_directory(rt: HostRuntime) {
     }
 }
 
-/// Adds bits to none, so many each time.
+/// Adds `n` bits `times` times to an empty directory.
 fn append<A: Allocator + Clone>(
     rt: &impl Abort,
     (bits, counts): (A, A),

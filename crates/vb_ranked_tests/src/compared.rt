@@ -1,5 +1,5 @@
-//! What a directory answers beside what is wanted. Each is proved once here, and so tests are
-//! proved in less time.
+//! Comparisons of the results of a directory with what is wanted. Each is proved once here, and so
+//! tests are proved in less time.
 ghost use Rattle.std.specs.Prelude.{◌≡◌, true};
 
 use std::alloc::Allocator;
@@ -42,7 +42,7 @@ pub(crate) fn answers<A: Allocator + Clone>(rt: &impl Abort, ranked: &Ranked<A>,
     }
 }
 
-/// What a directory answers about place `i` and rank `i`, where it has so many bits.
+/// What a directory of at least `i` bits returns for index `i` and rank `i`.
 pub(crate) type Answers = (usize, Option<usize>, Option<usize>);
 
 pub(crate) fn answers_at<A: Allocator + Clone>(
@@ -54,7 +54,7 @@ pub(crate) fn answers_at<A: Allocator + Clone>(
     (ranked.rank(i), ranked.select(i), ranked.select_unset(i))
 }
 
-/// What a view of the bits answers about the same.
+/// What a view of the bits returns for index `i` and rank `i`.
 pub(crate) fn viewed_at(rt: &impl Abort, bits: BitBufferView<'_>, i: usize) -> Answers {
     holds(rt, i <= bits.len());
     (

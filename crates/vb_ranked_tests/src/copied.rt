@@ -1,4 +1,4 @@
-//! Copies of a directory, which answer and are edited by themselves, with each request refused in
+//! Copies of a directory are queried and edited independently of it; each request is refused in
 //! turn.
 use crate::compared::{answers_at, equal};
 use crate::edits::is_as_new;
@@ -38,7 +38,7 @@ fn a_copy_is_edited_by_itself(rt: HostRuntime) {
     }
 }
 
-/// Fills the room of a copy.
+/// Fills a copy up to its capacity.
 fn fill<A: Allocator + Clone>(rt: &impl Abort, mut copy: Ranked<A>) {
     let room = copy.capacity();
     let left = room.saturating_sub(copy.len());
@@ -67,8 +67,8 @@ fn copy<A: Allocator + Clone + Copy>(
     Ok(())
 }
 
-/// The set and its counts make one request each, and so does the copy of either. To fill the
-/// capacity of the copy takes none.
+/// The set and its counts make one request each, and so does the copy of either. Filling the copy
+/// up to its capacity makes none.
 #[test]
 fn a_refused_copy_leaves_the_directory(rt: HostRuntime) {
     let heap = Refusing::new(rt.alloc(), 0);

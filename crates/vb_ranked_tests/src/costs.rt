@@ -10,7 +10,7 @@ use vb_ranked::{Ranked, RankedBuffer};
 use vb_set::{BitBufferMut, BitBufferView, Result};
 use vb_testing::Refusing;
 
-/// Answers one row over counted readers, by at most 16 looks and so many probes.
+/// Checks one row with readers that count: at most 16 looks and `probes` probes.
 fn tallied(rt: &impl Abort, alloc: Global, bits: BitBufferView<'_>, row: Row, probes: u64) {
     let table = table_of(alloc, bits).expect(rt, "a table");
     let mut src = Tally::new(bits.inner());
@@ -43,8 +43,8 @@ fn rows_take_at_most_three_probes(rt: HostRuntime) {
     drop(set);
 }
 
-/// How many probes a select may make, by the number of blocks in the table: as many as the number
-/// of blocks plus 1 has binary digits.
+/// The most probes of a select, by the number of blocks in the table: the number of binary digits
+/// of the number of blocks plus 1.
 const PROBES: [u64; 6] = [1, 2, 2, 3, 3, 3];
 
 const RANKS: [usize; 6] = [0, 1, 255, 511, 700, 1400];
@@ -102,8 +102,8 @@ fn shared<A: Allocator + Clone>((bits, counts): (A, A), len: usize) -> Result<Ra
     RankedBuffer::new(counts, ones(bits, len)?.freeze()?)
 }
 
-/// Clones the directory that was made, by no request for bits and so many bytes of counts. A body
-/// that copies the bits fails here, and so does one that counts them into more room.
+/// Clones the directory that was made: no request for bits, and these requests for counts. A body
+/// that copies the bits fails here, and so does one that allocates more for the counts.
 fn is_shared<A: Allocator + Clone>(
     rt: &impl Abort,
     (bits, counts): (&Refusing<Global>, &Refusing<Global>),
@@ -142,7 +142,7 @@ fn fill<A: Allocator + Clone>(rt: &impl Abort, (bits, counts): (A, A), room: usi
     drop(ranked);
 }
 
-/// The counts of all bits that there is room for are asked for at once.
+/// One request allocates the counts of all bits of the capacity.
 #[test]
 fn room_is_asked_for_once(rt: HostRuntime) {
     let bits = Refusing::new(rt.alloc(), 0);
@@ -152,7 +152,7 @@ fn room_is_asked_for_once(rt: HostRuntime) {
     equal(&rt, (counts.asked(), counts.asked_bytes()), (1, 806));
 }
 
-/// Adds bits to none.
+/// Adds bits to an empty directory.
 fn append<A: Allocator + Clone>(rt: &impl Abort, (bits, counts): (A, A), count: usize) {
     let mut ranked = Ranked::new(counts, BitBufferMut::empty(bits)).expect(rt, "no counts");
     for _ in 0..count {
@@ -161,7 +161,7 @@ fn append<A: Allocator + Clone>(rt: &impl Abort, (bits, counts): (A, A), count: 
     drop(ranked);
 }
 
-/// Adds bits to a set alone.
+/// Adds bits to an empty set without a directory.
 fn append_alone<A: Allocator + Clone>(rt: &impl Abort, bits: A, count: usize) {
     let mut set = BitBufferMut::empty(bits);
     for _ in 0..count {
@@ -170,7 +170,7 @@ fn append_alone<A: Allocator + Clone>(rt: &impl Abort, bits: A, count: usize) {
     drop(set);
 }
 
-/// How many bits are added, how often counts are asked for, and for how many bytes in all.
+/// How many bits are added, the number of requests for counts, and their bytes in all.
 const ADDED: [(usize, u64, usize); 5] = [
     (1, 1, 24),
     (4_096, 1, 24),
@@ -179,7 +179,7 @@ const ADDED: [(usize, u64, usize); 5] = [
     (200_000, 7, 3_048),
 ];
 
-/// Bits that are added ask as seldom as those of a set alone, and their counts seldom too.
+/// A directory makes the same requests for bits as a set, and few requests for counts.
 #[test]
 fn added_bits_ask_seldom(rt: HostRuntime) {
     let bits = Refusing::new(rt.alloc(), 0);

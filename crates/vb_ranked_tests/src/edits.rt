@@ -1,4 +1,4 @@
-//! Random edits of a directory, beside one made anew and beside plain counts.
+//! Random edits of a directory, compared with one made anew and with plain counts.
 use crate::compared::{answers_at, equal, holds, viewed_at};
 use crate::made::mixed;
 use std::alloc::Allocator;
@@ -35,7 +35,7 @@ fn edit<A: Allocator + Clone>(
     equal(rt, ranked.len(), plain.len());
 }
 
-/// Both directories answer as the bits do, about place `i` and rank `i`.
+/// Both directories return the same as the bits for index `i` and rank `i`.
 fn answer_as_bits<A: Allocator + Clone>(
     rt: &impl Abort,
     (ranked, anew): (&Ranked<A>, &Ranked<A>),
@@ -54,7 +54,7 @@ const BORDERS: [usize; 9] = [
     0, 511, 512, 65_535, 65_536, 66_047, 66_048, 131_071, 131_072,
 ];
 
-/// The directory answers as one of the same bits that is made anew, and as the bits do.
+/// The directory returns the same as one of the same bits that is made anew, and as the bits.
 pub(crate) fn is_as_new<A: Allocator + Clone>(
     rt: &impl Abort,
     alloc: A,
@@ -112,8 +112,8 @@ fn flip<A: Allocator + Clone>(
     }
 }
 
-/// Bits of the first group of blocks, of one between, and of the last, and then more, so that a
-/// block or a group begins.
+/// Flips bits of the first group of blocks, of the last one and of one between, and then adds bits
+/// until a new block or group begins.
 #[test]
 fn edited_groups_are_as_new(rt: HostRuntime) {
     let mut state = 0x9E37_79B9_7F4A_7C15;

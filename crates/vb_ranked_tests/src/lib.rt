@@ -1,6 +1,6 @@
-//! Tests of directories of counts: worked rows, the probes and looks of questions, edits and bits
-//! that are added beside a directory made anew, copies, shared sets beside their views, many ranks
-//! a call beside single calls, and calls whose requests for memory are refused.
+//! Tests of directories of counts: worked rows, the probes and looks of queries, edits and appends
+//! compared with a directory made anew, copies, shared sets compared with their views, calls with
+//! many ranks compared with single calls, and calls whose requests for memory are refused.
 #![tactic(auto)]
 
 #[cfg(test)]

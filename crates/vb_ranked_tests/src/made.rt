@@ -10,7 +10,7 @@ pub(crate) fn ones<A: Allocator + Clone>(alloc: A, len: usize) -> Result<BitBuff
     BitBufferMut::new_set(alloc, len)
 }
 
-/// Bits that are true where 5 divides the place.
+/// Bits that are true where 5 divides the index.
 pub(crate) fn by_fives(rt: &impl Abort, alloc: Global, len: usize) -> BitBufferMut<Global> {
     let mut set = BitBufferMut::empty(alloc);
     for i in 0..len {

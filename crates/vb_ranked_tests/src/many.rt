@@ -1,4 +1,4 @@
-//! Many ranks a call, beside a call for each.
+//! Calls with many ranks, compared with a call for each rank.
 use crate::compared::{equal, holds};
 use crate::made::mixed;
 use std::alloc::{Allocator, Global};
@@ -16,7 +16,7 @@ fn ranks(rt: &impl Abort, alloc: Global, len: usize, many: usize) -> Vec<usize, 
     ranks
 }
 
-/// A directory answers many ranks as single calls do.
+/// A call with many ranks returns the same as single calls.
 fn answers_each<A: Allocator + Clone>(
     rt: &impl Abort,
     alloc: Global,
@@ -46,7 +46,7 @@ fn answers_each<A: Allocator + Clone>(
     drop(places);
 }
 
-/// And one of a shared set.
+/// The same for a directory of a shared set.
 fn shared_answers_each(
     rt: &impl Abort,
     alloc: Global,
@@ -122,10 +122,10 @@ fn many_ranks_of_shared_sets_are_answered_as_each(rt: HostRuntime) {
     }
 }
 
-/// Numbers of ranks and places that differ.
+/// The number of ranks and that of places, which differs.
 const UNEQUAL: [(usize, usize); 5] = [(0, 1), (1, 0), (8, 7), (8, 9), (64, 16)];
 
-/// The places hold what they did.
+/// The places are unchanged.
 fn are_untouched(rt: &impl Abort, places: &[Option<usize>]) {
     for place in places {
         equal(rt, *place, Some(7));

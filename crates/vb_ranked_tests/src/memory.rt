@@ -1,5 +1,5 @@
-//! What a directory asks of two allocators, that of its bits and that of its counts: how many
-//! requests, and for how many bytes. No contract can say it.
+//! What a directory allocates from two allocators, that of its bits and that of its counts: the
+//! number of requests, and their bytes. No contract can say it.
 use crate::compared::{answers_at, equal, holds};
 use crate::costs::TAKEN;
 use crate::made::ones;
@@ -12,7 +12,7 @@ use vb_testing::Refusing;
 /// The requests for bits and their bytes, and those for counts and theirs.
 type Asked = (u64, usize, u64, usize);
 
-/// What two heaps were asked for since the last call of this function.
+/// The requests to two heaps since the last call of this function.
 fn asked(bits: &Refusing<Global>, counts: &Refusing<Global>) -> Asked {
     let (ones, bytes) = (bits.asked(), bits.asked_bytes());
     let asked = (ones, bytes, counts.asked(), counts.asked_bytes());
@@ -49,7 +49,7 @@ impl Call {
     }
 }
 
-/// Adds bits to none, so many times.
+/// Adds the bits of `added` to an empty directory `times` times.
 fn grow<A: Allocator + Clone>(
     rt: &impl Abort,
     (bits, counts): (A, A),
@@ -64,7 +64,7 @@ fn grow<A: Allocator + Clone>(
     drop(ranked);
 }
 
-/// How many bits are added at a time, how many times, and what is asked for in all.
+/// How many bits are added at a time, how many times, and the requests in all.
 const GROWN: &[(usize, usize, Asked)] = &[
     (1, 100_000, (12, 32_760, 6, 1512)),
     (100, 1000, (11, 25_588, 6, 1512)),
@@ -86,7 +86,7 @@ fn bits_added_at_once_ask_seldom(rt: HostRuntime) {
     }
 }
 
-/// A directory of true bits, with room for so many in all.
+/// A directory of `len` true bits, with a capacity of `room` bits.
 fn roomy<A: Allocator + Clone>(
     rt: &impl Abort,
     (bits, counts): (A, A),
@@ -98,7 +98,7 @@ fn roomy<A: Allocator + Clone>(
     Ranked::new(counts, set).expect(rt, "counts")
 }
 
-/// Edits the bits at these places, and asks about them.
+/// Edits the bits at these indices, and queries them.
 fn edit<A: Allocator + Clone>(rt: &impl Abort, ranked: &mut Ranked<A>, places: &[usize]) {
     for i in places {
         set_to(rt, ranked, *i, false);
@@ -117,7 +117,7 @@ fn set_to<A: Allocator + Clone>(rt: &impl Abort, ranked: &mut Ranked<A>, i: usiz
     equal(rt, ranked.value(i), v);
 }
 
-/// Adds bits by each call, within the room.
+/// Adds bits by each call, within the capacity.
 fn fill<A: Allocator + Clone>(rt: &impl Abort, ranked: &mut Ranked<A>, bits: BitBufferView<'_>) {
     for call in CALLS {
         call.add(ranked, bits).expect(rt, "room");

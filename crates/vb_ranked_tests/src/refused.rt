@@ -44,14 +44,14 @@ fn a_refused_request_refuses_the_directory(rt: HostRuntime) {
     equal(&rt, (heap.asked(), heap.has_refused()), (3, false));
 }
 
-/// Places to ask about, of the first three blocks.
+/// Indices to query, in the first three blocks.
 const IN_BLOCKS: [usize; 5] = [0, 511, 512, 1023, 1024];
 
-/// Places of four groups.
+/// Indices in four groups.
 const IN_GROUPS: [usize; 5] = [65_535, 65_536, 131_071, 131_072, 196_608];
 
-/// Adds true bits to none. A refused append leaves the directory as it was, and the next one adds
-/// the bit.
+/// Adds true bits to an empty directory. A refused append leaves it as it was, and the next one
+/// adds the bit.
 fn append<A: Allocator + Clone + Copy>(
     rt: &impl Abort,
     alloc: A,
@@ -76,7 +76,7 @@ fn append<A: Allocator + Clone + Copy>(
     answer
 }
 
-/// A body that asks for memory at each append, or at each block, fails here.
+/// A body that allocates at each append, or at each block, fails here.
 #[test]
 fn a_refused_append_leaves_the_directory(rt: HostRuntime) {
     let heap = Refusing::new(rt.alloc(), 0);
@@ -85,7 +85,7 @@ fn a_refused_append_leaves_the_directory(rt: HostRuntime) {
         let wanted = heap.wanted(Ok(()), Err(BufferError::OutOfMemory));
         equal(&rt, answer, wanted);
     }
-    // Six for the bytes, whose room doubles, and one for the counts.
+    // Six for the bytes, whose capacity doubles, and one for the counts.
     equal(&rt, (heap.asked(), heap.has_refused()), (7, false));
 }
 
@@ -102,7 +102,7 @@ fn a_refused_append_leaves_the_groups(rt: HostRuntime) {
     equal(&rt, (heap.asked(), heap.has_refused()), (20, false));
 }
 
-/// Adds a true bit to none, in a set that has room for it.
+/// Adds a true bit to an empty directory whose set has capacity for it.
 fn append_first<A: Allocator + Clone + Copy>(rt: &impl Abort, alloc: A) -> Result<()> {
     let set = BitBufferMut::with_capacity(alloc, 1000)?;
     let mut ranked = Ranked::new(alloc, set)?;
@@ -124,7 +124,7 @@ fn a_refused_first_append_leaves_the_directory(rt: HostRuntime) {
         let wanted = heap.wanted(Ok(()), Err(BufferError::OutOfMemory));
         equal(&rt, answer, wanted);
     }
-    // The room of the set, and the counts of as many bits.
+    // The capacity of the set, and the counts of that many bits.
     equal(&rt, (heap.asked(), heap.has_refused()), (2, false));
 }
 

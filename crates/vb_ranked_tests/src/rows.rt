@@ -7,7 +7,7 @@ use vb_rank::table_of;
 use vb_ranked::Ranked;
 use vb_set::{BitBufferMut, BitBufferView};
 
-/// 1,100 bits, true where 5 divides the place.
+/// 1,100 bits, true where 5 divides the index.
 pub(crate) const BY_FIVES: &[Row] = &[
     Row::Rank(0, 0),
     Row::Rank(512, 103),
@@ -62,7 +62,7 @@ fn indexed(
     ranked
 }
 
-/// Writes bit 1, and asks.
+/// Writes bit 1, and checks the rows.
 fn answers_with_bit_1<A: Allocator + Clone>(
     rt: &impl Abort,
     ranked: &mut Ranked<A>,

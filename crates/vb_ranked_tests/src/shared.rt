@@ -1,5 +1,5 @@
-//! Directories over shared sets, beside views of the bits, and the calls that a directory forwards
-//! to its set.
+//! Directories over shared sets, compared with views of the bits, and the calls that a directory
+//! forwards to its set.
 use crate::compared::{Row, equal, holds, viewed_at};
 use crate::made::{by_fives, mixed, ones};
 use crate::rows::BY_FIVES;
@@ -22,7 +22,7 @@ fn of_part(
     RankedBuffer::new(alloc, part).expect(rt, "counts")
 }
 
-/// It answers as its view, about place `i` and rank `i`.
+/// It returns the same as its view for index `i` and rank `i`.
 fn answers_as_view<A: Allocator + Clone>(rt: &impl Abort, ranked: &RankedBuffer<A>, i: usize) {
     if i <= ranked.len() {
         let given = (ranked.rank(i), ranked.select(i), ranked.select_unset(i));
@@ -67,7 +67,8 @@ fn shared_parts_answer_as_their_views(rt: HostRuntime) {
     drop(set);
 }
 
-/// A clone answers as its view, also once the directory is gone; the bits are the same.
+/// A clone has the bits of its directory, and returns the same as its view, even after the
+/// directory is dropped.
 #[test]
 fn clones_answer_as_their_directories(rt: HostRuntime) {
     let set = mixed(&rt, rt.alloc(), 5, 131_073)
@@ -164,7 +165,7 @@ fn a_frozen_directory_is_counted_anew(rt: HostRuntime) {
     drop(shared);
 }
 
-/// Makes a directory, shares its set, and makes one of that.
+/// Makes a directory, shares its set, and makes a directory of the shared set.
 fn make<A: Allocator + Clone + Copy>(rt: &impl Abort, alloc: A) -> Result<()> {
     let set = Ranked::new(alloc, ones(alloc, 2560)?)?.freeze()?;
     let ranked = RankedBuffer::new(alloc, set)?;

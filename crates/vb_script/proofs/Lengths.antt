@@ -19,7 +19,7 @@ pub length_fourth : (n : ℕ) → 1000 ≤ n → n < 10000 → length (decimal n
 length_fourth n low high = length_pair n (omega (arith, low)) (omega (arith, high))
     ∙ ap (λ k. k + 2) (length_two (n / 100) (omega (arith, low)) (omega (arith, high)))
 
--- a number of more than eight digits has eight more than the number before its last eight
+-- a number of more than eight digits has eight digits more than its quotient by 10 ^ 8
 pub length_eight : (n : ℕ) → 10 ^ 8 ≤ n → n < 2 ^ 64
     → length (decimal n) ≡ 8 + length (decimal (n / 10 ^ 8))
 length_eight n low high =

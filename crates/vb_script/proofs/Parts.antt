@@ -7,7 +7,7 @@ use Rattle.std.proofs.lemmas.List.{drop-take, length-drop}
 use Rattle.std.proofs.lemmas.List.Edits.{take-paste, length-paste}
 use Rattle.vb_script.proofs.Searches.{position_or_len-le, position_or_len-le-append, position-drop}
 
--- the part from s to e is the rest of the first e items after the first s
+-- the part from s to e is the first e items without the first s
 pub part_behind : (xs : List ℕ) (s e : ℕ) → s ≤ e → take (e - s) (drop s xs) ≡ drop s (take e xs)
 part_behind xs s e le =
     let same : s + (e - s) ≡ e = omega arith in

@@ -433,7 +433,7 @@ UnlessWrite-anyway (Err Read) P h = h
 UnlessWrite-anyway (Err Write) P h = tt
 UnlessWrite-anyway (Err Memory) P h = h
 
--- the same if the last line may have no command
+-- the commands that a session ran, also if its last line has no command
 pub Run-ends : (first written : Option (List ℕ)) (out : List ℕ) (slots : List Slot)
     (fed : List ℕ) (n : ℕ) (written' : Option (List ℕ)) (slots' : List Slot)
     (r : Result (Unit {0}) DriveError) → RanAny first (append_known written out) slots

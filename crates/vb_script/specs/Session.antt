@@ -11,8 +11,8 @@ use Rattle.vb_command.specs.Reading.{asks_memory, reading, script}
 use Rattle.vb_script.specs.declared.error.DriveError.{DriveError}
 use Rattle.vb_script.specs.declared.error.DriveError.TheVariants.{Unreadable, Read, Write, Memory}
 
--- the answer to a line with this reading and its effect on the slots: none if it has no command,
--- otherwise those of its command
+-- the answer to a line with this reading, and the effect of the line on the slots: those of its
+-- command; without a command there is no answer and no slot changes
 abbrev pub RepliesTo : Option (Option Order) → List Slot → Option Reply → List Slot → Type 0
 RepliesTo None s r t = ⊥
 RepliesTo (Some None) s r t = (r ≡ None) × (t ≡ s)
@@ -69,8 +69,8 @@ pub record AnswersLines (ls : List (List ℕ)) (old new : Option (List ℕ)) : T
   pub ran : Run empty_slots commands replies last
   pub written : Appends old new (lines_of replies)
 
--- the line of this number, within the bytes that were read, cannot be read, and the lines before it
--- were answered
+-- the line of this number, within the bytes that were read, cannot be parsed, or its number is
+-- 2 ^ 64 - 1; the lines before it were answered
 pub record StopsAt (input rest : List ℕ) (line : ℕ) (old new : Option (List ℕ)) : Type 0 where
   pub bytes : List ℕ
   pub front : input ≡ bytes ++ rest

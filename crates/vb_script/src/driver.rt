@@ -18,7 +18,7 @@ use std::alloc::{AllocError, Allocator};
 /// Reads lines to the end of the input, runs the command of each, and writes the answers, one on
 /// each line. The slots are empty at the start, and are dropped at the end.
 ///
-/// The session writes the answers to all whole lines that it has read before it reads more bytes.
+/// Before it reads more bytes, the session writes the answers to all whole lines that it has read.
 /// It allocates memory for the sets and the answers of commands, for 65536 bytes of the input or at
 /// most twice the longest line, and once for 65536 bytes of answers. It does not allocate to print
 /// answers.

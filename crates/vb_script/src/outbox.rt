@@ -107,7 +107,7 @@ impl<A: Allocator> Outbox<A> {
         Ok(())
     }
 
-    /// Appends a byte and then a number in decimal, if the buffer may have no space for both. It is
+    /// Appends a byte and then a number in decimal, also if the buffer has no space for both. It is
     /// a separate function, so that the common case, a buffer with space, saves no registers for
     /// these calls.
     #[cold]
@@ -126,7 +126,7 @@ impl<A: Allocator> Outbox<A> {
         self.put_number(n, output)
     }
 
-    /// Appends a number in decimal and then a line feed, if the buffer may have no space for both.
+    /// Appends a number in decimal and then a line feed, also if the buffer has no space for both.
     /// It is a separate function for the same reason.
     #[cold]
     #[inline(never)]

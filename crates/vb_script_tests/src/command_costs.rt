@@ -11,7 +11,7 @@ use vb_testing::Refusing;
 /// More bytes than the block that counts owners takes.
 const OWNER: usize = 256;
 
-/// The line of a command, how many bytes it asks for by one request, and how many owners.
+/// The line of a command, the bytes that it allocates by one request, and the number of owners.
 type Row = (&'static str, usize, usize);
 
 /// Sets of 80,000 bits take 10,000 bytes, and sets of no bits none. A block has at least 8 bytes.
@@ -32,14 +32,14 @@ const EDITED: &[Row] = &[
     ("flip 0", 0, 0),
     ("full 1 0 600", 75, 0),
     ("freeze 1", 0, 1),
-    // Within the room.
+    // Within the capacity.
     ("truncate 0 8000", 0, 0),
     ("append 0 1", 0, 0),
     ("appendn 0 1 60000", 0, 0),
     ("appendset 0 1", 0, 0),
     ("clear 0", 0, 0),
     ("appendn 0 1 80000", 0, 0),
-    // The room doubles.
+    // The capacity doubles.
     ("append 0 1", 20_000, 0),
     ("append 0 1", 0, 0),
     ("appendset 0 1", 0, 0),
@@ -100,7 +100,7 @@ const OPERATED: &[Row] = &[
 const TAKEN: &[Row] = &[
     ("full 0 1 80000", 10_000, 0),
     ("freeze 0", 0, 1),
-    // A body with room for all bits fails here.
+    // A body that allocates for all bits fails here.
     ("take 0 1 - 0,1,79999", 8, 1),
     ("take 0 2 1 0,1,2", 8, 1),
     ("take 0 3 - -", 0, 1),
@@ -128,7 +128,7 @@ const ASKED: &[Row] = &[
     ("bits 2", 0, 0),
     ("places 2", 0, 0),
     ("runs 2", 0, 0),
-    // A body that pushes places into room that grows fails here.
+    // A body that pushes indices to a vector that grows fails here.
     ("indices 3 8000 1,3,5,7,9", 1000, 0),
     ("places 3", 40, 0),
 ];
@@ -187,8 +187,8 @@ fn long_import(alloc: Global) -> Result<String, AllocError> {
     line
 }
 
-/// A body that copies bytes that are given away fails here: it asks once too, but for more than an
-/// owner takes.
+/// A body that copies bytes that are given away fails here: it makes one request too, but for more
+/// than an owner takes.
 #[test]
 fn a_long_import_that_is_given_away_copies_nothing(rt: HostRuntime) {
     let heap = Refusing::new(rt.alloc(), 0);
@@ -200,7 +200,7 @@ fn a_long_import_that_is_given_away_copies_nothing(rt: HostRuntime) {
     drop((pool, line));
 }
 
-/// Commands that are refused before any memory is asked for. They follow the lines of [`FILLED`],
+/// Commands that are refused before anything is allocated. They follow the lines of [`FILLED`],
 /// which put an open set of nine bits in slot 0, a frozen one in 1, and a frozen one of eight bits
 /// in 2.
 const REFUSED: &[&str] = &[
@@ -268,7 +268,7 @@ fn commands_that_are_refused_ask_for_nothing(rt: HostRuntime) {
     drop(pool);
 }
 
-/// A bad index is refused after the bytes were asked for, and before their owner.
+/// A bad index is refused after the bytes are allocated, and before their owner is.
 #[test]
 fn memory_comes_before_indices(rt: HostRuntime) {
     let heap = Refusing::new(rt.alloc(), 0);
@@ -295,7 +295,7 @@ fn memory_comes_before_indices(rt: HostRuntime) {
     drop(pool);
 }
 
-/// A text shows the first bits alone, however many there are.
+/// `show` prints only the first bits, so a longer set takes no more memory.
 #[test]
 fn a_text_takes_the_same_of_each_length(rt: HostRuntime) {
     let heap = Refusing::new(rt.alloc(), 0);

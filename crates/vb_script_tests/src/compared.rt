@@ -1,5 +1,5 @@
 //! Sessions, and comparisons of what is given with what is wanted. Each is proved once here,
-//! whereas an `assert_eq!` is proved again, with all that it prints, wherever it stands.
+//! whereas each use of `assert_eq!` is proved again, with all that it prints.
 use std::alloc::{Allocator, Global};
 use std::fmt::Debug;
 use std::process::Abort;
@@ -10,7 +10,7 @@ pub(crate) fn equal<T: Copy + PartialEq + Debug>(rt: &impl Abort, given: T, want
     assert_eq!(rt; given, wanted);
 }
 
-/// How a session ends from this source to this sink. The source is given up.
+/// Runs a session and returns how it ends. Drops the source.
 pub(crate) fn end_of<A: Allocator + Clone, S: Source + Drop, W: Sink>(
     alloc: A,
     mut source: S,

@@ -1,12 +1,12 @@
-//! Requests for memory in a session: the room of a long line doubles, and a line that is read
-//! within the room and makes no set or list makes no request.
+//! Requests for memory in a session: the buffer of a long line doubles, and a line that fits in it
+//! and makes no set or list makes no request.
 use crate::compared::{equal, session};
 use std::alloc::{AllocError, Global};
 use std::process::Abort;
 use vb_script::{DriveError, FromRead};
 use vb_testing::Refusing;
 
-/// A session over these lines ends well, and makes so many requests, for so many bytes.
+/// A session over these lines ends well, and makes `wanted.0` requests for `wanted.1` bytes.
 fn asks(rt: &impl Abort, global: Global, lines: &[u8], wanted: (u64, usize)) {
     let heap = Refusing::new(global, 0);
     let (ended, written) = session(global, &heap, FromRead::new(lines));
@@ -65,7 +65,7 @@ const WORK: &[&str] = &[
 /// Lines that make these sets.
 const SETS: &[u8] = b"full 0 1 800\nfull 1 1 800\nfreeze 1\n";
 
-/// The sets, and behind them a line so many times.
+/// The lines of [`SETS`], and then a line `times` times.
 fn repeated(global: Global, line: &str, times: usize) -> Result<Vec<u8>, AllocError> {
     let mut lines = Vec::new(global);
     lines.extend_from_slice(SETS)?;

@@ -1,19 +1,19 @@
-//! Memory that is refused in the middle of a session: the lines before it are answered, and a line
-//! that can't be read asks for none.
+//! Memory that runs out in the middle of a session: the lines before are answered, and a line that
+//! can't be read doesn't allocate.
 use crate::compared::{ends, equal, session};
 use std::alloc::Global;
 use std::process::Abort;
 use vb_script::{DriveError, FromRead};
 use vb_testing::Refusing;
 
-/// Lines and their answers. The first line takes memory for its bytes, as the refused line of
-/// [`IMPORT`] does.
+/// Lines and their answers. The first line allocates its bytes, as the refused line of [`IMPORT`]
+/// does.
 const LINES: &[u8] = b"import 0 0 8 14\ncount 0\nlen 1\n";
 
 const ANSWERED: &str = "ok\n2\nrefused BadSlot\n";
 
-/// The same lines, then one whose bytes take memory, and one more. The session may not end at the
-/// first `import`, whose memory is there.
+/// The same lines, then one that allocates its bytes, and one more. The session may not end at the
+/// first `import`, which gets its memory.
 const IMPORT: &[u8] = b"import 0 0 8 14\ncount 0\nlen 1\nimport 1 0 8 14\ncount 0\n";
 
 /// The same lines, then one whose bytes can't be read, and one more.

@@ -9,7 +9,7 @@ use std::str;
 use vb_script::{FromRead, ToWrite, drive};
 use vb_testing::{Handle, Refusing};
 
-/// A session over these lines is that of the plain machine. A copy of its allocator is a request
+/// Compares a session over these lines with the plain machine. A copy of its allocator is a request
 /// too.
 fn drive_is_plain(rt: &impl Abort, global: Global, heap: &Refusing<Global>, lines: &str) {
     let mut source = FromRead::new(lines.as_bytes());
@@ -22,8 +22,8 @@ fn drive_is_plain(rt: &impl Abort, global: Global, heap: &Refusing<Global>, line
     drop(written);
 }
 
-/// A session makes a request, and is plain whatever request, copies of the allocator among them, is
-/// refused.
+/// Compares a session with the plain machine, with each of its requests refused in turn, copies of
+/// the allocator too. It makes at least one request.
 fn each_is_refused(rt: &impl Abort, global: Global, heap: &Refusing<Global>, lines: &str) {
     for _ in heap.in_turn() {
         drive_is_plain(rt, global, heap, lines);
@@ -52,7 +52,8 @@ enum Memory {
     Refused,
 }
 
-/// So many random lines, in sessions that each end at a line that can't be read, are plain.
+/// Compares sessions over `most` random lines with the plain machine. Each session ends at a line
+/// that can't be read.
 fn random_sessions_are_plain(
     rt: &impl Abort,
     global: Global,

@@ -1,8 +1,7 @@
 //! Tests of commands and of whole sessions: which lines can be read, what commands and answers look
-//! like, and what a line and a command ask of the allocator; what goes in by lines and what comes
-//! out, streams that fail, and memory that is refused. Sessions of all commands and random sessions
-//! are compared with a plain machine (`machine`), with ample memory and with each request refused
-//! in turn.
+//! like, and what a line and a command allocate; the output for an input, streams that fail, and
+//! memory that runs out. Sessions of all commands and random sessions are compared with a plain
+//! machine (`machine`), with ample memory and with each request refused in turn.
 #![tactic(auto)]
 
 #[cfg(test)]

@@ -1,5 +1,4 @@
-//! What a line asks of the allocator: as many bytes as its bytes or numbers take, by one request,
-//! and nothing where it has none.
+//! What reading a line allocates: one block for its bytes or numbers, and nothing if it has none.
 use crate::compared::equal;
 use std::alloc::Allocator;
 use std::process::Abort;
@@ -9,7 +8,7 @@ use vb_testing::Refusing;
 /// A line, how many requests it makes, and for how many bytes.
 type Row = (&'static str, u64, usize);
 
-/// Bodies that push items into room that grows fail here.
+/// Bodies that push items to a vector that grows fail here.
 const ROWS: &[Row] = &[
     (
         "import 0 0 256 000102030405060708090a0b0c0d0e0f101112131415161718191a1b1c1d1e1f",

@@ -1,11 +1,11 @@
 //! Which lines can be read, and what each kind of word means. The tests of sessions show by the
-//! answers which command each name stands for.
+//! answers which command each name means.
 use crate::compared::equal;
 use std::alloc::Global;
 use std::process::Abort;
 use vb_command::{Command, Mode, Unread, command_of};
 
-/// A command with these fields, of which a list is borrowed.
+/// A command with these fields. It borrows its list, if it has one.
 enum Asked<'a> {
     Len(usize),
     Get(usize, usize),
@@ -38,7 +38,7 @@ impl Asked<'_> {
     }
 }
 
-/// A line asks for this command.
+/// A line has this command.
 fn asks(rt: &impl Abort, alloc: Global, line: &str, asked: &Asked<'_>) {
     let read = command_of(&alloc, line.as_bytes()).expect(rt, line);
     let command = read.expect(rt, line);
@@ -47,7 +47,7 @@ fn asks(rt: &impl Abort, alloc: Global, line: &str, asked: &Asked<'_>) {
     equal(rt, (line, is_asked), (line, true));
 }
 
-/// Lines, and what they ask for.
+/// Lines, and their commands.
 const READABLE: &[(&str, Asked<'static>)] = &[
     ("len 3", Asked::Len(3)),
     ("len 16", Asked::Len(16)),
@@ -88,8 +88,8 @@ fn each_kind_of_word_is_read(rt: HostRuntime) {
     }
 }
 
-/// Words and items of about 16 bytes: a separator is sought in 16 bytes at once, or byte by byte if
-/// fewer follow.
+/// Words and items of about 16 bytes. The code looks for a separator in 16 bytes at a time, or byte
+/// by byte if fewer are left.
 const LONG_PARTS: &[(&str, Asked<'static>)] = &[
     ("get 0000000000003 7", Asked::Get(3, 7)),
     ("get 00000000000003 7", Asked::Get(3, 7)),

@@ -29,7 +29,7 @@ impl Model for OneByOne {
 }
 
 impl OneByOne {
-    /// No answers, and room for them.
+    /// No answers, and a buffer for them.
     pub(crate) fn new(alloc: Global) -> Result<Self, AllocError> {
         Ok(OneByOne {
             bytes: Vec::with_capacity(alloc, ROOM)?,
@@ -102,7 +102,7 @@ impl OneByOne {
         Ok(())
     }
 
-    /// Adds a run: where it begins, and the place behind it.
+    /// Adds a run: where it begins, and the index after its end.
     fn put_run<W: Sink>(&mut self, run: (usize, usize), output: &mut W) -> Result<(), Fault> {
         let (start, end) = run;
         self.put_number(start, output)?;
@@ -124,8 +124,8 @@ impl OneByOne {
         Ok(())
     }
 
-    /// Adds truth values as binary digits, no more than there is room for. What waits is written
-    /// first where there is no room for both.
+    /// Adds truth values as binary digits, at most as many as the buffer holds. If both don't fit,
+    /// writes what waits first.
     fn put_block<W: Sink>(&mut self, bits: &[bool], output: &mut W) -> Result<(), Fault>
         requires { length bits.now ≤ 65536 }
     {
@@ -136,7 +136,7 @@ impl OneByOne {
         Ok(())
     }
 
-    /// Adds bytes. What waits is written first where there is no room for both.
+    /// Adds bytes. If both don't fit, writes what waits first.
     fn put<W: Sink>(&mut self, bytes: &[u8], output: &mut W) -> Result<(), Fault> {
         if bytes.len() > ROOM - self.bytes.len() {
             self.flush(output)?;
@@ -161,7 +161,7 @@ impl OneByOne {
     }
 }
 
-/// Adds truth values as binary digits to bytes that have room for them.
+/// Adds truth values as binary digits to bytes that have the capacity.
 fn push_digits(bytes: &mut Vec<u8>, bits: &[bool])
     requires { length bytes.old.items + length bits.now ≤ vec_capacity bytes.old }
     ensures len { length bytes.new.items ≡ length bytes.old.items + length bits.now }

@@ -5,7 +5,7 @@ use std::alloc::Global;
 /// Lines that have no answer.
 const SKIPPED: &[&str] = &["", "  ", "# len 0", " #"];
 
-/// Words that most lines can't be read with.
+/// Words that make most lines unreadable.
 const OTHER_WORDS: &[&str] = &[
     "",
     "x",
@@ -76,7 +76,7 @@ const NO_SLOTS: &[&str] = &["16", "17", "18446744073709551615"];
 
 const MODES: &[&str] = &["ref", "own"];
 
-/// What stands before indexes.
+/// What precedes indexes.
 const SIGNS: &[&str] = &["", "", "", "", "", "", "", "-"];
 
 /// Generates lines from a sequence of numbers that a seed determines.
@@ -145,7 +145,7 @@ impl Random {
         most
     }
 
-    /// Adds a group of lines on three slots, which are emptied first and looked at last.
+    /// Adds a group of lines on three slots: lines before empty them, and lines after print two.
     fn add_group(&mut self) {
         let slots = SLOTS.get(self.below(SLOTS.len())).copied();
         let slots = slots.unwrap_or(('0', '1', '2'));
@@ -183,7 +183,7 @@ impl Random {
         }
     }
 
-    /// Adds a word of a kind, or rarely one that most lines can't be read with.
+    /// Adds a word of a kind, or rarely one that makes most lines unreadable.
     fn add_word(&mut self, kind: Kind) {
         match kind {
             _ if self.below(500) == 0 => self.add_one_of(OTHER_WORDS),

@@ -4,7 +4,7 @@ use vb_script::{Answer, Command, Pool, run};
 
 #[test]
 fn commands_without_text_are_answered(rt: HostRuntime) {
-    // Ten rows from bit 3 of the first byte on, questioned by commands.
+    // Ten rows from bit 3 of the first byte on, queried by commands.
     let bytes = [0b1110_1000u8, 0b0000_0110].to_vec(rt.alloc());
     let commands = [
         Command::Import(0, 3, 10, bytes.expect(&rt, "memory")),

@@ -107,8 +107,8 @@ runs 1
 runs 4
 ";
 
-/// Each operator, lent and owned, on sets that share storage and on ones that don't, at equal and
-/// unequal offsets, and refused for each of its reasons.
+/// Each operator, lent and owned, on sets that share storage and on sets that don't, at equal and
+/// at unequal offsets, and with each of its refusals.
 const OPERATORS: &str = "\
 import 0 3 70 f8ff0123456789abcdef
 import 1 0 70 550123456789abcdef77

@@ -41,8 +41,8 @@ fn commands<A: Allocator + Clone>(
     commands
 }
 
-/// The lines before each session: slots that it fills last, or not at all, hold a frozen set and an
-/// open one.
+/// The lines before each session. They put a frozen set and an open one into slots that the session
+/// fills last or not at all.
 const HELD: &str = "full 14 1 70\nfreeze 14\nimport 15 3 9 f8ff\n";
 
 /// Runs commands and writes their answers, one a line. Returns false, and writes nothing, if the
@@ -95,7 +95,7 @@ fn run_is_plain(
     drop(text);
 }
 
-/// A session is plain whatever request is refused. It makes `requests` requests.
+/// Compares a session with the plain machine, with each of its `requests` requests refused in turn.
 fn each_is_refused(rt: &impl Abort, global: Global, (whole, lines): (&str, &str), requests: u64) {
     let heap = Refusing::new(global, 0);
     for request in heap.in_turn() {

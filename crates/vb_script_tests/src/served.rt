@@ -27,8 +27,8 @@ pub(crate) enum Way {
     Owned,
 }
 
-/// Carries out the command of a line, and answers whether it was done and not refused. What the
-/// heap counts then is what the command asked for.
+/// Carries out the command of a line, and returns whether it was done and not refused. After that
+/// the heap has counted only the requests of the command.
 pub(crate) fn serve<'a>(
     rt: &impl Abort,
     heap: Heap<'a>,

@@ -10,7 +10,7 @@ use std::io::Read;
 use std::process::Abort;
 use vb_script::{DriveError, FromRead, ToWrite, drive};
 
-/// What is written where all lines are answered. Its contract rests on that of `drive` alone.
+/// The output of a session that answers all lines. Its contract follows from that of `drive` alone.
 fn answers(alloc: Global, input: &[u8]) -> Result<Vec<u8>, DriveError>
     ensures { IfOk result (λ bytes. AnswersLines (lines input.now) (Some []) (Some bytes.items)) }
 {
@@ -43,7 +43,7 @@ impl Read for Pieces<'_> {
 /// The sizes of the pieces in which an input comes.
 const SIZES: [usize; 4] = [1, 2, 7, 1_000_000];
 
-/// A session over these lines in pieces of each size ends so, and writes this.
+/// A session over these lines, in pieces of each size, ends with `wanted` and writes `answered`.
 fn pieces_end(
     rt: &impl Abort,
     alloc: Global,
@@ -58,7 +58,7 @@ fn pieces_end(
     }
 }
 
-/// Lines, and what they are answered.
+/// Lines, and their answers.
 const ANSWERED: &[(&str, &str)] = &[
     ("", ""),
     (
@@ -164,7 +164,7 @@ fn lines_are_answered(rt: HostRuntime) {
     }
 }
 
-/// Lines, the number of the one that can't be read, and what those before it are answered.
+/// Lines, the number of the one that can't be read, and the answers of those before it.
 const UNREADABLE: &[(&[u8], u64, &str)] = &[
     (b"import 0 0 8 1\nlen 0\n", 1, ""),
     (

@@ -4,7 +4,7 @@ use std::alloc::Global;
 use std::process::Abort;
 use vb_command::command_of;
 
-/// Lines, and what is shown of the commands that they ask for: a field of each kind.
+/// Lines, and the texts of their commands: a field of each kind.
 const SHOWN: &[(&str, &str)] = &[
     ("import 3 7 9 09affa", "Import(3, 7, 9, [9, 175, 250])"),
     ("full 0 1 9", "Full(0, true, 9)"),

@@ -11,7 +11,7 @@ use std::process::Abort;
 use vb_script::{DriveError, Fault, FromRead, Pool, Sink, Source, ToWrite, command_of};
 use vb_testing::{FaultyReader, FaultyWriter};
 
-/// Two lines, which are answered alike.
+/// Two lines with the same answer.
 const LINES: &[u8] = b"len 0\nlen 1\n";
 
 /// After how many bytes of the lines a read fails, and the answers to the lines that were read
@@ -99,7 +99,7 @@ fn a_sink_of_ones_own_faults(rt: HostRuntime) {
     equal(&rt, ended, Err(DriveError::Write));
 }
 
-/// A session whose write fails ends so, and nothing is written.
+/// A session whose write fails ends with `wanted`, and nothing is written.
 fn write_fails(rt: &impl Abort, alloc: Global, lines: &str, wanted: Result<(), DriveError>) {
     let mut sink = ToWrite::new(FaultyWriter::new(Vec::new(alloc), 0));
     let ended = end_of(alloc, FromRead::new(lines.as_bytes()), &mut sink);
@@ -109,7 +109,7 @@ fn write_fails(rt: &impl Abort, alloc: Global, lines: &str, wanted: Result<(), D
     equal(rt, (lines, ended, is_empty), (lines, wanted, true));
 }
 
-/// Lines, and how a session over them ends whose first write fails.
+/// Lines, and how a session over them ends if its first write fails.
 const WRITES: &[(&str, Result<(), DriveError>)] = &[
     ("len 0\n", Err(DriveError::Write)),
     ("len 0", Err(DriveError::Write)),
@@ -319,7 +319,7 @@ fn answers_do_not_pile_up(rt: HostRuntime) {
     drop(sink);
     drop(lines);
     let is_narrow = written.widest.get() < 65536 + 16;
-    // They are written by blocks.
+    // A write has the answers of many lines.
     let is_rare = written.writes.get() <= 20;
     let bytes = written.bytes.get();
     drop(written);
@@ -327,12 +327,12 @@ fn answers_do_not_pile_up(rt: HostRuntime) {
     equal(&rt, (is_narrow, is_rare), (true, true));
 }
 
-/// Lines that make an open set and a frozen one. Three times they are answered `ok`.
+/// Lines that make an open set and a frozen one. Their three answers are `ok`.
 const SETS: &str = "indices 1 20000 5,6,7,10,12,99,100,101,1000,12345,12346\n\
     full 2 1 7\nfreeze 2\n";
 
-/// Lines over these sets. They are answered by a number, by words, by words and a number, by places
-/// and by runs, in 132 bytes.
+/// Lines over these sets. Their answers are a number, words, words and a number, indices, and runs,
+/// 132 bytes in all.
 const LAST_LINES: &str = "last 1\nlen 9\ntake 2 3 - 0,7\nplaces 1\nruns 1\n";
 
 /// Lines whose answers leave `room` of the buffer's 65,536 bytes free, and then [`LAST_LINES`].
@@ -342,7 +342,7 @@ fn lines_to_room(alloc: Global, room: usize) -> Result<String, AllocError> {
     format!(in alloc; "{SETS}full 0 1 {bits}\nbits 0\n{LAST_LINES}")
 }
 
-/// The lines are answered, and what they are answered is put into the sink piece by piece.
+/// Carries out the lines, and writes their answers to the sink piece by piece.
 fn put_one_by_one(rt: &impl Abort, alloc: Global, lines: &str, sink: &mut impl Sink) {
     let mut pool = Pool::new();
     let mut out = OneByOne::new(alloc).expect(rt, "memory");
@@ -356,7 +356,7 @@ fn put_one_by_one(rt: &impl Abort, alloc: Global, lines: &str, sink: &mut impl S
     drop((pool, out));
 }
 
-/// A session over these lines writes as many bytes at each write as it does piece by piece.
+/// Each write of a session over these lines is as wide as when they are written piece by piece.
 fn is_cut_between_pieces(rt: &impl Abort, alloc: Global, lines: &str) {
     let (given, wanted) = (Written::default(), Written::default());
     let mut sink = ToWrite::new(Counting(&given));
@@ -370,9 +370,9 @@ fn is_cut_between_pieces(rt: &impl Abort, alloc: Global, lines: &str) {
     equal(rt, (lines, ended, widths.0), (lines, Ok(()), widths.1));
 }
 
-/// Over all values of `room`, each piece of the last answers ends at the end of the buffer, and at
-/// each distance before it up to more than 21 bytes, the most that a number and the byte next to it
-/// take. Each write has the same width as when the pieces are written one by one.
+/// For some `room`, each piece of the last answers ends at the end of the buffer, and for others at
+/// each distance of up to 21 bytes before it: a number and a byte next to it take at most 21. Each
+/// write has the same width as when the pieces are written one by one.
 #[test]
 fn writes_are_cut_between_pieces(rt: HostRuntime) {
     for room in 0..160 {

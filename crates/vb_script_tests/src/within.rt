@@ -1,11 +1,10 @@
-//! Lines with other bytes behind them: each is read as it is by itself.
+//! Lines with other bytes after them: each is read as if it were alone.
 use crate::compared::equal;
 use std::alloc::Global;
 use std::process::Abort;
 use vb_command::{command_of, command_within};
 
-/// What may stand behind a line: nothing, too few bytes to make 32 with the line, and enough for
-/// that.
+/// What may follow a line: nothing, too few bytes to make 32 with the line, or enough.
 const BEHIND: &[&[u8]] = &[
     b"",
     b"\n",
@@ -29,14 +28,14 @@ fn both(rt: &impl Abort, alloc: Global, line: &[u8], behind: &[u8]) {
     drop((given, wanted));
 }
 
-/// The same, whatever stands behind it.
+/// A line is read the same, whatever follows it.
 fn alike(rt: &impl Abort, alloc: Global, line: &[u8]) {
     for behind in BEHIND {
         both(rt, alloc, line, behind);
     }
 }
 
-/// Lines with and without a command, with spaces at all places.
+/// Lines with and without a command, with spaces at all positions.
 const LINES: &[&str] = &[
     "",
     " ",
@@ -105,8 +104,8 @@ fn lines_of_about_32_bytes_are_read_alike(rt: HostRuntime) {
     }
 }
 
-/// Where a byte that isn't ASCII stands in a question, in the 32 bytes that are looked at at once,
-/// at their end and behind them.
+/// Questions with a byte that isn't ASCII: within the first 32 bytes, which are read at once, at
+/// their end, and after them.
 const HIGH: &[(&str, u8, &str)] = &[
     ("", 128, "et 0 7"),
     ("get 0 7", 255, ""),

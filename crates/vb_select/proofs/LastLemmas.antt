@@ -176,7 +176,7 @@ IsPrevious_later v b o n m r le p off = go r p
       ],
     )
 
--- the last one in a front of the window is the previous one in the window
+-- the last one in the front of `min n before` bits is the last one before index `before`
 pub IsPrevious_longer : (v : Bool) (b : List ℕ) (o n m before : ℕ) (r : Option ℕ)
     → m ≡ min n before → IsPrevious (hits v (bits b o m)) m r
     → IsPrevious (hits v (bits b o n)) before r

@@ -124,7 +124,7 @@ ShowsBefore-raised v b o n k w shows some inside few = record {
   clear = λ i lo. shifted_low w (64 - n) i lo (omega arith);
 }
 
--- that word, in a window that ends before bit e
+-- a bit of the window that ends before bit o + n, as a digit of that word
 pub shown_before : (v : Bool) (b : List ℕ) (o n t w i : ℕ) → ShowsBefore v b (o + n) t w
     → i < n → t + n ≤ 64 + i → has_bit w (64 + i - n) ≡ hit v (bit_of b (o + i))
 shown_before v b o n t w i shows l from =
@@ -341,7 +341,7 @@ zero_if x y same = (
   ],
 )
 
--- the other side of a test for 0
+-- if r is the test of n for 0, its negation is the test for more than 0
 pub some_if : (r : Bool) (n : ℕ) → (IsTrue r ↔ (n ≡ 0)) → IsTrue (not r) ↔ (0 < n)
 some_if true n is = (λ t. absurd cc, λ some. absurd (omega (arith, some, is.0 refl)))
 some_if false n is = (

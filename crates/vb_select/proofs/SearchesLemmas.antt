@@ -53,7 +53,8 @@ Searched_longer v b o m z n p within s =
     subst (λ x. Searched (hits v (bits b o x)) n (Break p)) e
     (subst (λ l. Searched l n (Break p)) (sym (hits-bits-add v b o m (z - m))) t)
 
--- searched in a front of the window, which holds the sought bit unless it is the whole window
+-- the result in a front of the window is that in the window, if the front holds the sought bit or
+-- is the whole window
 pub Searched_front : (v : Bool) (b : List ℕ) (o m z n : ℕ) (r : ControlFlow ℕ ℕ)
     → m ≤ z → (m < z → n < count (hits v (bits b o m)))
     → Searched (hits v (bits b o m)) n r → Searched (hits v (bits b o z)) n r

@@ -77,7 +77,7 @@ off_in_window v b o n a k x y within few off i lo hi =
     subst (λ z. at (hits v (bits b o n)) z ≡ false) e
     (in_window v b o n a k (i - a) (omega arith) within ∙ off (i - a) (omega arith) (omega arith))
 
--- their number
+-- the number of values is the number of bits in the window
 pub long : (v : Bool) (b : List ℕ) (o n : ℕ) → length (hits v (bits b o n)) ≡ n
 long v b o n = length-hits v (bits b o n) ∙ length-bits b o n
 

@@ -1,4 +1,4 @@
--- A search that continues from list to list with the rest of a rank.
+-- A search that continues from list to list with the rank that is left.
 use Rattle.std.specs.Prelude.{◌≡◌, ℕ, ◌+◌, ◌-◌, ◌*◌, ◌^◌, ◌<◌, ◌≤◌, Bool, List, Option, Some}
 use Rattle.std.specs.Prelude.{length}
 use Rattle.std.below.core.specs.declared.ops.ControlFlow.{ControlFlow}

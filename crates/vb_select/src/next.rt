@@ -279,7 +279,7 @@ fn are_without(bytes: &[u8], at: usize, n: usize, value: bool) -> bool
     ones == n
 }
 
-/// Passes words of the `n` from byte `at` on, `size` at a time, while none of their bits is
+/// Passes words, `size` at a time, of the `n` words from byte `at` on, while none of their bits is
 /// `value`. Starts after the first `done` words, which have no such bit. Returns the number of
 /// words passed, including these.
 #[inline(always)]

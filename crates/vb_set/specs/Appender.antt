@@ -19,7 +19,7 @@ module _ {A : Type 0} {g : Ghosts A} where
   abbrev pub pending_of : BitAppender A g → List Bool
   pending_of a = digits a.word 0 a.count
 
-  -- there is capacity for the bits that are pending, and for those that may be
+  -- there is capacity for as many bits as may be pending, and their end fits in 64 bits
   pub record IsReady (a : BitAppender A g) : Type 0 where
     pub room : length (set_of a).bits + a.limit ≤ (set_of a).room
     pub fits : (set_of a).offset + length (set_of a).bits + a.limit < 2 ^ 64

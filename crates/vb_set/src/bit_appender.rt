@@ -36,7 +36,7 @@ impl<'a, A: Allocator + Clone> BitAppender<'a, A> {
         ensures lends { IsSameReference (target_of result) set.entry }
         ensures none { HasAdded set.old [] result }
     {
-        // This tells the prover that the bits are in bounds of the bytes and within the capacity.
+        // This shows the prover that the bits are in bounds of the bytes and within the capacity.
         let (_bytes, _room) = (set.as_slice(), set.capacity());
         BitAppender {
             set,

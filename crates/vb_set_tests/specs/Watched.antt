@@ -1,5 +1,5 @@
 -- Iterators whose number of items is one of their fields. The law of `TrustedLen` cites the lemma,
--- and so it stands in specs.
+-- and so it is in specs.
 use Rattle.std.specs.Prelude.{ℕ, ⊤, Option}
 use Rattle.std.specs.Iterator.{at_most}
 use Rattle.vb_core.specs.ExactCounts.{exact_count}

@@ -5,7 +5,7 @@ ghost use Rattle.vb_pack.specs.Bits.{bits};
 
 use vb_pack::collect_bool_bytes;
 
-/// Packs the answers of a closure that is true at first and changes each time.
+/// Packs the results of a closure that first returns true and then alternates.
 pub fn alternating(bytes: &mut [u8], len: usize)
     requires { len ≤ 8 * length bytes.old }
     ensures { bits bytes.new 0 len ≡ map (λ i. i % 2 == 0) (span 0 len) }
@@ -22,7 +22,7 @@ pub fn alternating(bytes: &mut [u8], len: usize)
     );
 }
 
-/// How often a closure is asked, as it counts itself.
+/// The number of calls of a closure, by its own count.
 pub fn asked(bytes: &mut [u8], len: usize) -> usize
     requires { len ≤ 8 * length bytes.old }
     ensures { result ≡ len }

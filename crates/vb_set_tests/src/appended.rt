@@ -56,7 +56,7 @@ impl Source {
     }
 }
 
-/// The truth values of a view.
+/// The bits of a view as a list of truth values.
 fn list_of<A: Allocator>(rt: &impl Abort, alloc: A, bits: BitBufferView<'_>) -> Vec<bool, A> {
     let mut list = Vec::new(alloc);
     for bit in bits.iter() {
@@ -154,11 +154,11 @@ fn a_refused_extend_fills_the_room(rt: HostRuntime) {
         let wanted = heap.wanted(Ok(()), Err(BufferError::OutOfMemory));
         equal(&rt, answer, wanted);
     }
-    // The room for the first bits, and more of it some times.
+    // One request for the first bits, and four to grow.
     equal(&rt, (heap.has_refused(), heap.asked()), (false, 5));
 }
 
-/// Within its room a set takes no memory, and keeps the room.
+/// Within its capacity a set doesn't allocate, and keeps the capacity.
 fn stays<A: Allocator + Clone>(
     rt: &impl Abort,
     heap: &Refusing<Global>,
@@ -189,7 +189,7 @@ fn stays_with_set<A: Allocator + Clone>(
     drop(added);
 }
 
-/// The rest of the room is filled bit by bit, with no memory.
+/// Fills the rest of the capacity bit by bit, without allocating.
 fn fills<A: Allocator + Clone>(
     rt: &impl Abort,
     heap: &Refusing<Global>,

@@ -13,7 +13,7 @@ fn bit_at(i: usize) -> bool {
     (i % 3 == 0) != (i % 7 == 0)
 }
 
-/// Appends so many bits to the set and to the list.
+/// Appends the same bits to the set and to the list.
 fn append_both<A: Allocator + Clone, B: Allocator>(
     set: &mut BitBufferMut<A>,
     list: &mut Vec<bool, B>,
@@ -105,8 +105,8 @@ fn is_kept<A: Allocator + Clone>(
     drop(set);
 }
 
-/// Each request is refused in turn: the appender fails at the bit at which `append` does, after as
-/// many requests for as many bytes.
+/// Each request is refused in turn: the appender fails at the same bit as `append`, after the same
+/// number of requests and bytes.
 #[test]
 fn no_bit_is_lost_where_memory_runs_out(rt: HostRuntime) {
     let heap = Refusing::new(rt.alloc(), 0);

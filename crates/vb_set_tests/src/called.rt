@@ -1,14 +1,14 @@
-//! Closures called at the bits of sets, beside plain loops over the bits.
+//! Closures called for the bits of sets, compared with plain loops over the bits.
 //!
-//! A closure notes the places at which it is called in one number, so that each place and their
-//! order count.
+//! A closure mixes all indices that it gets into one number, which depends on each index and on
+//! their order.
 use crate::compared::{equal, shows_set};
 use crate::patterns::{part, scattered, thirds};
 use std::alloc::Allocator;
 use std::process::Abort;
 use vb_set::{BitBuffer, Result};
 
-/// The number `noted` with one place more.
+/// The number `noted` after one index more.
 fn note(noted: u64, place: usize) -> u64 {
     noted
         .wrapping_mul(1_000_003)
@@ -16,7 +16,7 @@ fn note(noted: u64, place: usize) -> u64 {
         .wrapping_add(1)
 }
 
-/// What was noted of the true places, of the false places, and of each place with its bit.
+/// The numbers for the indices of true bits, for those of false bits, and for all with their bits.
 type Notes = (u64, u64, u64);
 
 fn notes_of_loop<A: Allocator + Clone>(source: &BitBuffer<A>) -> Notes {
@@ -66,7 +66,7 @@ fn mapped_is_plain<A: Allocator + Clone>(rt: &impl Abort, set: &BitBuffer<A>) {
     drop(even);
 }
 
-/// Parts of the set, which begin and end in bytes and words or at their ends.
+/// Parts of the set, which begin and end within bytes and words or at their borders.
 const PARTS: [(usize, usize); 6] = [(0, 200), (0, 0), (0, 64), (3, 64), (5, 69), (7, 137)];
 
 #[test]
@@ -95,8 +95,8 @@ fn a_mapped_part_counts_its_places_from_0(rt: HostRuntime) {
     mapped_part(&rt, thirds(rt.alloc(), 20));
 }
 
-/// The result of a walk over the true places that ends at place `last`, and the places it visited
-/// as decimal digits.
+/// The result of a walk over the true bits that ends at index `last`, and the indices it visited as
+/// decimal digits.
 #[tactic(auto, using(vb_pack::proofs::AnswersLemmas::CanAsk_always))]
 fn walk_to<A: Allocator + Clone>(set: &BitBuffer<A>, last: usize) -> (Result<(), usize>, usize) {
     let mut asked = 0usize;

@@ -1,5 +1,5 @@
-//! Callers of views that write, and of appends. A test only asserts what runs. Proved here is that
-//! a caller can reason about what is written through a view, and what is appended within the
+//! Callers of views that write, and of appends. Tests only check runs. The clauses here prove that
+//! a caller can reason about what is written through a view, and about what is appended within the
 //! capacity.
 ghost use Rattle.std.specs.Prelude.{◌≡◌, ℕ, ◌+◌, ◌<◌, ◌≤◌, [], ◌∷◌, length, slice_set, take};
 ghost use Rattle.std.specs.Prelude.{true, false, IsOk, OnOk, OnErr};
@@ -19,7 +19,7 @@ pub(crate) fn edit_through_view<A: Allocator + Clone>(set: &mut BitBufferMut<A>)
     set.as_mut_view().set_to(7, true);
 }
 
-/// Edits a set and asks through one view.
+/// Edits and queries a set through one view.
 pub(crate) fn edit_and_count<A: Allocator + Clone>(set: &mut BitBufferMut<A>, i: usize) -> usize
     requires { i < length set.old.bits }
     ensures bits { set.new.bits ≡ with_fill (slice_set set.old.bits i false) 0 i true }

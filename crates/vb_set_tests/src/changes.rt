@@ -8,7 +8,7 @@ use vb_core::trusted_len;
 use vb_set::{BitBufferMut, BitBufferView, BufferError, Result};
 use vb_testing::{Handle, Refusing};
 
-/// An edit that takes memory where there is no room left.
+/// An edit that allocates if no capacity is left.
 enum Edit {
     Append,
     AppendTrue,
@@ -49,7 +49,7 @@ impl Edit {
     }
 }
 
-/// The edits, and how many true or how many false bits each adds.
+/// The edits, and the numbers of true and of false bits that each adds.
 const EDITS: &[(Edit, (usize, usize))] = &[
     (Edit::Append, (0, 1)),
     (Edit::AppendTrue, (1, 0)),
@@ -64,7 +64,7 @@ const EDITS: &[(Edit, (usize, usize))] = &[
     (Edit::Reserve, (100, 0)),
 ];
 
-/// The offset of a set, its length, its room, and how many bytes it has.
+/// The offset of a set, its length, its capacity, and the number of its bytes.
 pub(crate) type Layout = (usize, usize, usize, usize);
 
 pub(crate) fn layout<A: Allocator + Clone>(set: &BitBufferMut<A>) -> Layout {
@@ -99,7 +99,7 @@ fn is_longer<A: Allocator + Clone>(
     equal(rt, view.select_unset(0), first_false);
 }
 
-/// Edits a set of true bits that has no room left. A refusal leaves the set and its room.
+/// Edits a set of true bits that is full. A refusal leaves the set and its capacity.
 fn is_longer_or_left<A: Allocator + Clone>(
     rt: &impl Abort,
     set: &mut BitBufferMut<A>,
@@ -144,7 +144,7 @@ fn is_refused_or_made(
         let wanted = heap.wanted(Ok(()), Err(BufferError::OutOfMemory));
         equal(rt, answer, wanted);
     }
-    // The room for the first bits, and what the edit asks for.
+    // One request for the first bits, and one of the edit.
     equal(rt, heap.has_refused(), false);
     equal(rt, heap.asked(), 2);
 }
@@ -166,7 +166,7 @@ fn place_of<A: Allocator + Clone>(made: Result<BitBufferMut<A>>) -> Result<(usiz
     Ok(place)
 }
 
-/// Takes a set. A refusal leaves the set and its room.
+/// Takes a set. A refusal leaves the set and its capacity.
 fn take<A: Allocator + Clone>(
     rt: &impl Abort,
     made: Result<BitBufferMut<A>>,
@@ -203,7 +203,7 @@ fn grow<A: Allocator + Clone>(rt: &impl Abort, set: &mut BitBufferMut<A>, edit: 
     }
 }
 
-/// Grows a set from no room on.
+/// Grows an empty set.
 fn is_grown<A: Allocator + Clone>(
     rt: &impl Abort,
     alloc: A,
@@ -217,8 +217,8 @@ fn is_grown<A: Allocator + Clone>(
     drop(set);
 }
 
-/// A body that gives up once the set has grown to some length fails here, and so does one that asks
-/// for room at each call, or for more and more of it.
+/// A body that gives up once the set has grown to some length fails here, and so does one that
+/// allocates at each call, or allocates more and more.
 #[test]
 fn growth_goes_on_while_there_is_memory(rt: HostRuntime) {
     let heap = Refusing::new(rt.alloc(), 0);

@@ -8,7 +8,7 @@ use std::process::Abort;
 use vb_set::{BitBuffer, BitBufferMut, BitBufferView, BufferError, Result};
 use vb_testing::{Handle, Refusing};
 
-/// A call that makes a set of what a closure answers.
+/// A call that makes a set of the results of a closure.
 enum Call {
     Open,
     OpenMultiversioned,
@@ -26,7 +26,7 @@ const CALLS: &[(Call, u64)] = &[
 ];
 
 impl Call {
-    /// Whether exactly the even places are true of what it makes.
+    /// Whether exactly the bits at even indices are true in the result.
     fn makes_even<A: Allocator + Clone, F: FnMut(usize) -> bool>(
         &self,
         alloc: A,
@@ -62,7 +62,7 @@ fn shared_is_even<A: Allocator + Clone>(made: Result<BitBuffer<A>>) -> Result<bo
     Ok(even)
 }
 
-/// Whether there are 130 bits, true exactly at even places.
+/// Whether there are 130 bits, true exactly at even indices.
 fn is_even(view: BitBufferView<'_>) -> bool {
     let mut even = view.len() == 130;
     for (i, bit) in view.iter().enumerate() {
@@ -71,8 +71,8 @@ fn is_even(view: BitBufferView<'_>) -> bool {
     even
 }
 
-/// A call of 130 places with a closure that is true at first and changes its answer each time. It
-/// is asked once for each place, and not at all where memory is refused.
+/// A call for 130 bits with a closure that first returns true and then alternates. It is called
+/// once for each bit, and never if memory runs out.
 #[tactic(auto, using(vb_pack::proofs::AnswersLemmas::CanAsk_always))]
 fn alternating<A: Allocator + Clone>(rt: &impl Abort, call: &Call, alloc: A) -> Result<bool> {
     let (mut next, mut asked) = (true, 0usize);

@@ -1,6 +1,6 @@
 //! Comparisons of what is given with what is wanted. Each is proved once here, and so tests are
-//! proved in less time. A set is given up by a call of `drop`, which is proved in a fifth of the
-//! time that the end of a block takes.
+//! proved in less time. Sets are dropped by a call of `drop`: its proof takes a fifth of the time
+//! of the one of a drop at the end of a block.
 ghost use Rattle.std.specs.Prelude.{◌≡◌, true};
 
 use std::alloc::Allocator;
@@ -41,7 +41,7 @@ pub(crate) fn shows_set<A: Allocator + Clone>(rt: &impl Abort, set: &BitBuffer<A
     }
 }
 
-/// The set has these bits, by each of them and by its count.
+/// The set has these bits; compares each bit and the count of true ones.
 pub(crate) fn same<A: Allocator + Clone>(rt: &impl Abort, set: &BitBufferMut<A>, list: &[bool]) {
     equal(rt, set.len(), list.len());
     let mut ones = 0usize;
@@ -54,7 +54,7 @@ pub(crate) fn same<A: Allocator + Clone>(rt: &impl Abort, set: &BitBufferMut<A>,
     equal(rt, set.as_view().true_count(), ones);
 }
 
-/// Whether it was made. It is dropped.
+/// Whether the call made a value. Drops it.
 pub(crate) fn is_made<M: Drop>(made: Result<M>) -> bool {
     match made {
         Ok(made) => {
@@ -65,7 +65,7 @@ pub(crate) fn is_made<M: Drop>(made: Result<M>) -> bool {
     }
 }
 
-/// The set that was made has so many bits, in these bytes.
+/// The set that was made has `len` bits, in these bytes.
 pub(crate) fn packs<A: Allocator + Clone>(
     rt: &impl Abort,
     made: Result<BitBuffer<A>>,
@@ -78,7 +78,7 @@ pub(crate) fn packs<A: Allocator + Clone>(
     drop(set);
 }
 
-/// The set to edit that was made has so many bits, in these bytes.
+/// The same for a set to edit.
 pub(crate) fn packs_open<A: Allocator + Clone>(
     rt: &impl Abort,
     made: Result<BitBufferMut<A>>,

@@ -1,5 +1,5 @@
-//! What calls ask of the allocator: an owner for `freeze`, nothing for other calls that share or
-//! work in place, and at most twice the bytes that they need where they copy or grow.
+//! What calls allocate: an owner for `freeze`, nothing for other calls that share or work in place,
+//! and at most twice the bytes that they need if they copy or grow.
 use crate::compared::equal;
 use crate::made::ones;
 use crate::makers::{cloned, copied, edited, frozen, opened, taken};
@@ -39,14 +39,14 @@ impl Open {
     }
 }
 
-/// The set with room for as many bits again.
+/// The set after `reserve` for as many bits again.
 fn reserved<A: Allocator + Clone>(made: Result<BitBufferMut<A>>) -> Result<BitBufferMut<A>> {
     let mut set = made?;
     let answer = set.reserve(8000);
     edited(set, answer)
 }
 
-/// The set with room for half as many bits again.
+/// The set after `reserve_exact` for half as many bits again.
 fn reserved_exactly<A: Allocator + Clone>(
     made: Result<BitBufferMut<A>>,
 ) -> Result<BitBufferMut<A>> {
@@ -55,7 +55,7 @@ fn reserved_exactly<A: Allocator + Clone>(
     edited(set, answer)
 }
 
-/// The set shortened, and lengthened within its room.
+/// The set shortened, and lengthened within its capacity.
 fn lengthened<A: Allocator + Clone>(made: Result<BitBufferMut<A>>) -> Result<BitBufferMut<A>> {
     let mut set = made?;
     set.truncate(100);
@@ -75,9 +75,9 @@ const OPEN: &[(Open, u64, usize, usize)] = &[
     (Open::Take, 0, 0, 0),
     (Open::Clone, 1, 1000, 2000),
     (Open::CopyFrom, 2, 1001, 2256),
-    // A body that asks for four times the room fails here.
+    // A body that allocates four times the capacity fails here.
     (Open::Reserve, 1, 2000, 4000),
-    // A body that doubles the room fails here.
+    // A body that doubles the capacity fails here.
     (Open::ReserveExact, 1, 1500, 1500),
     (Open::Within, 0, 0, 0),
     (Open::Not, 0, 0, 0),
@@ -104,7 +104,7 @@ fn sets_to_edit_ask_for_what_they_need(rt: HostRuntime) {
     }
 }
 
-/// The set that was made has no bits, and room for eight thousand.
+/// The set that was made has no bits, and capacity for eight thousand.
 fn has_room<A: Allocator + Clone>(rt: &impl Abort, made: Result<BitBufferMut<A>>) {
     let set = made.expect(rt, "a set");
     equal(rt, set.len(), 0);
@@ -112,7 +112,7 @@ fn has_room<A: Allocator + Clone>(rt: &impl Abort, made: Result<BitBufferMut<A>>
     drop(set);
 }
 
-/// A body that asks for a megabyte more fails here.
+/// A body that allocates a megabyte more fails here.
 #[test]
 fn room_is_what_was_asked_for(rt: HostRuntime) {
     let heap = Refusing::new(rt.alloc(), 0);
@@ -121,7 +121,7 @@ fn room_is_what_was_asked_for(rt: HostRuntime) {
     equal(&rt, heap.asks_within(1000, 2000), true);
 }
 
-/// How many true bits a set has once it is to be edited, and None where it has another owner.
+/// Opens a set for edits and returns its number of true bits; None if it has another owner.
 fn count_opened<A: Allocator + Clone>(set: BitBuffer<A>) -> Option<usize> {
     match set.try_into_mut() {
         Ok(open) => {

@@ -1,4 +1,4 @@
-//! Worked rows: what edits answer and leave.
+//! Worked rows: what edits return and leave.
 use crate::changes::{is_left, layout};
 use crate::compared::{equal, holds, same};
 use crate::made::window;
@@ -49,7 +49,7 @@ const EDITED: &[(usize, &[Edit], Result<()>, &[bool])] = &[
     ),
 ];
 
-/// Makes the edits of a row. Answers what the last one does.
+/// Makes the edits of a row. Returns what the last one does.
 fn make_all<A: Allocator + Clone>(set: &mut BitBufferMut<A>, edits: &[Edit]) -> Result<()> {
     let mut answer = Ok(());
     for edit in edits {
@@ -58,7 +58,7 @@ fn make_all<A: Allocator + Clone>(set: &mut BitBufferMut<A>, edits: &[Edit]) -> 
     answer
 }
 
-/// The edits of a row answer so, and leave these bits.
+/// The edits of a row return this, and leave these bits.
 fn is_edited<A: Allocator + Clone>(
     rt: &impl Abort,
     made: Result<BitBufferMut<A>>,
@@ -99,8 +99,8 @@ fn open_place<A: Allocator + Clone>(set: &BitBufferMut<A>) -> (usize, usize, usi
     (set.offset(), set.len(), set.inner().len())
 }
 
-/// Appends so many bits to one at offset 13 that the new length is a `usize`, but the end of the
-/// bits isn't: the offset adds to it.
+/// Appends bits to one bit at offset 13. The new length would be a `usize`, but not the sum of it
+/// and the offset.
 fn is_left_as_one<A: Allocator + Clone>(rt: &impl Abort, made: Result<BitBufferMut<A>>) {
     let mut set = made.expect(rt, "a set");
     let before = layout(&set);
@@ -146,7 +146,7 @@ fn resize_within_the_room_asks_for_nothing(rt: HostRuntime) {
     );
 }
 
-/// Takes away the one bit of a set, and none where there is none.
+/// Pops the only bit of a set. The next `pop` returns None.
 fn is_emptied<A: Allocator + Clone>(rt: &impl Abort, made: Result<BitBufferMut<A>>) {
     let mut set = made.expect(rt, "a set");
     equal(rt, (set.pop(), set.pop()), (Some(true), None));
@@ -159,7 +159,7 @@ fn pop_takes_the_last_bit_or_none(rt: HostRuntime) {
     is_emptied(&rt, window(rt.alloc(), (0xFF, 4), 13, 1));
 }
 
-/// Cuts off all but four bits at offset 13, and then these.
+/// Truncates a set at offset 13 to four bits, and then clears it.
 fn are_cut_off<A: Allocator + Clone>(rt: &impl Abort, made: Result<BitBufferMut<A>>) {
     let mut set = made.expect(rt, "a set");
     set.truncate(4);

@@ -1,16 +1,16 @@
-//! Edits of sets beside the same edits of plain lists.
+//! Edits of sets, compared with the same edits of plain lists.
 use crate::compared::{equal, holds, same};
 use crate::made::window;
 use std::alloc::Allocator;
 use std::process::Abort;
 use vb_set::{BitBufferMut, Result};
 
-/// The places of the first bit, and the lengths, at which each edit is tried.
+/// The offsets and the lengths at which each edit is tried.
 pub(crate) const OFFSETS: [usize; 5] = [0, 3, 5, 7, 13];
 
 pub(crate) const LENGTHS: [usize; 9] = [0, 1, 7, 8, 63, 64, 65, 129, 200];
 
-/// The bits that every byte of the sets has, those outside of the window too.
+/// The value of every byte of the sets, outside of the window too.
 const PATTERN: u8 = 0b1011_0010;
 
 /// The bits of a window of such bytes.
@@ -54,7 +54,7 @@ fn lengthen<A: Allocator + Clone>(
     same(rt, set, list);
 }
 
-/// Cuts off what is behind a length, or fills up to it.
+/// Truncates to a length, or fills up to it.
 fn resize<A: Allocator + Clone>(
     rt: &impl Abort,
     set: &mut BitBufferMut<A>,
@@ -78,7 +78,7 @@ fn shorten<A: Allocator + Clone>(
     same(rt, set, list);
 }
 
-/// Adds bits `v` for as long as the bytes have a place for them.
+/// Adds bits `v` as long as they fit in the bytes.
 fn fill_bytes<A: Allocator + Clone>(
     rt: &impl Abort,
     set: &mut BitBufferMut<A>,
@@ -95,7 +95,7 @@ fn fill_bytes<A: Allocator + Clone>(
     same(rt, set, list);
 }
 
-/// Adds bits `v` for as long as there is room for them, which stays.
+/// Adds bits `v` up to the capacity, which stays the same.
 fn fill_room<A: Allocator + Clone>(
     rt: &impl Abort,
     set: &mut BitBufferMut<A>,
@@ -123,7 +123,7 @@ fn edited_is_plain<A: Allocator + Clone>(
     write(set, list, v);
     same(rt, set, list);
     lengthen(rt, set, list, v);
-    // About half of the bits are kept. Those that are cut off stand behind the end then.
+    // Keeps half of the bits. Those that are cut off are stale bits after the end.
     let n = list.len() / 2;
     set.truncate(n);
     list.truncate(n);
@@ -151,7 +151,7 @@ fn negated_is_plain<A: Allocator + Clone>(
     set
 }
 
-/// The set cleared, and with bits anew.
+/// Clears the set, and adds bits again.
 fn cleared_is_plain<A: Allocator + Clone>(rt: &impl Abort, set: &mut BitBufferMut<A>) {
     set.clear();
     same(rt, set, &[]);
@@ -159,7 +159,7 @@ fn cleared_is_plain<A: Allocator + Clone>(rt: &impl Abort, set: &mut BitBufferMu
     same(rt, set, &[true; 9]);
 }
 
-/// Every edit of the set, each beside that of the list.
+/// Every edit of the set, each compared with that of the list.
 fn edits_are_plain<A: Allocator + Clone>(
     rt: &impl Abort,
     made: Result<BitBufferMut<A>>,

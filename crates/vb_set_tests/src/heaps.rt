@@ -1,8 +1,8 @@
-//! Which of two allocators is asked for memory, by a call and by later calls on its result. No
-//! contract can say it.
+//! From which of two allocators a call and later calls on its result allocate. No contract can say
+//! it.
 //!
-//! One of two heaps is refused each of its requests in turn. The other one would refuse its first
-//! request, and is asked for nothing.
+//! One of two heaps refuses each of its requests in turn. The other one would refuse its first
+//! request, but gets none.
 use crate::compared::equal;
 use crate::made::window;
 use crate::makers::{cloned, edited, frozen, opened};
@@ -17,8 +17,8 @@ fn nine<A: Allocator + Clone>(alloc: A) -> Result<BitBuffer<A>> {
     frozen(window(alloc, (0xFF, 3), 3, 9))
 }
 
-/// A second owner of a set that was made, to which false bits are added; then a copy of it. Answers
-/// how many bits there are, and how many of them are true.
+/// Opens a second owner of a set that was made, adds false bits, and copies the result. Returns the
+/// number of its bits, and that of the true ones.
 fn grown<A: Allocator + Clone>(made: Result<BitBuffer<A>>) -> Result<(usize, usize)> {
     let mut set = opened(twin(made))?;
     let answer = set.append_n(false, 1000);
@@ -39,7 +39,7 @@ fn counts<A: Allocator + Clone>(made: Result<BitBufferMut<A>>) -> Result<(usize,
     Ok(counts)
 }
 
-/// A call that copies the bits of a set, and is handed an allocator.
+/// A call that copies the bits of a set with a given allocator.
 enum Copy {
     OfView,
     OfMutView,
@@ -96,8 +96,7 @@ fn copy_of_mut_view<A: Allocator + Clone>(set: BitBuffer<A>, alloc: A) -> Result
     }
 }
 
-/// The heap that is handed in is refused each of its requests, and that of the set is asked for
-/// nothing.
+/// The given heap refuses each of its requests in turn, and that of the set gets none.
 fn asks_the_handed_one(
     rt: &impl Abort,
     (own, handed): (&Refusing<Global>, &Refusing<Global>),
@@ -135,8 +134,7 @@ fn of_vector<A: Allocator + Clone>(
     frozen(BitBufferMut::from_bool_vec(alloc, values))
 }
 
-/// The heap that is handed in is refused each of its requests, and that of the vector is asked for
-/// nothing.
+/// The given heap refuses each of its requests in turn, and that of the vector gets none.
 fn asks_nothing_of_a_vector(
     rt: &impl Abort,
     (own, handed): (&Refusing<Global>, &Refusing<Global>),
@@ -223,7 +221,7 @@ fn a_set_asks_its_own(rt: HostRuntime) {
         }
         equal(&rt, (own.has_refused(), own.asked()), (false, *requests));
     }
-    // The count goes on from run to run.
+    // The other heap counts the requests of all runs.
     equal(&rt, other.asked(), 0);
     drop(added);
 }

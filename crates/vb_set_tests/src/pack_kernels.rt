@@ -19,7 +19,7 @@ fn each_kernel_packs_the_same_word(rt: HostRuntime) {
     equal(&rt, pack_bool_word_lanes(&bools), 0x9249_2492_4924_9249);
 }
 
-/// Packs `len` places into a word by both kernels; a place is true if it has no bit of the mask.
+/// Packs `len` bits into a word by both kernels; a bit is true if its index has no bit of the mask.
 #[tactic(auto, using(vb_pack::proofs::AnswersLemmas::CanAsk_always))]
 fn words(len: usize, mask: usize) -> (u64, u64)
     requires { len ≤ 64 }
@@ -75,7 +75,7 @@ fn words_from_a_digit_on(rt: HostRuntime) {
     equal(&rt, words, [u64::MAX, 2047]);
 }
 
-/// Values of which those that aren't 0 stand at no regular distance.
+/// Values of which those that aren't 0 are at irregular distances.
 fn values() -> [u8; 200] {
     let mut values = [0u8; 200];
     for i in 0..200 {

@@ -53,7 +53,7 @@ fn of_vec<A: Allocator + Clone>(alloc: A, is_shared: bool) -> Result<BitBuffer<A
     }
 }
 
-/// Four bits that a closure answers; `NotAligned` where it was asked though memory was refused.
+/// Four results of a closure; `NotAligned` if it was called although memory ran out.
 #[tactic(auto, using(vb_pack::proofs::AnswersLemmas::CanAsk_always))]
 fn collected<A: Allocator + Clone>(alloc: A) -> Result<BitBuffer<A>> {
     let mut asked = 0u32;
@@ -68,7 +68,7 @@ fn collected<A: Allocator + Clone>(alloc: A) -> Result<BitBuffer<A>> {
     shared(unasked(made, asked))
 }
 
-/// The same of a shared set.
+/// The same for a set to be shared.
 #[tactic(auto, using(vb_pack::proofs::AnswersLemmas::CanAsk_always))]
 fn collected_shared<A: Allocator + Clone>(alloc: A) -> Result<BitBuffer<A>> {
     let mut asked = 0u32;

@@ -49,7 +49,7 @@ fn a_slice_of_a_packed_set_keeps_its_bits(rt: HostRuntime) {
     shows_thirds(&rt, thirds(rt.alloc(), 20));
 }
 
-/// Bits that are true at even places. Asserts that their closure was asked once for each.
+/// Bits that are true at even indices. Asserts that their closure was called once for each.
 #[tactic(auto, using(vb_pack::proofs::AnswersLemmas::CanAsk_always))]
 fn alternating<A: Allocator + Clone>(rt: &impl Abort, alloc: A) -> BitBufferMut<A> {
     let mut asked = 0usize;
@@ -95,7 +95,7 @@ fn no_size_hint_is_relied_on(rt: HostRuntime) {
     equal(&rt, counted(&rt, made), (1000, 500));
 }
 
-/// Lengths about those of words.
+/// Lengths around multiples of 64.
 const LENS: [usize; 9] = [0, 1, 63, 64, 65, 127, 128, 129, 200];
 
 fn thirds_are_true<A: Allocator + Clone>(rt: &impl Abort, made: Result<BitBuffer<A>>, len: usize) {

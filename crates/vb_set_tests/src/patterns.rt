@@ -4,13 +4,13 @@ use std::alloc::Allocator;
 use std::process::Abort;
 use vb_set::{BitBuffer, Result};
 
-/// Bits of which the first one and each third one behind it is true.
+/// Bits that are true at multiples of 3.
 #[tactic(auto, using(vb_pack::proofs::AnswersLemmas::CanAsk_always))]
 pub(crate) fn thirds<A: Allocator + Clone>(alloc: A, len: usize) -> Result<BitBuffer<A>> {
     BitBuffer::collect_bool(alloc, len, &mut |i| i % 3 == 0)
 }
 
-/// Two hundred of these bits with some more true ones.
+/// Two hundred bits: those of [`thirds`], and some more true ones.
 #[tactic(auto, using(vb_pack::proofs::AnswersLemmas::CanAsk_always))]
 pub(crate) fn scattered<A: Allocator + Clone>(alloc: A) -> Result<BitBuffer<A>> {
     BitBuffer::collect_bool(alloc, 200, &mut |i| i % 3 == 0 || i % 7 == 2)

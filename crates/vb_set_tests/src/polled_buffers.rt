@@ -1,5 +1,5 @@
-//! Buffers: how many items an iterator is polled for where memory is refused or an item is an
-//! error. An iterator is lent by `by_ref`: what it didn't give is still there.
+//! Buffers: the number of items that are polled when memory runs out or an item is an error.
+//! Iterators are passed by `by_ref`, so items that weren't polled are left.
 use crate::compared::{equal, is_made};
 use crate::watched::Watched;
 use std::alloc::{Allocator, Global};
@@ -53,7 +53,7 @@ fn a_refused_extend_polls_one_item_past_the_room(rt: HostRuntime) {
     }
 }
 
-/// Makes a buffer of numbers that come without a hint, to be shared or to be edited, and answers
+/// Makes a buffer of numbers that come without a hint, to be shared or to be edited. Returns
 /// whether it was made, and how many numbers were polled.
 fn polled<A: Allocator + Clone>(alloc: A, is_shared: bool) -> (bool, usize) {
     let mut numbers = 0..100u32;
@@ -66,7 +66,7 @@ fn polled<A: Allocator + Clone>(alloc: A, is_shared: bool) -> (bool, usize) {
     (is_made, MANY.saturating_sub(numbers.exact_len()))
 }
 
-/// The last number that is polled is the one that finds no room in the bytes of the request before.
+/// The last polled number is the first that doesn't fit in the bytes of the previous request.
 fn stops_at_a_refusal(rt: &impl Abort, heap: &Refusing<Global>, is_shared: bool) {
     let (mut asked, mut room) = (0usize, 0usize);
     for _ in heap.in_turn() {
@@ -89,8 +89,7 @@ fn no_item_is_polled_behind_a_refusal(rt: HostRuntime) {
     stops_at_a_refusal(&rt, &heap, true);
 }
 
-/// Adds items of known length to a few. Where memory is refused none is polled, and the buffer
-/// stays.
+/// Adds items of known number to a few. If memory runs out, none is polled, and the buffer stays.
 fn add_whole<A: Allocator>(rt: &impl Abort, made: Result<BufferMut<u32, A>>) -> Result<()> {
     let mut buffer = made?;
     let given = Cell::new(0usize);
@@ -106,7 +105,7 @@ fn add_whole<A: Allocator>(rt: &impl Abort, made: Result<BufferMut<u32, A>>) -> 
     answer
 }
 
-/// The same up to the last item but one, which is an error: the last one isn't polled.
+/// The same with an error as the last item but one: the last one isn't polled.
 fn add_tried<A: Allocator>(rt: &impl Abort, made: Result<BufferMut<u32, A>>) -> Result<()> {
     let mut buffer = made?;
     let given = Cell::new(0usize);

@@ -1,5 +1,5 @@
-//! Sets: how many items an iterator is polled for where memory is refused, and how often a closure
-//! is called up to an error. An iterator is lent by `by_ref`: what it didn't give is still there.
+//! Sets: the number of items that are polled when memory runs out, and how often a closure is
+//! called up to an error. Iterators are passed by `by_ref`, so items that weren't polled are left.
 use crate::compared::{equal, is_made};
 use crate::watched::Watched;
 use std::alloc::{Allocator, Global};
@@ -13,8 +13,8 @@ use vb_testing::Refusing;
 /// Bits, of which the last ones don't fill a word.
 const BITS: [bool; 1000] = [true; 1000];
 
-/// Makes a set of the bits, to be shared or to be edited, and answers whether it was made, and how
-/// many bits were polled.
+/// Makes a set of the bits, to be shared or to be edited. Returns whether it was made, and how many
+/// bits were polled.
 fn polled<A: Allocator + Clone>(alloc: A, is_shared: bool) -> (bool, usize) {
     let mut bits = BITS.iter().copied();
     let is_made = if is_shared {
@@ -25,8 +25,8 @@ fn polled<A: Allocator + Clone>(alloc: A, is_shared: bool) -> (bool, usize) {
     (is_made, BITS.len().saturating_sub(bits.len()))
 }
 
-/// Bits are packed by 64, and each 64 of them ask for memory where the bytes so far are full. So
-/// the last ones that are polled are the 64 that find no room in the bytes of the request before.
+/// Bits are packed 64 at a time, and memory is requested if the next 64 don't fit. So the last
+/// polled bits are the first 64 that don't fit in the bytes of the previous request.
 fn stops_at_a_refusal(rt: &impl Abort, heap: &Refusing<Global>, is_shared: bool) {
     let (mut asked, mut room) = (0usize, 0usize);
     for _ in heap.in_turn() {
@@ -50,8 +50,8 @@ fn no_bit_is_polled_behind_a_refusal(rt: HostRuntime) {
     stops_at_a_refusal(&rt, &heap, true);
 }
 
-/// Adds a thousand bits of known length to a few. Where memory is refused none is polled, and the
-/// set stays.
+/// Adds a thousand bits of known number to a few. If memory runs out, none is polled, and the set
+/// stays.
 fn add_whole<A: Allocator + Clone>(rt: &impl Abort, made: Result<BitBufferMut<A>>) -> Result<()> {
     let mut set = made?;
     let given = Cell::new(0usize);
@@ -79,7 +79,7 @@ fn a_refused_list_of_known_length_is_not_polled(rt: HostRuntime) {
     equal(&rt, (heap.has_refused(), heap.asked()), (false, 2));
 }
 
-/// How often a walk over true bits calls its closure, which ends the walk at place `last`.
+/// The number of calls of a closure that ends a walk over true bits at index `last`.
 #[tactic(auto, using(vb_pack::proofs::AnswersLemmas::CanAsk_always))]
 fn calls_up_to<A: Allocator + Clone>(set: &BitBuffer<A>, last: usize) -> usize {
     let mut calls = 0usize;
@@ -90,7 +90,7 @@ fn calls_up_to<A: Allocator + Clone>(set: &BitBuffer<A>, last: usize) -> usize {
     calls
 }
 
-/// Places at the ends of words, and the last one of all.
+/// Indices at the ends of words, and the last index.
 const ENDS: [usize; 7] = [0, 62, 63, 64, 127, 128, 199];
 
 #[test]

@@ -1,20 +1,20 @@
-//! Whether sets to edit are disjoint, or one is a subset of the other, beside plain loops over
-//! their bits, and refused for their lengths alone.
+//! Whether sets to edit are disjoint, or one is a subset of the other, compared with plain loops
+//! over their bits. The calls fail only for lengths that differ.
 use crate::compared::equal;
 use crate::made::window;
 use std::alloc::{Allocator, Global};
 use std::process::Abort;
 use vb_set::{BitBufferMut, BufferError, Result};
 
-/// What all bytes of a set are.
+/// Values for all bytes of a set.
 const BYTES: [u8; 6] = [0, 0x0F, 0xF0, 0x3C, 0x11, 0xFF];
 
 const LENGTHS: [usize; 9] = [0, 1, 7, 8, 63, 64, 65, 200, 1000];
 
-/// What two sets answer: whether they are disjoint, and whether the first is a subset.
+/// What the calls on two sets return: whether they are disjoint, and whether the first is a subset.
 type Answers = (Result<bool>, Result<bool>);
 
-/// What a loop over the bits answers, of two sets of one length.
+/// What a loop over the bits finds, for two sets of one length.
 fn plain<A: Allocator + Clone>(left: &BitBufferMut<A>, right: &BitBufferMut<A>) -> Answers {
     let (mut disjoint, mut within) = (true, true);
     for i in 0..left.len().min(right.len()) {
@@ -25,7 +25,7 @@ fn plain<A: Allocator + Clone>(left: &BitBufferMut<A>, right: &BitBufferMut<A>) 
     (Ok(disjoint), Ok(within))
 }
 
-/// Two sets that were made answer as they should.
+/// Asserts what the calls on two sets that were made return.
 fn answer<A: Allocator + Clone>(
     rt: &impl Abort,
     left: Result<BitBufferMut<A>>,

@@ -71,7 +71,7 @@ fn append_each<A: Allocator + Clone>(
 /// True values: a call that adds truth values adds the first of these.
 const TRUES: [bool; 5000] = [true; 5000];
 
-/// So many true bits, the first at this bit of their bytes.
+/// `len` true bits at this offset.
 fn trues<A: Allocator + Clone>(alloc: A, offset: usize, len: usize) -> Result<BitBuffer<A>> {
     window(
         alloc,
@@ -82,7 +82,7 @@ fn trues<A: Allocator + Clone>(alloc: A, offset: usize, len: usize) -> Result<Bi
     .freeze()
 }
 
-/// A set of two bits, the first at this bit of its bytes, with room for so many more.
+/// A set of two bits at this offset, with capacity for `len` more.
 fn roomy<A: Allocator + Clone>(alloc: A, offset: usize, len: usize) -> Result<BitBufferMut<A>> {
     let mut set = window(alloc, (0xFF, 1), offset, 2)?;
     match set.reserve_exact(len) {
@@ -117,8 +117,8 @@ fn stays(
     drop((added, set));
 }
 
-/// The bits begin at the same place of a byte on both sides, or at different ones. A body that
-/// makes room for more than 512 bits, whether there is room or not, fails here.
+/// Both sides begin at the same bit of a byte, or at different ones. A body that always allocates
+/// for more than 512 bits, even within the capacity, fails here.
 #[test]
 fn long_appends_within_the_room_ask_for_nothing(rt: HostRuntime) {
     let heap = Refusing::new(rt.alloc(), 0);
@@ -133,7 +133,7 @@ fn long_appends_within_the_room_ask_for_nothing(rt: HostRuntime) {
     }
 }
 
-/// Adds bits to none, so many times.
+/// Adds the bits of `added` to an empty set `times` times.
 fn grow<A: Allocator + Clone>(
     rt: &impl Abort,
     alloc: A,
@@ -153,8 +153,8 @@ fn grow<A: Allocator + Clone>(
 /// How many requests there were, and for how many bytes in all.
 type Asked = (u64, usize);
 
-/// How many bits are added at a time, how many times, the requests if they are added at once, and
-/// the requests if at most 64 are, as those of an iterator.
+/// How many bits are added at a time, how many times, the requests of calls that add them at once,
+/// and those of calls that add at most 64 at a time, such as `extend`.
 const GROWN: &[(usize, usize, Asked, Asked)] = &[
     (1, 8, (1, 8), (1, 8)),
     (1, 65, (2, 24), (2, 24)),

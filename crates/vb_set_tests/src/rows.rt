@@ -1,4 +1,4 @@
-//! Worked rows: what is shared of a set, and what its views answer.
+//! Worked rows: sets that are frozen, edited through views, and copied from views.
 use crate::compared::{equal, holds, shows};
 use crate::made::window;
 use crate::makers::frozen;

@@ -1,4 +1,4 @@
-//! What sets answer beside what the kernels answer of a window of the same bytes.
+//! Results of sets compared with those of the kernels for a window of the same bytes.
 use crate::compared::{equal, holds};
 use crate::made::window;
 use std::alloc::Allocator;
@@ -8,16 +8,16 @@ use vb_count::{Tally, count_ones_by};
 use vb_select::{bit_select_by, bit_select_unset_by};
 use vb_set::{BitBuffer, BitBufferMut, Result};
 
-/// The places of the first bit, and the lengths, at which sets are asked.
+/// The offsets and the lengths of the sets.
 const OFFSETS: [usize; 5] = [0, 3, 5, 7, 13];
 
 const LENGTHS: [usize; 9] = [0, 1, 7, 8, 63, 64, 65, 129, 200];
 
-/// How many bits are true, how many of them from `start` up to `end`, and the places of the true
+/// How many bits are true, how many of them from `start` up to `end`, and the indices of the true
 /// and of the false bit of rank `start`.
 type Answers = (usize, usize, Option<usize>, Option<usize>);
 
-/// What tallies over the bytes answer.
+/// The results by tallies over the bytes.
 fn tallied(
     rt: &impl Abort,
     bytes: &[u8],
@@ -36,7 +36,7 @@ fn tallied(
     )
 }
 
-/// What a set to edit answers.
+/// The results of a set to edit.
 fn open_answers<A: Allocator + Clone>(
     rt: &impl Abort,
     set: &BitBufferMut<A>,
@@ -53,7 +53,7 @@ fn open_answers<A: Allocator + Clone>(
     )
 }
 
-/// What a shared set answers.
+/// The results of a shared set.
 fn shared_answers<A: Allocator + Clone>(
     rt: &impl Abort,
     set: &BitBuffer<A>,
@@ -69,7 +69,7 @@ fn shared_answers<A: Allocator + Clone>(
     )
 }
 
-/// A set answers as tallies over its bytes, before and after it is shared.
+/// A set returns the same as tallies over its bytes, before and after it is shared.
 fn answers_are_tallied<A: Allocator + Clone>(
     rt: &impl Abort,
     made: Result<BitBufferMut<A>>,

@@ -8,7 +8,7 @@ ghost use Rattle.vb_set_tests.specs.Watched.{counted_down};
 use std::cell::Cell;
 use vb_core::TrustedLen;
 
-/// Gives an item so many times, but another one where two are left.
+/// Gives `left` items: all are `item`, except that the last but one is `second_last`.
 #[derive(Drop)]
 pub struct Watched<'a, T> {
     /// How many items are still to come.

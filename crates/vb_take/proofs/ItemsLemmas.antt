@@ -73,7 +73,7 @@ module _ {T X : Type 0} (f : X → ℤ) (zero : T) (items : List T) (xs : List X
             ∙ sym (slice_get-get_or (take (length xs) out) i zero (omega arith));
       }
 
--- a bit that is 1 without the lowest one is 1 with it
+-- a bit that is 1 after the lowest one is cleared was 1 before
 pub left_before : (left k : ℕ) → has_bit (bit_and left (left - 1)) k ≡ true
     → has_bit left k ≡ true
 left_before left k h =

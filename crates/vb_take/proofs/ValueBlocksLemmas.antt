@@ -63,7 +63,7 @@ module _ (left : ℕ) (some : 0 < left) (fits : left < 2 ^ 64) where
       let z = bit_at-trailing_zeros w64 left some fits in
       ap (λ x. eqb x 1) (z.2 i h)
 
-  -- a bit that is 0 without the lowest one is the lowest one, or was 0 with it
+  -- a bit that is 0 after the lowest one is cleared is the lowest one, or was 0 before
   pub left_gone : (i : ℕ) → has_bit (bit_and left (left - 1)) i ≡ false
       → (i ≡ trailing_zeros w64 left) ⊎ (has_bit left i ≡ false)
   left_gone i gone =

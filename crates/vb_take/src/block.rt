@@ -39,8 +39,8 @@ fn narrow<I: BitIndex>(index: I) -> u32
 /// `valid` is 0. Returns `Err(k)` for the first `k` whose bit of `valid` is 1 and whose index isn't
 /// below the length.
 ///
-/// If no position counts, it reads nothing. If all indices are below the length, one test shows it;
-/// it includes the positions that don't count. Each index is lowered to the last bit before the
+/// If no position counts, it reads nothing. If all indices are below the length, even at the
+/// positions that don't count, one test shows it. Each index is lowered to the last bit before the
 /// read, since one that doesn't count may be any number.
 #[inline(always)]
 pub(crate) fn take_block(

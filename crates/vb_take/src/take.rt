@@ -14,8 +14,8 @@ use vb_bits::{digit, write_digits};
 use vb_core::BitIndex;
 use vb_view::BitBufferView;
 
-/// Views shorter than this many bits have bit numbers of 32 bits, also counted from the byte of the
-/// first bit.
+/// In a view shorter than this many bits each bit number fits in 32 bits, even if counted from the
+/// byte of the first bit.
 const NARROW: usize = u32::MAX as usize - 8;
 
 /// Takes one bit of `bits` for each index: sets bit `k` of `out` to bit `indices[k]` of `bits`.

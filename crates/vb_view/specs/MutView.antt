@@ -36,7 +36,7 @@ module _ {S : Type 0} {g : Ghosts S} where
     pub place : mut_place_of v ≡ first
     pub len : mut_len_of v ≡ length shown
 
-  -- a write may change the bits, and nothing else of the view or of its store
+  -- a write keeps the reference, its kept properties, and the view's offset and length
   pub record KeepsWindow (old new : BitBufferMutView S g) : Type 0 where
     pub same_reference : g.lender new.store ≡ g.lender old.store
     pub kept : g.kept new.store ≡ g.kept old.store

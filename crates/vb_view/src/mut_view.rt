@@ -21,7 +21,7 @@ pub trait BitStore {
     // the bytes that it has
     ghost bytes: { Self → List ℕ };
 
-    // the bits of a window: its offset and length are the numbers
+    // the bits of the window with this offset and length
     ghost bits: { Self → ℕ → ℕ → List Bool };
 
     // whether it allows a view of this window: bytes allow every window in them that ends below bit

@@ -22,7 +22,7 @@ use Rattle.vb_walk.proofs.WordsLemmas.{number_is, length-words, words_none, word
 use Rattle.vb_walk.proofs.WordsLemmas.{words_front, word-bits, word_read, take-window}
 
 -- ---- values after false values
--- their number
+-- the number that they represent
 bits_number-behind : (s : ℕ) (l : List Bool)
     → bits_number (replicate s false ++ l) ≡ bits_number l * 2 ^ s
 bits_number-behind zero l = omega arith

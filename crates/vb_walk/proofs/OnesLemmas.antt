@@ -25,7 +25,7 @@ cut_at w r k small same =
 
 -- ---- one less, and one more
 module _ (w t : ℕ) (on : bit_at w t ≡ 1) (off : (i : ℕ) → i < t → bit_at w i ≡ 0) where
-  -- above the lowest 1, at index t
+  -- w is its digits above the lowest 1, which is at index t, and that 1
   lowest_split : w ≡ w / 2 ^ suc t * 2 ^ suc t + 2 ^ t
   lowest_split =
       let double : 2 ^ suc t ≡ 2 ^ t * 2 = pow-suc 2 t in
@@ -81,7 +81,7 @@ module _ (w t : ℕ) (on : bit_at w t ≡ 1) (off : (i : ℕ) → i < t → bit_
   filled_high i l = bit_at_or w (w - 1) i ∙ omega (arith, less_above i l)
 
 module _ (f z : ℕ) (ones : (i : ℕ) → i < z → bit_at f i ≡ 1) (off : bit_at f z ≡ 0) where
-  -- above the lowest 0, at index z
+  -- f is its digits above the lowest 0, which is at index z, and the ones below
   ones_split : f ≡ f / 2 ^ suc z * 2 ^ suc z + (2 ^ z - 1)
   ones_split =
       let double : 2 ^ suc z ≡ 2 ^ z * 2 = pow-suc 2 z in

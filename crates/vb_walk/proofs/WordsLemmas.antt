@@ -21,7 +21,7 @@ use Rattle.vb_bits.proofs.RangeLemmas.{same_map-range_with_len}
 use Rattle.vb_walk.specs.Words.{bits_number, word, words, full_words, padded_words}
 
 -- ---- numbers
--- a number has the number of its digits
+-- the digits of a number represent it
 pub bits_number-digits : (w n : ℕ) → w < 2 ^ n → bits_number (digits w 0 n) ≡ w
 bits_number-digits w zero h = ap bits_number (digits_none w 0) ∙ omega arith
 bits_number-digits w (suc n) h =
@@ -116,7 +116,7 @@ words_front b o n k h =
     word-bits b o n i (omega arith) ∙ ap (λ x. bits_number (bits b (o + 64 * i) x)) size
     ∙ sym (word-bits b o (64 * k) i (omega arith)))
 
--- the full words, and the word after them
+-- n words, and the word after them
 pub words_push : (l : List Bool) (n : ℕ) → words l (n + 1) ≡ words l n ++ word l n ∷ []
 unfolding words
 words_push l n = map-range_with_len_more (word l) 0 n n (zero-add n)

@@ -15,8 +15,8 @@ cut_words s (b ∷ l) = words (replicate s false ++ b ∷ l) (div_ceil (s + leng
 abbrev pub word_of : List ℕ → ℕ
 word_of bytes = bits_number (bits bytes 0 64)
 
--- an `UnalignedBitChunk` in contracts: the digits before its bits in the first word and after them
--- in the last one, and its words in three parts
+-- an `UnalignedBitChunk` in contracts: the number of digits before its bits in the first word and
+-- after them in the last one, and its words in three parts
 pub record UnalignedWords : Type 0 where
   pub lead_padding : ℕ
   pub trailing_padding : ℕ
@@ -28,7 +28,7 @@ pub record UnalignedWords : Type 0 where
 abbrev pub all_words : UnalignedWords → List ℕ
 all_words u = item_of u.prefix ++ u.chunks ++ item_of u.suffix
 
--- these words are the n bits from bit s of their first byte on: the first word is the prefix, the
+-- these words are the list l from bit s of their first byte on: the first word is the prefix, the
 -- last of two or more is the suffix
 pub record IsCut (s : ℕ) (l : List Bool) (u : UnalignedWords) : Type 0 where
   pub words : all_words u ≡ cut_words s l

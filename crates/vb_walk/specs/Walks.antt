@@ -58,8 +58,8 @@ pub record IsCursor (bytes : List ℕ) (c : Cursor) : Type 0 where
   pub short : c.left < 64
   pub here : 0 < bits_ahead c → 8 * c.byte ≡ c.offset + c.next
 
--- the bit that remains at index i: below `next` a digit of the current word, and then the bit
--- itself
+-- the bit that remains at index i: below `next` a digit of the current word, and from `next` on the
+-- bit of the window
 abbrev pub pending_bit : List ℕ → Cursor → ℕ → Bool
 pending_bit bytes c i =
     cond (nat_lt i c.next) (has_bit c.word (i - c.base)) (bit_of bytes (c.offset + i))
@@ -97,8 +97,8 @@ pub record IsRefilled (bytes : List ℕ) (c : Cursor) (v : Bool) (d : Cursor) : 
   pub other : ((others v d.word ≢ 0) × (d.next ≡ d.base + 64))
       ⊎ ((bits_ahead d ≡ 0) × (d.next < d.base + 64))
 
--- d is c with a current word that isn't 0, if any is left: the same bits remain, and no set bit
--- before them is lost
+-- d is c with a current word that isn't 0, if any is left: it passes only zeros, and the bits from
+-- there on are the same
 pub record IsSkipped (bytes : List ℕ) (c d : Cursor) : Type 0 where
   pub valid : IsCursor bytes d
   pub ends : stop d ≡ stop c

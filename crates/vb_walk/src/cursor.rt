@@ -38,7 +38,7 @@ pub(crate) struct Cursor {
 }
 
 impl Cursor {
-    /// Returns the front of the window of `len` bits from bit `offset` on.
+    /// Returns the cursor at the front of the window of `len` bits from bit `offset` on.
     ///
     /// The first word ends where a byte ends, if the window continues after it. So each whole word
     /// starts at a byte boundary.

@@ -45,8 +45,8 @@ module _ {S A : Type 0} (steps : S → Option A → S → Type 0) where
     gave = ((t, yields, λ h. cc), λ k. refl);
   }
 
-  -- all items of the adapter are a run of the inner iterator, with the number of items that
-  -- remained
+  -- the calls that returned all items of the adapter are a run of the inner iterator; its length is
+  -- the number of items that were left before
   pub counted_run : (s : Counted S) (xs : List A) → Drains counted s xs
       → (p : Run steps) × (p.from ≡ s.iter) × (p.items ≡ xs) × (p.len ≡ s.left) × Trigger p.len
   unfolding Trigger run_of_yields

@@ -26,7 +26,7 @@ lesser b j k le (inr at) =
 one_exponent : (j k n : ℕ) → 2 ^ j ≡ n → 2 ^ k ≡ n → j ≡ k
 one_exponent j k n p q = pow-injective j k (p ∙ sym q)
 
--- a property of an exponent is a property of the exponent of its number of bytes
+-- if P holds of k and 2 ^ k is n, P holds of the exponent of n bytes
 pub of_bytes : (P : ℕ → Type 0) (k n : ℕ) → 2 ^ k ≡ n → P k → OfBytes n P
 of_bytes P k n p here = λ j q. subst P (one_exponent k j n p q) here
 

@@ -70,7 +70,7 @@ impl<T: Element, const N: usize, A: Allocator> ConstBuffer<T, N, A> {
         requires { OfBytes N (λ exponent. exponent ≤ buffer.alignment) }
         ensures { result ≡ buffer }
     {
-        // The contract of `alignment` tells the prover that the buffer has the alignment that it
+        // The contract of `alignment` shows the prover that the buffer has the alignment that it
         // reports.
         let _ = buffer.alignment();
         ConstBuffer { buffer }

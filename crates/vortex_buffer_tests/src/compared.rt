@@ -48,7 +48,7 @@ pub fn shows<A: Allocator>(
     Ok(())
 }
 
-/// What a call answered, without the value.
+/// The error of a call, without the value.
 pub fn refusal<T: Drop>(answer: Result<T>) -> Option<BufferError> {
     answer.err()
 }

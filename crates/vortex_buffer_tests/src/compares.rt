@@ -16,7 +16,7 @@ fn hash_of<T: Hash>(value: &T) -> u64 {
     state.finish()
 }
 
-/// The first value compares so with the second, and their hashes are equal exactly if they are.
+/// Asserts the order of two values, and that their hashes are equal exactly if the values are.
 fn compare<T: PartialOrd + Hash>(rt: &impl Abort, one: &T, two: &T, order: Ordering) {
     let is_equal = order == Ordering::Equal;
     equal(rt, one.partial_cmp(two), Some(order));
@@ -38,7 +38,7 @@ fn compare_fixed(rt: &impl Abort, one: Result<Fixed>, two: Result<Fixed>, order:
     drop((one, two));
 }
 
-/// Two lists of items, and how the first stands to the second.
+/// Two lists of items, and the order of the first to the second.
 const LISTS: &[(&[u32], &[u32], Ordering)] = &[
     (&[], &[], Ordering::Equal),
     (&[], &[0], Ordering::Less),
@@ -71,7 +71,7 @@ fn compare_texts<A: Allocator>(
     drop((one, two));
 }
 
-/// Two texts, and how the first stands to the second.
+/// Two texts, and the order of the first to the second.
 const TEXTS: &[(&str, &str, Ordering)] = &[
     ("", "", Ordering::Equal),
     ("", "a", Ordering::Less),
@@ -89,7 +89,7 @@ fn texts_compare_by_their_bytes(rt: HostRuntime) {
     }
 }
 
-/// A hash as that of a `str` fails here.
+/// A body that hashes a text as a `str` fails here.
 #[test]
 fn a_text_hashes_as_its_buffer(rt: HostRuntime) {
     let text = BufferString::from_str(rt.alloc(), "hello").expect(&rt, "memory");

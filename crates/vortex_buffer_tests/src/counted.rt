@@ -7,7 +7,7 @@ ghost use Rattle.vortex_buffer.specs.View.{bits_of};
 use std::alloc::Allocator;
 use vortex_buffer::{BitBuffer, BitBufferView};
 
-/// How many places a walk over the true bits of a view gives.
+/// How many indices a walk over the true bits of a view gives.
 pub fn count_places(view: BitBufferView<'_>) -> usize
     ensures { result ≡ count (bits_of view.entry) }
 {
@@ -21,7 +21,7 @@ pub fn count_runs(view: BitBufferView<'_>) -> usize
     view.set_slices().count()
 }
 
-/// How many places a walk over the true bits of a set gives.
+/// How many indices a walk over the true bits of a set gives.
 pub fn count_set_places<A: Allocator + Clone>(set: &BitBuffer<A>) -> usize
     ensures { result ≡ count set.now.bits }
 {

@@ -1,4 +1,4 @@
-//! What a hasher is fed: the same by a text and by its buffer.
+//! A text and its buffer feed a hasher the same bytes.
 ghost use Rattle.std.specs.Prelude.{◌≡◌};
 ghost use Rattle.std.specs.Hash as fed;
 ghost use Rattle.std.specs.List.{fold};
@@ -14,7 +14,7 @@ pub fn feed_text<A: Allocator, H: Hasher>(text: &BufferString<A>, state: &mut H)
     text.hash(state);
 }
 
-/// Feeds a hasher a buffer, by the same clause.
+/// Feeds a hasher a buffer. The clause is that of [`feed_text`].
 pub fn feed_bytes<A: Allocator, H: Hasher>(bytes: &ByteBuffer<A>, state: &mut H)
     ensures { state.new ≡ fold H.write state.old (fed.slice fed.u8 bytes.now.list) }
 {

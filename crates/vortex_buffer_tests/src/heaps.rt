@@ -1,4 +1,4 @@
-//! Which of two allocators is asked: that of what is there already, or that which is handed in.
+//! From which of two allocators calls allocate: that of an existing buffer, or the given one.
 use crate::compared::{equal, holds};
 use std::alloc::Global;
 use std::process::Abort;
@@ -9,7 +9,7 @@ use vortex_buffer::{
 
 type Heap<'a> = &'a Refusing<Global>;
 
-/// A heap for what is there already, and one that calls are handed.
+/// A heap for existing buffers, and one that is passed to calls.
 #[derive(Drop)]
 struct Heaps {
     first: Refusing<Global>,
@@ -24,7 +24,7 @@ impl Heaps {
         }
     }
 
-    // How often each heap was asked since the last call.
+    // The number of requests to each heap since the last call.
     fn asked(&self) -> (u64, u64) {
         let asked = (self.first.asked(), self.second.asked());
         self.first.refuse(0);
@@ -32,13 +32,13 @@ impl Heaps {
         asked
     }
 
-    // Whether the first heap was asked since the last call, and whether the second was.
+    // Whether the first heap got requests since the last call, and whether the second did.
     fn were_asked(&self) -> (bool, bool) {
         let (first, second) = self.asked();
         (first > 0, second > 0)
     }
 
-    // Asks for more room than there is, as the only owner, and compares which heaps were asked.
+    // Grows the bytes, as their only owner, and compares which heaps got requests.
     fn grow(&self, rt: &impl Abort, bytes: ByteBuffer<Heap<'_>>, wanted: (bool, bool)) {
         let mut growing = bytes.into_mut().expect(rt, "memory");
         let before = growing.len();
@@ -56,8 +56,8 @@ fn from_string_asks(rt: &impl Abort, heaps: &Heaps) {
     equal(rt, heaps.asked(), (0, 1));
     let twin = text.clone().expect(rt, "an owner");
     equal(rt, heaps.asked(), (0, 0));
-    // If the text is shared, it is copied to the heap that was handed in. If it is alone, its
-    // storage grows in the heap that it came from.
+    // A shared text is copied to the given heap. The storage of a text with one owner grows in the
+    // heap that it came from.
     heaps.grow(rt, twin.into_inner(), (false, true));
     heaps.grow(rt, text.into_inner(), (true, false));
 }

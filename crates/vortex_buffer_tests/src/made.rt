@@ -1,4 +1,4 @@
-//! Calls that take memory: what they make, and each of their requests refused in turn.
+//! Calls that allocate: what they make, and each of their requests refused in turn.
 use crate::compared::{equal, equal_bytes, holds, shows};
 use std::alloc::{Allocator, Global};
 use std::process::Abort;
@@ -100,7 +100,7 @@ fn of_text<A: Allocator>(made: Result<BufferString<A>>) -> Result<ByteBuffer<A>>
     Ok(made?.into_inner())
 }
 
-// What is left of "hello, world" behind a copy of its first five bytes; refused, that leaves all.
+// The rest of "hello, world" after a copy of its first five bytes; all of it if the copy failed.
 fn left<T>(copy: &Result<T>) -> &'static [u8] {
     if copy.is_ok() {
         b", world"
@@ -135,13 +135,13 @@ fn fixed_copied<'a>(rt: &impl Abort, heap: &'a Refusing<Global>) -> Result<ByteB
     of_fixed(copy)
 }
 
-/// The calls, each with the alignments of what it makes, the reported and the declared one, and
-/// with its requests: copies of the allocator, the bytes, and what it is made from.
+/// The calls, each with the reported and the declared alignment of its result, and the number of
+/// requests, including copies of the allocator and those for its input.
 const ROWS: &[(Call, (usize, usize), u64)] = &[
     (Call::FixedCopyFrom, (512, 512), 4),
     (Call::FixedAlignFrom, (16, 256), 4),
-    // A body that keeps a place that isn't aligned fails here, and so does one that looks at the
-    // declared alignment alone.
+    // A body that keeps an unaligned address fails here, and so does one that tests only the
+    // declared alignment.
     (Call::FixedAlignFromShared, (16, 256), 10),
     (Call::FixedClone, (512, 512), 5),
     (Call::TextFromStr, (1, 256), 4),

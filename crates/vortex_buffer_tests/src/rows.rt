@@ -1,4 +1,4 @@
-//! Worked rows: what calls answer, and when they are refused.
+//! Worked rows: results and errors of calls.
 use crate::compared::{equal, equal_bytes, has, holds, refusal, shows};
 use std::alloc::{Allocator, Global};
 use std::process::Abort;
@@ -8,7 +8,7 @@ use vortex_buffer::{
     copy_to_const_aligned,
 };
 
-/// How a buffer of the items, which reports their alignment, is refused as one of alignment `N`.
+/// The error of turning a buffer with the alignment of its items into one of alignment `N`.
 fn refused_as<const N: usize, T: Element>(
     rt: &impl Abort,
     alloc: Global,
@@ -79,7 +79,7 @@ fn a_text_is_its_bytes(rt: HostRuntime) {
     drop((hello, empty));
 }
 
-/// A body that asks for memory before it looks at the text fails here.
+/// A body that allocates before it looks at the text fails here.
 #[test]
 fn a_text_is_tested_before_memory_is_asked(rt: HostRuntime) {
     let heap = Refusing::new(rt.alloc(), 1);
@@ -99,7 +99,7 @@ fn is_world<A: Allocator>(rt: &impl Abort, text: ByteBuffer<A>) {
     drop(text);
 }
 
-/// Of eight bytes of alignment 4, four can be passed over, and neither two nor twelve.
+/// Eight bytes of alignment 4 can advance by four, but not by two or twelve.
 fn steps_by_four<A: Allocator>(rt: &impl Abort, eight: ByteBuffer<A>) {
     let (two, four) = (eight.can_advance(2), eight.can_advance(4));
     equal(rt, (two, four, eight.can_advance(12)), (false, true, false));
@@ -119,8 +119,8 @@ fn bytes_are_read_from_the_front(rt: HostRuntime) {
     equal(&rt, four.remaining(), 1);
 }
 
-/// What is left of bytes of alignment 4 are these bytes. They report alignment 4, in storage that
-/// is declared with 256, and `aligned` says whether they are aligned to 8 and to 16.
+/// The rest has these bytes. It reports alignment 4, in storage that is declared with 256;
+/// `aligned` says whether it is aligned to 8 and to 16.
 fn is_left(rt: &impl Abort, rest: &ByteBuffer<Global>, bytes: &[u8], aligned: (bool, bool)) {
     has(rt, rest, bytes, (4, 256));
     let (eight, sixteen) = (Alignment::new(8), Alignment::new(16));
@@ -128,7 +128,7 @@ fn is_left(rt: &impl Abort, rest: &ByteBuffer<Global>, bytes: &[u8], aligned: (b
     equal(rt, given, aligned);
 }
 
-/// Bytes of which each is its place.
+/// Bytes that equal their indices.
 const BYTES: &[u8] = &[0, 1, 2, 3, 4, 5, 6, 7, 8, 9, 10, 11, 12, 13, 14, 15];
 
 /// A copy that gives the rest another alignment, or another storage, fails here.

@@ -1,10 +1,10 @@
-//! The edges of a histogram's bins: 1, 2 or 5 times a power of ten.
+//! The edges of a histogram's bins, by steps of 1, 2 or 5 times a power of ten.
 
 use crate::survey::{Range, Spread};
 
 /// The approximate greatest number of bins of equal width.
 const BINS: f64 = 16.0;
-/// Bins grow with the numbers if the greatest number is at least this many times the least.
+/// Bins grow with the numbers only if the greatest number is at least this many times the least.
 const DECADES: f64 = 1000.0;
 
 /// The number at which each bin begins, in ascending order. The last bin has no end.

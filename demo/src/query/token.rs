@@ -116,7 +116,7 @@ fn plain(text: &str) -> (Word, usize) {
     (Word::Plain(text[..length].to_string()), length)
 }
 
-/// Reads a name or a text between quotes. Two quotes within it stand for one.
+/// Reads a name or a text between quotes. Two quotes within it represent one.
 fn quoted(text: &str, quote: char, at: usize) -> Result<(Word, usize), QueryError> {
     let mut content = String::new();
     let mut characters = text.char_indices().skip(1).peekable();

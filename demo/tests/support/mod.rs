@@ -30,7 +30,7 @@ impl Random {
     }
 }
 
-/// A folder for files, which goes away with this. Its name has spaces, as a user's may.
+/// A folder for files, which `drop` removes. Its name has spaces, as a user's may.
 pub struct Folder(PathBuf);
 
 impl Folder {
@@ -67,7 +67,7 @@ pub fn program(file: &Path) -> process::Command {
     command
 }
 
-/// What a run of the program ended with.
+/// The status and the output of a run of the program.
 pub fn run(file: &Path, args: &[&str]) -> process::Output {
     program(file).args(args).output().unwrap()
 }

@@ -1,6 +1,5 @@
-//! Tests that each call of `vortex_bits` runs proved code from the length on that README names. It
-//! is linked with archives whose functions end the program, so it makes each call in its own
-//! process.
+//! Tests that each call of `vortex_bits` runs proved code from the length that README names. It is
+//! linked with archives whose functions end the program, so it makes each call in its own process.
 //!
 //!     reached
 //!
@@ -17,7 +16,8 @@ const NEVER: usize = usize::MAX;
 const MOST: usize = 600;
 static BYTES: [u8; 100] = [0xA7; 100];
 
-/// A call of so many bits, values or indices, and the least number for which it runs proved code.
+/// A call's name, the least number of bits, values or indices for which it runs proved code, and
+/// the call of a number of them.
 type Row = (&'static str, usize, fn(usize));
 
 const ROWS: &[Row] = &[

@@ -91,7 +91,7 @@ pub struct File<'a> {
 }
 
 impl File<'_> {
-    /// Returns what is made of the stream of a layer: GDAL's options for it are in `options`. A
+    /// Returns the result of `read` for the stream of a layer with these options of GDAL's. A
     /// stream has to end before its file is closed; its batches may stay.
     ///
     /// # Errors
@@ -109,7 +109,7 @@ impl File<'_> {
         pointers.push(ptr::null());
         let mut raw = ArrowArrayStream::empty();
         // SAFETY: the file is open, its texts end with 0 and their list with null; the stream may
-        // be written, and is as the interface asks for.
+        // be written, and is as the interface requires.
         let stream = unsafe {
             let found = (self.gdal.layer)(self.set, name.as_ptr());
             if found.is_null() || !(self.gdal.stream)(found, &raw mut raw, pointers.as_ptr()) {

@@ -49,7 +49,7 @@ pub const QUERIES: [Query; 7] = [
     },
 ];
 
-/// `select * where`: what a stream hands on is made when its consumer asks for it.
+/// `select * where`: the stream filters a batch when its consumer requests it.
 fn filtered(
     parcels: Stream,
     rows: impl Fn(&Array) -> Result<Bitmap, ArrowError> + Send + 'static,
@@ -77,7 +77,7 @@ fn neither_near_nor_light(batch: &Array) -> Result<Bitmap, ArrowError> {
 /// Days are counted from 1970 on: that one is the first of March 2024.
 const MARCH: i32 = 19_783;
 
-/// Without a `not` it is enough that no null row passes a test; none passes one of texts.
+/// Without a `not` a null only has to fail its test. Predicates over texts are false for nulls.
 fn noted(batch: &Array) -> Result<Bitmap, ArrowError> {
     let [city, note, day] = ["city", "note", "day"].map(|name| batch.column(name));
     let (city, note, day) = (city?, note?, day?);
@@ -86,7 +86,7 @@ fn noted(batch: &Array) -> Result<Bitmap, ArrowError> {
     Ok(city.texts()?.is_in(["Graz", "Linz"]) & rings & since & day.validity()?)
 }
 
-/// Which rows of a batch name a truck that there is: neither a null nor another number does.
+/// The rows of a batch whose truck exists: it isn't null, and its number is in range.
 fn known(batch: &Array, trucks: usize) -> Result<Bitmap, ArrowError> {
     let truck = batch.column("truck")?;
     let numbers = truck.values::<i64>()?;
@@ -96,7 +96,7 @@ fn known(batch: &Array, trucks: usize) -> Result<Bitmap, ArrowError> {
     Ok(is_known & truck.validity()?)
 }
 
-/// A semi-join: a bit for each truck, and of those the bit at the number in each row.
+/// A semi-join: each row takes the bit of its truck, which is set if the truck is in Linz.
 fn of_trucks_in_linz(parcels: Stream, trucks: &Array) -> Rows {
     let chosen = trucks.column("city")?.texts()?.equals("Linz");
     filtered(parcels, move |batch| {
@@ -148,7 +148,7 @@ impl Group {
     }
 }
 
-/// Takes the rows of a city out of those that are left, until none is.
+/// Adds the rows of a batch to their groups, city by city, until no row is left.
 fn by_city(parcels: Stream) -> Rows {
     let mut groups = BTreeMap::<Option<String>, Group>::new();
     for batch in parcels {
@@ -188,7 +188,7 @@ fn or_zero(values: impl Iterator<Item = Option<f64>> + Clone) -> (Vec<f64>, Bitm
     (values.map(Option::unwrap_or_default).collect(), valid)
 }
 
-/// Keeps the first rows of the order so far, and looks at those of a batch alone that are heavier
+/// Keeps the first rows of the order so far. From each batch it adds only the rows that are heavier
 /// than the last of these.
 fn heaviest(parcels: Stream, most: usize) -> Rows {
     let field = parcels.field().clone();
@@ -208,7 +208,7 @@ fn heaviest(parcels: Stream, most: usize) -> Rows {
     Ok(vec![top])
 }
 
-/// The weight of the last row, if there are as many.
+/// The weight of the last of `most` rows; None if there are fewer.
 fn last(top: &Array, most: usize) -> Result<Option<f64>, ArrowError> {
     let weight = top.column("weight")?;
     let weight = weight.values()?;

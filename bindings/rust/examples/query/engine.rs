@@ -5,12 +5,12 @@ use std::fmt;
 use vortex_bits::arrow::{Array, ArrowError};
 use vortex_bits::{Bitmap, Comparison, values};
 
-/// What is asked: `select b, c where a > limit and b is not null`.
+/// The query: `select b, c where a > limit and b is not null`.
 pub struct Question {
     pub limit: i32,
-    /// Which of the rows that are kept is looked for, from 0 on.
+    /// The index of the row to find among the selected rows.
     pub nth: usize,
-    /// Rows among those that are kept, by their places; those that there aren't are left out.
+    /// Indices of rows to take among the selected rows. Indices out of bounds are skipped.
     pub at: Vec<u32>,
 }
 
@@ -25,7 +25,7 @@ impl Question {
     }
 }
 
-/// What is answered.
+/// The results of the query.
 #[derive(Debug, Default)]
 pub struct Answer {
     /// How many rows there are.
@@ -34,16 +34,16 @@ pub struct Answer {
     pub b: Vec<i64>,
     pub c: Vec<f64>,
     pub c_valid: Bitmap,
-    /// Of the rows that are kept and valid. No sum of `i64` is too great for an `i128`.
+    /// The sums of the selected, valid values. No sum of `i64` is too great for an `i128`.
     pub sum_b: i128,
     pub sum_c: f64,
-    /// The rows of the first one that is kept, and of that which is looked for.
+    /// The numbers of the first selected row, and of the row to find.
     pub first: Option<usize>,
     pub nth: Option<usize>,
     /// In how many rows a or b is null, and in how many the flag is true.
     pub nulls: usize,
     pub flags: usize,
-    /// The values of b at the places, and how many of c are null there.
+    /// The values of b at the indices `at`, and the number of nulls in c there.
     pub taken: Vec<i64>,
     pub taken_nulls: usize,
 }
@@ -104,7 +104,7 @@ impl Answer {
         Ok(())
     }
 
-    /// The first row and the n-th one, where they are among these.
+    /// Finds the first and the n-th selected row, if this batch has them.
     fn find(&mut self, mask: &Bitmap, question: &Question) {
         let place = |row: usize| self.rows + row;
         self.first = self.first.or_else(|| mask.first_set().map(place));
@@ -113,7 +113,7 @@ impl Answer {
         }
     }
 
-    /// The sums of what is kept, and the rows at places of it.
+    /// Sums the selected values, and takes those at the indices `at`.
     fn finish(&mut self, question: &Question) {
         self.sum_b = self.b.iter().copied().map(i128::from).sum();
         let valid = self.c_valid.set_indices();

@@ -4,9 +4,9 @@
 //!     cargo run --release --features arrow --example query -- [ROWS | FILE] [time | csv]
 //!
 //! It makes ROWS rows, a hundred thousand unless they are said, or reads FILE, lines of the columns
-//! a, b, c and flag with a comma between two; an empty field is null. With `time` it prints how
-//! long the query takes beside plain loops, by turns, the least of 30 times of each; with `csv` it
-//! prints the rows in place of the answers.
+//! a, b, c and flag with a comma between two; an empty field is null. With `time` it also runs the
+//! query and plain loops 30 times in turn, and prints the least time of each; with `csv` it prints
+//! the rows instead of the results.
 
 mod engine;
 mod loops;
@@ -24,7 +24,7 @@ use rows::Rows;
 use vortex_bits::Level;
 use vortex_bits::arrow::{Array, Stream};
 
-/// How many rows a batch has, of a file and of rows that are made.
+/// The number of rows in a batch, read or generated.
 const BATCH: usize = 65_536;
 
 fn rows_of(word: Option<&str>) -> Result<Rows, Box<dyn Error>> {
@@ -35,7 +35,7 @@ fn rows_of(word: Option<&str>) -> Result<Rows, Box<dyn Error>> {
     }
 }
 
-/// The least of some times of each, in milliseconds, by turns.
+/// Calls each 30 times, in turn. Returns the least time of each, in milliseconds.
 fn times(mut one: impl FnMut(), mut other: impl FnMut()) -> [f64; 2] {
     let mut least = [f64::INFINITY; 2];
     let mut timed = |place: usize, call: &mut dyn FnMut()| {
@@ -74,7 +74,7 @@ fn run() -> Result<(), Box<dyn Error>> {
     }
     let mut raw = rows.stream(BATCH).into_raw();
 
-    // SAFETY: the stream is as the interface asks for, and no one else has it. From here on it
+    // SAFETY: the stream is as the interface requires, and no one else has it. From here on it
     // could be that of any other producer.
     let stream = unsafe { Stream::from_raw(&raw mut raw)? };
     let batches: Vec<Array> = stream.collect::<Result<_, _>>()?;

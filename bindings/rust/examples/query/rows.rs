@@ -18,7 +18,7 @@ pub struct Rows {
 }
 
 impl Rows {
-    /// So many rows, of which each column has some nulls. The sums of c are exact in any order.
+    /// Generates `rows` rows, with some nulls in each column. The sums of c are exact in any order.
     pub fn made(rows: usize) -> Rows {
         let mut state = 0x9E37_79B9_7F4A_7C15u64;
         let mut number = move |below: u64| {
@@ -55,7 +55,7 @@ impl Rows {
         Ok(())
     }
 
-    /// Those of a text with the line `a,b,c,flag` first.
+    /// Reads the rows of a text whose first line is `a,b,c,flag`.
     pub fn read(text: &str) -> Result<Rows, String> {
         let mut read = Rows::default();
         for (line, row) in (1..).zip(text.lines()).skip(1) {

@@ -22,7 +22,7 @@ pub(super) struct Between {
 /// wanted names of the columns from the outermost one on, and the two things that differ. Returns
 /// None if the rows have the type.
 ///
-/// Metadata may differ. If no row is null, rows that may be null also have a type that allows no
+/// Metadata may differ. If no row is null, rows of a nullable type also match a type that allows no
 /// null. All other flags of the wanted type have to be flags of the rows.
 pub(super) fn difference(
     rows: &Export,

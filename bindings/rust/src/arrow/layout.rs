@@ -41,8 +41,8 @@ pub enum Layout {
     /// Each item is in one of the children. A byte names the child. The item's index there is its
     /// own if the union is sparse; otherwise a number of 32 bits is the index.
     Union { children: i64, is_sparse: bool },
-    /// Each item of the second child is the value of a run of rows. The first child has the row
-    /// after each run.
+    /// Each item of the second child is the value of a run of rows. The first child has the end of
+    /// each run: the index of the row after it.
     Runs,
     /// There are no buffers: all items are null.
     Nulls,
@@ -108,8 +108,8 @@ impl Layout {
         })
     }
 
-    /// Returns the number of buffers of an array; None if that differs between arrays. These have
-    /// at least three.
+    /// Returns the number of buffers of an array; None for views, whose arrays have at least three
+    /// buffers and not all the same number.
     pub fn buffers(self) -> Option<i64> {
         match self {
             Layout::Bits | Layout::Fixed(..) | Layout::Ranges(_, Of::Items) => Some(2),

@@ -18,8 +18,8 @@ pub(super) use offsets::{Offset, Spans};
 #[derive(Clone, Copy)]
 pub struct Ranges<'a>(Offsets<'a>);
 
-/// One offset more than there are rows, or none. Of the rows that are read, each is at least the one
-/// before.
+/// One offset more than there are rows, or none. The offsets of the rows that are read ascend: each
+/// is at least the one before.
 #[derive(Clone, Copy)]
 pub(super) enum Offsets<'a> {
     Narrow(Unaligned<'a, i32>),

@@ -23,7 +23,7 @@ use super::schema::c_string;
 
 /// The errno if a producer reports none, or panics.
 const EIO: i32 = 5;
-/// The greatest number of panics of one value that are caught.
+/// The greatest number of panics that are caught when the value of a panic is dropped.
 #[cfg(feature = "std")]
 const MOST_PANICS: usize = 64;
 

@@ -73,7 +73,7 @@ impl<B: AsRef<[u8]>> From<Bitmap<B>> for Vec<bool> {
     }
 }
 
-/// Collects the truth values. Allocates one byte per bit in between.
+/// Collects the truth values. Allocates a temporary [`Vec`] of one byte per bit.
 impl FromIterator<bool> for Bitmap {
     fn from_iter<I: IntoIterator<Item = bool>>(bools: I) -> Bitmap {
         let bools: Vec<bool> = bools.into_iter().collect();

@@ -178,7 +178,7 @@ impl<'a, const VALUE: bool> ByWords<'a, VALUE> {
         Left::new(start, word)
     }
 
-    /// Advances to the next word; if there is none, to the word from the end. Returns whether there
+    /// Advances to the next word; if there is none, to the word in `back`. Returns whether there
     /// was one.
     #[inline]
     fn advance(&mut self) -> bool {

@@ -60,7 +60,7 @@ fn extreme<T: Float>(
     (best != worst || is_there(worst)).then_some(best)
 }
 
-/// Returns the same as [`all`] if `add` may be called in any order, and with `start` more often. It
+/// Returns the same as [`all`] if the order of the values and repeated `start`s don't matter. It
 /// keeps eight partial results until the end, so that no addition waits for the one before it.
 #[inline]
 fn in_lanes<T: Copy>(values: &[T], start: T, add: impl Fn(T, T) -> T + Copy) -> T {

@@ -133,7 +133,7 @@ fn compress(word: u64, mask: u64) -> u64 {
     word
 }
 
-/// The most set bits of a mask for which a step for each is faster than the rounds.
+/// For a mask of up to this number of set bits, a step per bit is faster than the rounds.
 const FEW: u32 = 16;
 
 /// Returns the same as [`compress`] does, by a step for each set bit of the mask.

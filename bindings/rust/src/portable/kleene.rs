@@ -27,7 +27,7 @@ pub fn combine_truths(
     }
     combine(valid, trues.as_bits(), Operator::Or);
     if !decides {
-        // True is valid and not false: all that is false is valid.
+        // True is valid and not false. All false results are valid, so that `xor` removes them.
         combine(trues, valid.as_bits(), Operator::Xor);
     }
 }

@@ -63,8 +63,8 @@ fn insert<T: Copy>(
     is_better: impl Fn(T, T) -> bool + Copy,
 ) {
     sort(&mut best[sorted..], is_better);
-    // The last new value takes its place first. The other ones move with it, so that each value
-    // before moves once.
+    // Inserts the last new value first. The other new ones move along in front of it, so that each
+    // old value moves once.
     let mut end = sorted;
     for added in (1..=best.len() - sorted).rev() {
         let (value, _) = best[end + added - 1];

@@ -1,4 +1,4 @@
-//! Fills, negates, copies, combines, packs and unpacks windows, by words.
+//! Fills, negates, copies, combines, packs and unpacks windows, word by word.
 
 use super::word::{byte_words, eight_of, low, only_word, quick_words, words};
 use crate::Bits;
@@ -37,7 +37,7 @@ fn each_byte(out: &mut Written<'_>, of: impl Fn(u8) -> u8) {
     }
 }
 
-/// Bits to write, or to combine with those that are present, which are read by words.
+/// Bits to write, or to combine with those that are present. They are read word by word.
 trait Source: Copy {
     /// Returns whether the first bit is bit `digit` of its byte.
     fn is_at(self, digit: usize) -> bool;
@@ -217,8 +217,8 @@ pub fn copy(out: &mut Written<'_>, source: Bits<'_>) {
     each(out, source, |_, word| word);
 }
 
-/// Copies `len` bits from index `from` to index `to`, by words: the first word first if they move
-/// towards the front, else the last one first. The window has both.
+/// Copies `len` bits from index `from` to index `to`, word by word: the first one first if they
+/// move towards the front, else the last one first. The window has both.
 pub fn copy_within(out: &mut Written<'_>, from: usize, to: usize, len: usize) {
     let copy = |i: usize| {
         let n = (len - 64 * i).min(64);

@@ -1,5 +1,5 @@
-//! Predicates over texts of the lengths, and over as many rows, as their code treats differently,
-//! compared with plain calls for each row.
+//! Predicates over texts, compared with plain calls for each row. The lengths of texts and the
+//! numbers of rows cover each case of the code.
 use vortex_bits::arrow::{Array, Texts};
 use vortex_bits::{Bitmap, BitsMut};
 
@@ -13,7 +13,7 @@ struct Rows {
 }
 
 impl Rows {
-    /// Rows of pieces of a text, most of them from its start on, some with another byte.
+    /// Random pieces of a text. Most begin where it begins, and some have one byte changed.
     fn random(maker: &mut Maker, text: &[u8]) -> Rows {
         let number = maker.one_of(&[0, 1, 7, 17, 63, 64, 65, 66, 127, 130, 200]);
         let (nulls, one) = (maker.one_of(&[2, 10, 1000]), maker.below(3) == 0);
@@ -35,13 +35,13 @@ impl Rows {
         rows
     }
 
-    /// Which rows are valid and pass a test.
+    /// The bitmap of rows that are valid and pass a test.
     fn that(&self, test: impl Fn(&[u8]) -> bool) -> Bitmap {
         let rows = self.rows.iter().zip(&self.valid);
         rows.map(|(row, valid)| *valid && test(row)).collect()
     }
 
-    /// The rows as an array of one of three layouts, behind bytes of no row.
+    /// The rows as an array of one of three layouts. Its bytes begin with some that no row has.
     fn array(&self, maker: &mut Maker) -> Array {
         let validity: Bitmap = self.valid.iter().copied().collect();
         let before = maker.one_of(&[0, 3, 70]);
@@ -99,7 +99,7 @@ fn some_len(maker: &mut Maker) -> usize {
     }
 }
 
-/// Compares a predicate, and its form in place on a mask by chance at some offset, with the rows
+/// Compares a predicate, and its in-place form on a random mask at a random offset, with the rows
 /// that pass. Returns their number.
 #[track_caller]
 fn compare(
@@ -201,8 +201,8 @@ fn rows_of_blocks_are_those_of_plain_calls() {
     assert!(passed.iter().all(is_some), "{passed:?} of {all}");
 }
 
-/// Returns texts of which no two are equal. Most begin with the same eight bytes, so that some of
-/// many have a key with a high end of their own. Some end with zeros.
+/// Returns distinct texts. Most begin with the same eight bytes; in a large set some have a key
+/// whose high part no other key has. Some end with zeros.
 fn different(number: usize) -> Vec<Vec<u8>> {
     let text = |it: usize| match it % 16 {
         0 => format!("{it} is another"),
@@ -213,8 +213,8 @@ fn different(number: usize) -> Vec<Vec<u8>> {
     (0..number).map(|it| text(it).into_bytes()).collect()
 }
 
-/// Sets of so many texts that each high end of a key is that of none, one or more of them, and that
-/// their indices are a byte or not.
+/// The sets are of sizes such that the high part of a key belongs to none, one or more texts, and
+/// that indices of texts fit in a byte or not.
 #[test]
 fn rows_in_sets_of_any_size_are_those_of_a_loop() {
     let (mut maker, mut passed) = (Maker::new(26, false), 0);

@@ -1,4 +1,5 @@
-//! Rows of each type, read one by one from the structs of the interface, by its documents alone.
+//! Rows of each type, read one by one from the structs of the interface. The code follows only the
+//! specification.
 use crate::plain::bit;
 use crate::raw::{Array, Schema};
 use crate::strict::{Sign, Type, parse};
@@ -22,7 +23,7 @@ struct Of<'a> {
 ///
 /// # Safety
 ///
-/// It is as the interface asks for.
+/// The structs are valid by the interface.
 pub unsafe fn cells(array: &Array, schema: &Schema) -> Vec<Cell> {
     let of = Of { array, schema };
     (0..count(array.length))
@@ -153,7 +154,7 @@ impl<'a> Of<'a> {
         }
     }
 
-    /// An item of the child of a row's type, with the id of that; null where it is.
+    /// Returns the type id of a row, and the item of its child; null if the item is null.
     unsafe fn of_union(self, ids: &[i8], place: usize, item: usize) -> Cell {
         // SAFETY: as of the caller.
         let (id, cell) = unsafe {

@@ -1,5 +1,5 @@
-//! The checker of these tests itself: it sees each lie that it is there for, and its formats are
-//! those of the crate.
+//! Tests of the checker of these tests: it finds each kind of error, and it knows the same formats
+//! as the crate.
 use std::ptr;
 
 use vortex_bits::arrow::{ArrowError, Fault};
@@ -9,7 +9,7 @@ use crate::ranges::{offsets, view};
 use crate::raw::{Array, Buffer, Count, Schema, import};
 use crate::strict::{Look, looked_at, parse};
 
-/// What is said of a tree.
+/// The message of the checker for a tree.
 fn said((mut array, mut schema): Tree, look: Look) -> String {
     // SAFETY: it is as the interface asks for, but for what is wrong.
     let answer = unsafe { looked_at(&array, &schema, look) };
@@ -30,13 +30,13 @@ fn of(format: &str, len: i64, buffers: Vec<Option<Buffer>>, children: Vec<Tree>)
     )
 }
 
-/// A buffer of bytes, as one that may be missing.
+/// A buffer of bytes, as an `Option`.
 #[allow(clippy::unnecessary_wraps, reason = "as arrays have them")]
 fn buffer(bytes: &[u8]) -> Option<Buffer> {
     Some(Buffer::exact(bytes))
 }
 
-/// So many values of one byte.
+/// `len` values of one byte.
 fn bytes(len: i64) -> Tree {
     of("c", len, vec![None, buffer(&[0; 99])], vec![])
 }
@@ -226,7 +226,7 @@ fn numbers_that_lie_are_seen() {
     }
 }
 
-/// What is spoiled by chance is seen by the checker wherever it is by the crate.
+/// The checker refuses a randomly spoiled tree exactly if the crate does.
 #[test]
 fn what_the_crate_refuses_is_wrong() {
     let mut maker = Maker::new(6, false);

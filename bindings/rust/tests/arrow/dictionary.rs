@@ -1,4 +1,4 @@
-//! Columns with a dictionary, beside loops over rows.
+//! Columns with a dictionary, compared with loops over rows.
 use vortex_bits::arrow::{Array, Export, ExportStream, Field, Primitive};
 use vortex_bits::{BitIndex, Bitmap, Validity};
 
@@ -78,7 +78,7 @@ fn a_validity_is_there_where_one_was() {
     assert_eq!(column(Some(only.clone()), None), (nulls, Some(only)));
 }
 
-/// Rows of the indices 2, 9 and -1 behind one more, of these valid.
+/// Rows of the indices 2, 9 and -1, at offset 1. `valid` has their validity.
 fn malformed(valid: u8) -> Array {
     let none = Count::default();
     let items = raw::Array::values(3, None, &[1, 2, 3], &none);

@@ -1,4 +1,4 @@
-//! Arrays that are handed on, as a consumer in C reads them.
+//! Exported arrays, as a consumer in C reads them.
 use std::fmt::{Debug, Write};
 use std::mem::transmute;
 use std::panic;
@@ -14,19 +14,19 @@ use crate::plain::{Random, bit};
 use crate::raw::{self, Count};
 use crate::strict::{self, Look};
 
-/// The two structs, as C sees them, whose items are those of the type.
+/// The two structs, as C sees them. Tests that also the items are valid for the type.
 #[track_caller]
 pub fn raw_of(export: Export) -> (raw::Array, raw::Schema) {
     looked_at(export, Look::Items)
 }
 
-/// Those of an array that came with items that aren't of its type.
+/// The same without a test of the items, for arrays that were imported with wrong ones.
 #[track_caller]
 pub fn as_it_came(export: Export) -> (raw::Array, raw::Schema) {
     looked_at(export, Look::Numbers)
 }
 
-/// An export as the crate reads it, whose structs are looked at before.
+/// Imports an export again, after a test of its structs.
 pub trait ReadBack {
     fn read_back(self) -> Array;
 }

@@ -1,5 +1,5 @@
-//! Operators over columns without nulls, with metadata and of each type of texts, whose batches and
-//! streams differ in what they say of nulls.
+//! Operators over columns without nulls, with metadata and of each type of texts. The flags of
+//! batches and streams for nulls differ.
 use vortex_bits::arrow::{Array, ArrowError, Export, ExportStream, Field, Stream};
 use vortex_bits::{Bitmap, Comparison, values};
 
@@ -56,7 +56,7 @@ fn rows(format: &str, flags: i64, blob: Option<&[u8]>) -> Array {
     import(rows, schema).unwrap()
 }
 
-/// The operator of README.md, with the type that a caller says.
+/// The operator of README.md; `name` is the type of a column of its result.
 fn above(batches: Stream, limit: i64, name: Field) -> ExportStream {
     let rows = Field::batch([name, Field::new("number", "l").unwrap()]);
     let kept = batches.map(move |batch| {
@@ -113,7 +113,7 @@ fn an_operator_reads_columns_without_nulls_with_metadata_of_each_type() {
     }
 }
 
-/// Streams of which one has nulls are joined to one that may have some.
+/// Batches whose flags differ go into one stream, which has the type of any of them.
 #[test]
 fn streams_that_differ_in_a_flag_are_joined() {
     let blob = metadata();
@@ -130,7 +130,7 @@ fn streams_that_differ_in_a_flag_are_joined() {
     }
 }
 
-/// What a stream of a column says of rows of another one.
+/// The number of rows that a stream of type `stream` gives for a batch, or its error.
 fn said(rows: Export, stream: Field) -> String {
     let stream = ExportStream::new(stream, [Ok(rows)]).into_stream().unwrap();
     let answer = stream
@@ -191,7 +191,8 @@ fn nulls_are_refused_where_a_stream_has_none() {
     assert_eq!(said(coded(full), of(strict())), "3");
 }
 
-/// Arrays without bits of validity: nulls alone are null, unions and runs in their children.
+/// Arrays without a validity: only those of type null have nulls. Unions and runs have them in
+/// their children.
 #[test]
 fn nulls_without_bits_are_counted() {
     let array = |null_count| {
@@ -329,7 +330,7 @@ fn rows_get_the_field_of_others() {
     assert!(coded.is_err());
 }
 
-/// What is made of more levels than are read is handed on, and isn't read.
+/// Types of more levels than the crate reads can be exported, but not imported.
 #[test]
 fn levels_have_one_limit() {
     let nested = |levels: usize| {

@@ -1,5 +1,5 @@
-//! Which formats values may be handed on as, and which indices with which dictionary: what no pass
-//! over them shows is an error, since a consumer reads memory by it.
+//! As which formats values can be exported, and which indices with which dictionary. What the crate
+//! can't verify is an error, since a consumer would read memory by it.
 use vortex_bits::arrow::{Array, Export, Primitive};
 use vortex_bits::{BitIndex, Bitmap};
 
@@ -7,7 +7,7 @@ use crate::export::ReadBack;
 use crate::ranges::{offsets, view};
 use crate::raw::{self, Buffer, Count, Schema, import};
 
-/// An array of a format over one child of each of these, of two rows.
+/// An array of two rows of a format, with these numbers of buffers and children.
 fn nested(format: &str, buffers: usize, children: usize) -> Array {
     let count = Count::default();
     let buffers = (0..buffers).map(|_| Some(Buffer::new(&[0; 64], 0)));
@@ -22,7 +22,7 @@ fn nested(format: &str, buffers: usize, children: usize) -> Array {
     .unwrap()
 }
 
-/// What is said of an export that is to be of another format.
+/// The format of an export after `with_format`, or the error.
 fn said(export: Export, format: &str) -> String {
     let answer = export.with_format(format);
     answer.map_or_else(
@@ -81,7 +81,7 @@ fn maps_become_lists_without_the_flag_of_maps() {
     }
 }
 
-/// The view of a row whose bytes begin here; of a null one that of a buffer that isn't there.
+/// The view of a row whose bytes begin at `start`. A null row gets a view of a missing buffer.
 fn shown((row, start): (Option<&[u8]>, &i64)) -> [u8; 16] {
     let len = row.map_or(99, <[u8]>::len);
     let mut view = view(&"x".repeat(len), 0, (*start).try_into().unwrap());
@@ -93,7 +93,7 @@ fn shown((row, start): (Option<&[u8]>, &i64)) -> [u8; 16] {
     view
 }
 
-/// Rows of bytes of these formats, the null ones of which are no UTF-8.
+/// Binary rows of this format. The bytes of null rows aren't UTF-8.
 fn binary(rows: &[Option<&[u8]>], format: &str) -> Export {
     let valid: Bitmap = rows.iter().map(Option::is_some).collect();
     let bytes: Vec<u8> = rows
@@ -233,7 +233,7 @@ fn formats_without_a_test_are_those_of_such_arrays() {
     assert_eq!(refused.to_string(), "no type has the format \"+w:x\"");
 }
 
-/// What is said of indices with so many items, at each place of 70 rows in turn.
+/// Puts an index out of range for `items` items at some of 70 rows in turn: an error unless null.
 fn each_place<I>(lost: I, number: &str, items: usize)
 where
     I: Primitive + BitIndex + Default,

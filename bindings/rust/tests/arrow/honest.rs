@@ -1,5 +1,5 @@
-//! Exports by chance, by every safe call: whatever is asked for, what comes out is as the interface
-//! wants it, or nothing does.
+//! Random exports by every safe call: each call returns an error or an export that is valid by the
+//! interface.
 use vortex_bits::arrow::{Array, Export, ExportStream, Field, Primitive};
 use vortex_bits::{Bitmap, Bits};
 
@@ -73,7 +73,7 @@ const ALIKE: [&[&str]; 10] = [
     &["+us:0,5,127", "+us:0,5,126", "+ud:0,5,127"],
 ];
 
-/// What makes exports, and how often it was refused.
+/// Makes random exports, and counts the calls and their errors.
 struct Asker {
     maker: Maker,
     calls: usize,
@@ -85,7 +85,7 @@ impl Asker {
         self.maker.one_of(&[0, 1, 2, 7, 8, 9, 20, 65])
     }
 
-    /// A format, as often as not one of items that lie alike.
+    /// A random format. Every second time it has the same layout as `format`.
     fn format(&mut self, format: &str) -> &'static str {
         let alike = ALIKE.iter().find(|group| group.contains(&format));
         match alike {
@@ -94,7 +94,7 @@ impl Asker {
         }
     }
 
-    /// Indices of so many items that most of them name one.
+    /// Indices with a dictionary. Most of them name one of its items.
     fn coded(&mut self) -> Export {
         let items = self.maker.one_of(&[1, 9, 128, 129, 200]);
         let len = self.len();
@@ -122,7 +122,7 @@ impl Asker {
         Export::values(values, valid)
     }
 
-    /// Values of this program, or an array of another part of it.
+    /// An export of Rust values, or of an imported array.
     fn first(&mut self) -> Export {
         let len = self.len();
         match self.maker.below(14) {
@@ -150,7 +150,7 @@ impl Asker {
         }
     }
 
-    /// What one more call makes of it; None where that is refused.
+    /// Makes one more random call on an export; None if it fails.
     fn next(&mut self, export: Export) -> Option<Export> {
         self.calls += 1;
         let made = match self.maker.below(13) {
@@ -240,7 +240,7 @@ impl Asker {
         of.nullable(self.maker.below(2) == 0).with_metadata(pairs)
     }
 
-    /// An export by some calls, none of which is refused.
+    /// An export by some random calls, all of which succeeded.
     fn export(&mut self) -> Export {
         loop {
             let first = self.first();

@@ -1,6 +1,6 @@
-//! Trees by chance that lie, of which each reader of the crate is called: under a tool that sees
-//! accesses, as `AddressSanitizer`, none is outside of a buffer. What is handed on of them has the
-//! numbers that the interface wants, and each struct is released once.
+//! Calls each reader of the crate for random trees with wrong contents. A tool such as
+//! `AddressSanitizer` shows that no access is outside of a buffer. The numbers of exported structs
+//! are valid, and each struct is released once.
 use std::hint::black_box;
 
 use vortex_bits::arrow::{Array, ArrowError, Export, Fault, Primitive};
@@ -44,7 +44,7 @@ impl Reader {
         self.refused += if is_read { 0 } else { calls };
     }
 
-    /// All of an array, and of its parts, with so many levels of them.
+    /// Reads all of an array, and of its children down to `levels` levels.
     fn read(&mut self, array: &Array, levels: usize) {
         self.bits(array);
         self.values(array);
@@ -151,7 +151,7 @@ impl Reader {
         }
     }
 
-    /// What is made of an array for others.
+    /// Exports an array in each way, and reads the results.
     fn hand_on(&mut self, array: &Array) {
         let number = array.len();
         let mask: Bitmap = (0..number).map(|_| self.maker.below(2) == 0).collect();
@@ -169,7 +169,7 @@ impl Reader {
         }
         let own = array.clone().try_into_export();
         self.asked(1, own.is_ok());
-        // It is refused where rows end behind the last one of all, by each reader too.
+        // The export fails if rows end after the last offset, and so does each reader.
         let is_back = |fault: &Fault| matches!(fault, Fault::Back { .. });
         match array.ranges() {
             Ok(_) => assert!(own.is_ok()),
@@ -195,7 +195,7 @@ impl Reader {
         }
     }
 
-    /// What is handed on is taken over by who reads it.
+    /// Imports an export again, and reads its texts.
     fn take_over(&mut self, export: Export) {
         let (len, (array, schema)) = (export.len(), as_it_came(export));
         let again = import(array, schema).unwrap();
@@ -207,7 +207,7 @@ impl Reader {
     }
 }
 
-/// The rows and a part of them, and the same of rows that came once more and share nothing.
+/// Joins the rows with a part of them, and the rows imported again, which share nothing, with it.
 fn joined(array: &Array) -> [Result<Export, ArrowError>; 2] {
     let part = array.slice(array.len() / 2..);
     let again = array.clone().try_into_export();
@@ -216,7 +216,7 @@ fn joined(array: &Array) -> [Result<Export, ArrowError>; 2] {
     [array.clone(), again].map(|it| Export::concat(array.field(), &[it, part.clone()]))
 }
 
-/// Rounds of trees that lie in their items, or of such of which a number is wrong too.
+/// Reads `number` trees with wrong items. If `is_spoiled`, a number of each tree is wrong too.
 fn read_all(seed: u64, number: usize, is_spoiled: bool) {
     let mut reader = Reader {
         maker: Maker::new(seed, true),

@@ -1,5 +1,5 @@
-//! Arrays of more rows or items than the interface can count: each is refused by name, and no
-//! array goes out that says it has fewer.
+//! Arrays of more rows or items than the interface can count: each is an error with the column's
+//! name. No export has a smaller number instead.
 use vortex_bits::arrow::{Array, Export};
 
 use crate::made::Tree;

@@ -1,4 +1,4 @@
-//! Arrays made by hand, at offsets of their own and of their structs, beside plain loops.
+//! Arrays made by hand, with offsets and in structs with offsets, compared with plain loops.
 use std::thread;
 
 use vortex_bits::arrow::{Array, ArrowError, Fault, Primitive};
@@ -60,7 +60,7 @@ fn values_bits_and_validity_lie_at_the_offset() {
     }
 }
 
-/// Rows of a struct of a number and a truth value, at offsets of each of the three.
+/// Rows of a struct of a number and a truth value. The struct and both columns have offsets.
 fn rows(len: i64, [own, a, b]: [i64; 3], columns: &Columns, count: &Count) -> Array {
     let child = own + len;
     let a = raw::Array::values(child, Some(&columns.valid), &columns.numbers, count).at(a);
@@ -229,7 +229,7 @@ fn values_that_are_not_aligned_are_read_one_by_one() {
         format!("{got:?}"),
         format!("{:?}", want.collect::<Vec<_>>())
     );
-    // Decimals are filtered as halves, which are aligned.
+    // Decimals are filtered as pairs of 64-bit halves, which are aligned.
     let mut kept = [[0; 2]; 2];
     let mask = Bitmap::from([true, false, true]);
     mask.bits()
@@ -329,7 +329,7 @@ fn other_types_have_a_length_and_a_validity() {
         let count = Count::default();
         let children = if format == "+r" { 2 } else { 1 };
         let child = |_| raw::Array::values(9, None, &[4; 9 * 4], &count);
-        // The validity alone may be missing.
+        // Only the buffer of the validity may be missing.
         let has_none = matches!(format, "+ud:5" | "+us:5" | "+r");
         let is_missing = |place| place == 0 && !has_none;
         let buffer = |place| (!is_missing(place)).then(|| Buffer::new(&[0; 32], 0));

@@ -1,4 +1,4 @@
-//! Arrays and streams of the Arrow C interfaces: made by hand, beside plain loops over single bits.
+//! Arrays and streams of the Arrow C interfaces, made by hand and compared with plain loops.
 mod blocks;
 mod cells;
 mod checker;

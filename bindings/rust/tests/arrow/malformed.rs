@@ -1,4 +1,5 @@
-//! Structs whose numbers, pointers or texts are wrong: each is refused by name, and released.
+//! Structs whose numbers, pointers or texts are wrong: each is an error that names what is wrong,
+//! and is released.
 use std::ptr;
 
 use vortex_bits::arrow::{ArrowError, Fault};
@@ -9,7 +10,7 @@ fn numbers(length: i64) -> Array {
     Array::values(length, Some(&[0xFF; 4]), &[0; 256], &Count::default())
 }
 
-/// What is said of an array that is spoiled, of a format.
+/// The error for an array of a format after `spoil`.
 fn said(format: &str, spoil: impl FnOnce(&mut Array)) -> String {
     let count = Count::default();
     let mut array = Array::values(4, Some(&[0xFF; 4]), &[0; 256], &count);
@@ -172,7 +173,7 @@ fn formats_that_no_type_has_are_named() {
     }
 }
 
-/// What is said of rows of a column, one of which is spoiled.
+/// The error for a struct with a column after both are spoiled.
 fn of_rows(spoil: fn(&mut Array), spoil_column: fn(&mut Array)) -> String {
     let count = Count::default();
     let mut a = Array::values(4, None, &[0; 32], &count);

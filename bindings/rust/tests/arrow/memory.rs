@@ -12,7 +12,7 @@ use crate::made::{KINDS, Maker};
 use crate::ranges::{offsets, view};
 use crate::raw::{self, Buffer, Count, Schema, import};
 
-/// Refuses a large request of a thread that asks for it, and counts the bytes of all.
+/// Refuses large requests as the thread's [`LEFT`] and [`MOST`] say, and counts all bytes.
 struct Refusing;
 
 /// Requests for rows have more bytes than this; those for structs have fewer.
@@ -52,8 +52,8 @@ unsafe impl GlobalAlloc for Refusing {
 #[global_allocator]
 static ALLOCATOR: Refusing = Refusing;
 
-/// Calls it with each large request refused in turn, until none is. Returns the number of refusals.
-/// A request that can't fail would end the process.
+/// Runs `call` with each large request refused in turn, until none is. Returns the number of
+/// refusals. If a refused request has no error to return, the process ends.
 fn refused(call: impl Fn() -> Result<Export, ArrowError>) -> usize {
     if call().is_err() {
         return 0;
@@ -185,7 +185,7 @@ fn coded(rows: Export, items: usize) -> Array {
     rows.with_dictionary(items).unwrap().into_array()
 }
 
-/// List views of an item each.
+/// List views with one item per row.
 fn list_views(rows: i32) -> Array {
     let none = Count::default();
     let starts: Vec<i64> = (0..rows).map(i64::from).collect();

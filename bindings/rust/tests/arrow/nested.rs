@@ -1,4 +1,4 @@
-//! Arrays of whose type no values are read, but which are handed on: what can be tested of them is.
+//! Arrays of types whose values the crate doesn't read, but exports: it tests their structs.
 use vortex_bits::arrow::{Array, Export};
 
 use crate::raw::{self, Buffer, Count, Schema, import};
@@ -19,8 +19,8 @@ fn ends(format: &str) -> Vec<u8> {
     }
 }
 
-/// An array of a format at the offset 2, with four rows; its buffers are there but where `missing`
-/// says, and each child has so many items of its format, from its own offset 1 on.
+/// An array of a format with four rows at offset 2. The buffers in `missing` are null. Each child
+/// has a format and a number of items, at offset 1.
 fn of(format: &str, missing: &[usize], children: &[(&str, i64)]) -> Result<Array, String> {
     let count = Count::default();
     let buffers = match format.split(':').next().unwrap() {
@@ -98,7 +98,7 @@ fn buffers_that_are_no_validity_are_wanted() {
     assert_eq!(said("+ud:1", 0), null("types"));
     assert_eq!(said("+ud:1", 1), null("offsets"));
     assert_eq!(said("+w:1", 0), None);
-    // Without rows none is.
+    // Without rows, no buffer is required.
     for (format, buffers) in [("+vl", 3), ("+us:1", 1), ("+ud:1", 2)] {
         let none = Count::default();
         let items = raw::Array::values(0, None, &[], &none);

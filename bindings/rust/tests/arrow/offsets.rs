@@ -1,5 +1,5 @@
-//! Arrays of each type, made by hand at every offset up to 127, that are handed on, filtered, taken
-//! and put together: compared with the rows that a plain reader finds one by one.
+//! Arrays of each type, made by hand at every offset up to 127, that are exported, filtered, taken
+//! and joined: compared with the rows that a plain reader finds one by one.
 use vortex_bits::arrow::{Array, Export};
 use vortex_bits::{Bitmap, Bits};
 
@@ -9,7 +9,7 @@ use crate::made::{KINDS, Maker};
 use crate::raw::{Count, import};
 use crate::select::{rows_as_they_came, rows_of};
 
-/// An array by chance, and what a plain reader finds in it.
+/// A random array, and what a plain reader finds in it.
 fn some(maker: &mut Maker, kind: usize, offset: usize) -> (Array, Vec<Cell>) {
     maker.count = Count::default();
     maker.offset = Some(offset);
@@ -93,7 +93,7 @@ fn fields_go_through_each_call() {
             }));
         }
     }
-    // A row that is null makes the batch one that may have some, and nothing else.
+    // A null row sets only the batch's flag for nulls.
     let taken = rows
         .take_valid(&[2u8, 0], Bits::new(&[0b01], 0, 2))
         .unwrap();

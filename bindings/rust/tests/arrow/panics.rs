@@ -1,5 +1,5 @@
-//! Panics in what makes the batches of a stream: an errno and a text for the consumer, and no end
-//! of the program.
+//! Panics in the iterator that makes the batches of a stream: the consumer gets an errno and a
+//! text, and the program doesn't end.
 use std::ffi::CStr;
 use std::panic::{resume_unwind, set_hook, take_hook};
 use std::sync::Mutex;
@@ -12,7 +12,7 @@ use vortex_bits::{Bitmap, Bits, GroupError, values};
 /// The hook is one for all threads.
 static HOOK: Mutex<()> = Mutex::new(());
 
-/// What is answered while no panic prints.
+/// Calls `ask` without output of panics, and returns its result.
 fn silent<T>(ask: impl FnOnce() -> T) -> T {
     let _one = HOOK.lock().unwrap();
     let hook = take_hook();
@@ -122,7 +122,7 @@ fn panicking(panic: fn()) -> ExportStream {
     ExportStream::new(field(), batches)
 }
 
-/// What panics again when it is dropped.
+/// A value whose drop panics again.
 struct Again;
 
 impl Drop for Again {
@@ -148,7 +148,7 @@ fn each_panic_is_an_errno() {
     }
 }
 
-/// A consumer that asks again sees no end, which would be rows that are missing.
+/// Later calls return the error too: an end would hide that rows are missing.
 #[test]
 fn a_stream_that_panicked_says_so_in_each_later_call() {
     let mut raw = panicking(|| panic!("lost")).into_raw();

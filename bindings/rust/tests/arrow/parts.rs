@@ -1,5 +1,5 @@
-//! Parts of texts and lists behind which the offsets go back: the buffer ends at the last offset of
-//! all, so that nothing is read up to one that is above.
+//! Parts of texts and lists whose offsets decrease after the part. The buffer ends at the array's
+//! last offset, so a part whose offsets are greater isn't read.
 use std::panic::{AssertUnwindSafe, catch_unwind};
 
 use vortex_bits::Bits;
@@ -35,7 +35,7 @@ fn column(numbers: &[i64], format: &str, start: usize, left: usize) -> Array {
     rows.column("s").unwrap()
 }
 
-/// What each reader says of a column: nothing where it reads.
+/// The error of each reader of a column; an empty text if it reads it.
 fn answers(column: &Array) -> Vec<String> {
     let mut answers = vec![column.ranges().map(drop)];
     if !column.field().format().starts_with('+') {
@@ -90,7 +90,7 @@ fn parts_are_read_up_to_the_last_offset_of_all() {
                 let all: Vec<usize> = (0..column.len()).collect();
                 assert_eq!(taken(&all).is_ok(), wanted.is_empty());
                 assert_eq!(taken(&[]), Ok(0));
-                // Slices of the column are no others.
+                // Slices of the column give the same.
                 let wanted = fault(&part[..2], numbers[6]);
                 assert!(answers(&column.slice(..1)).iter().all(|it| *it == wanted));
                 let none = column.slice(1..1);

@@ -144,8 +144,8 @@ fn starts_of_every_length_are_found() {
     }
 }
 
-/// Bytes of few kinds, often with an end of eight zeros or a start that others have: what a search
-/// by the first bytes or by the length alone would take for each other.
+/// Bytes of few kinds, often with eight zeros at the end or with a common start. A search by only
+/// the first bytes or only the length would confuse them.
 fn bytes(maker: &mut Maker) -> Vec<u8> {
     let mut bytes = [&b""[..], b"https://", b"longer than sixteen "][maker.below(3)].to_vec();
     for _ in 0..maker.one_of(&[0, 0, 1, 1, 2, 3, 7, 8, 9, 62]) {
@@ -226,7 +226,7 @@ fn rows_of_loops_are_those_of_iterators() {
     }
 }
 
-/// Of one of the calls of windows and values.
+/// The error of one of the calls of windows and values.
 fn refused(which: usize) -> Result<(), ArrowError> {
     let bits = Bits::new(&[5], 0, 3);
     match which {

@@ -1,4 +1,4 @@
-//! Texts and lists, whose rows lie between offsets.
+//! Texts and lists, whose rows are ranges between offsets.
 use std::ops::Range;
 
 use vortex_bits::Bits;
@@ -123,7 +123,7 @@ fn texts_want_their_buffers() {
     assert_eq!(refused.to_string(), "the buffer of the offsets is null");
 }
 
-/// A view of a text, which lies in this buffer from this place on where it is long.
+/// The view of a text. The bytes of a long one begin at byte `start` of this buffer.
 pub fn view(text: &str, buffer: i32, start: i32) -> [u8; 16] {
     let mut view = [0; 16];
     view[..4].copy_from_slice(&i32::try_from(text.len()).unwrap().to_ne_bytes());
@@ -205,7 +205,7 @@ fn views_that_lie_in_no_buffer_are_named() {
         said(view(long, 1, 2), &[1, 15]),
         "the buffer of the bytes is null"
     );
-    // Of null rows they aren't looked at.
+    // Views of null rows aren't tested.
     let rows = [view(long, 7, 0), view(long, 1, 2), view(long, 7, 0)];
     let array = import_as(views(Some(0b011), &rows, fits), "vu").unwrap();
     assert_eq!(array.texts().unwrap().get(0), Some(long.as_bytes()));

@@ -82,7 +82,7 @@ impl Buffer {
         }
     }
 
-    /// These bytes and none around them, for a tool that sees what is read behind them.
+    /// These bytes without others around them, so that a tool can detect reads past their end.
     pub fn exact(bytes: &[u8]) -> Buffer {
         let bytes: Box<[u8]> = bytes.into();
         let pointer = bytes.as_ptr().cast();
@@ -119,7 +119,7 @@ unsafe extern "C" fn release_array(array: *mut Array) {
 }
 
 impl Array {
-    /// With a buffer for each that is given, null where there is None.
+    /// An array with these buffers; None is a null pointer.
     pub fn new(length: i64, buffers: Vec<Option<Buffer>>, count: &Count) -> Array {
         Array::of(length, buffers, vec![], None, count)
     }
@@ -167,7 +167,7 @@ impl Array {
         self
     }
 
-    /// Of values, and of a validity where one is given.
+    /// An array of values, with a validity if one is given.
     pub fn values(length: i64, valid: Option<&[u8]>, values: &[u8], count: &Count) -> Array {
         let valid = valid.map(|it| Buffer::new(it, 0));
         Array::new(length, vec![valid, Some(Buffer::new(values, 0))], count)
@@ -234,7 +234,7 @@ impl Schema {
     }
 }
 
-/// What the crate makes of the two, both of which it takes over.
+/// Imports both structs, which the crate then owns.
 pub fn import(mut array: Array, mut schema: Schema) -> Result<arrow::Array, ArrowError> {
     // SAFETY: they are as the interface asks for, but for numbers and null pointers.
     let answer =
@@ -243,7 +243,7 @@ pub fn import(mut array: Array, mut schema: Schema) -> Result<arrow::Array, Arro
     answer
 }
 
-/// The same of an array of this format, without a name.
+/// Imports an array of this format, without a name.
 pub fn import_as(array: Array, format: &str) -> Result<arrow::Array, ArrowError> {
     import(array, Schema::new("", format, &Count::default()))
 }

@@ -1,4 +1,4 @@
-//! Rows that aren't handed on, and why.
+//! Rows that can't be exported, and why.
 use vortex_bits::arrow::{Array, ArrowError, Export, Field};
 use vortex_bits::{Bitmap, Bits, TakeValuesError};
 
@@ -113,7 +113,7 @@ fn the_first_index_that_is_valid_and_of_no_row_is_named() {
     assert_eq!(told(rows.take_valid(&[0i8, 1, 2, -1], valid)), refused);
 }
 
-/// Three rows of a union, of an array with one row before them and two items of each child.
+/// Three rows of a union at offset 1, with two items in each child.
 fn union(format: &str, types: [u8; 4], places: [i32; 4]) -> Array {
     let mut buffers = vec![Some(Buffer::exact(&types))];
     if format.starts_with("+ud") {

@@ -1,5 +1,5 @@
-//! Streams whose producer releases them in one of their own calls: no callback is called from then
-//! on, and they are released once.
+//! Streams whose producer releases them within one of their callbacks: the crate makes no call
+//! after that, and each stream is released once.
 use std::ffi::{c_char, c_int};
 use std::ptr;
 
@@ -23,12 +23,12 @@ struct Producer {
     batches: usize,
     errno: c_int,
     calls: usize,
-    /// Those when it was released.
+    /// The number of calls after the release.
     late: usize,
     released: usize,
 }
 
-/// What is behind a stream, which stays when it is released.
+/// The producer of a stream, which outlives the release. Counts the call.
 unsafe fn called<'a>(stream: *mut raw::Stream) -> &'a mut Producer {
     unsafe {
         let producer = &mut *(*stream).private_data.cast::<Producer>();
@@ -83,7 +83,7 @@ unsafe extern "C" fn release(stream: *mut raw::Stream) {
     }
 }
 
-/// What is read of a stream, how often it was called, and how often released.
+/// Reads a stream. Returns its batches or errors, the number of calls, and that of releases.
 fn read(releases: In, errno: c_int) -> (Vec<String>, usize, usize) {
     let mut producer = Producer {
         releases,
@@ -124,7 +124,7 @@ fn no_stream_is_called_when_it_is_released() {
             .map(String::from)
             .collect::<Vec<_>>()
     };
-    // A call of it in which it is released is one more, by the producer itself.
+    // The release within a callback counts as a call too, by the producer.
     assert_eq!(read(In::None, 0), (rows(2, &[]), 5, 1));
     assert_eq!(read(In::None, 5), (rows(2, &["get_next: errno 5"]), 6, 1));
     assert_eq!(read(In::Schema, 0), (rows(0, &[lost]), 2, 1));
@@ -135,7 +135,7 @@ fn no_stream_is_called_when_it_is_released() {
     assert_eq!(read(In::Next(0), 0), (rows(1, &[lost]), 3, 1));
     assert_eq!(read(In::Next(1), 0), (rows(2, &[lost]), 4, 1));
     assert_eq!(read(In::Next(1), 5), (rows(2, &[lost]), 4, 1));
-    // The end and an error are said with the release.
+    // A callback that releases the stream may still return the end or an error.
     assert_eq!(read(In::Next(2), 0), (rows(2, &[]), 5, 1));
     assert_eq!(
         read(In::Next(2), 5),

@@ -1,5 +1,5 @@
-//! Rows of each type by masks, at indices and of several arrays, compared with the rows that a
-//! plain reader finds one by one in what came and in what is handed on.
+//! Rows of each type selected by masks, at indices and from several arrays, compared with the rows
+//! that a plain reader finds one by one in the input and in the export.
 use vortex_bits::arrow::{Array, ArrowError, Export};
 use vortex_bits::{Bitmap, Bits};
 
@@ -18,8 +18,8 @@ fn read((mut array, mut schema): (raw::Array, raw::Schema)) -> Vec<Cell> {
     }
 }
 
-/// The rows of what is handed on, which is as the interface asks for, by C's structs, and by an array
-/// that this crate reads and hands on again.
+/// The rows of an export, read from its structs. Tests that they are valid, and that the rows are
+/// the same after an import and another export.
 #[track_caller]
 pub fn rows_of(export: Export) -> Vec<Cell> {
     let (field, len) = (export.field().clone(), export.len());
@@ -52,8 +52,8 @@ fn part(maker: &mut Maker, array: &Array) -> Array {
     array.slice(start..start + len)
 }
 
-/// A mask by chance, from some bit of its bytes on: of single rows and of runs, or of at most one
-/// row in 64, which a filter selects by their indices.
+/// A random mask at a random offset: of single rows and of runs, or of at most one row in 64, which
+/// a filter selects by their indices.
 fn mask(maker: &mut Maker, len: usize) -> Bitmap {
     let offset = maker.below(20);
     if maker.below(4) == 0 {
@@ -203,7 +203,7 @@ fn rows_of_other_arrays_are_those_of_a_plain_reader() {
     assert!(joined > rounds(1500) / 4 && refused < joined / 10);
 }
 
-/// What the children of a null row are, by whether they may be null.
+/// The children of a null row are null if they may be null, otherwise 0 or empty.
 #[test]
 fn children_of_null_rows_are_null_or_empty() {
     let columns = || {

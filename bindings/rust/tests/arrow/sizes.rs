@@ -1,11 +1,11 @@
-//! Numbers that no memory can hold: each is refused by name, and nothing is read by it.
+//! Numbers too large for any memory: each is an error that names it, and nothing is read.
 use vortex_bits::arrow::Export;
 
 use crate::ranges::offsets;
 use crate::raw::{self, Array, Buffer, Count, Schema, import};
 
-/// What is said of an array of four items that is spoiled, of a format; how many they are, where it
-/// is read.
+/// The error for an array of four items of a format after `spoil`, or its length if it can be
+/// imported.
 fn said(format: &str, spoil: impl FnOnce(&mut Array)) -> String {
     let count = Count::default();
     let (buffers, children) = match format {
@@ -100,8 +100,7 @@ fn lengths_and_offsets_of_each_layout_are_those_of_some_memory() {
     }
 }
 
-/// The children of such a length would have more bytes than memory can, where the array itself has
-/// few.
+/// The child of such an array would have more bytes than any memory, although the array has few.
 #[test]
 fn items_of_long_lists_are_counted_without_overflow() {
     let text = said("+w:2147483647", |it| it.length = 1 << 40);
@@ -210,7 +209,7 @@ fn formats_have_numbers_that_the_interface_has() {
             format!("no type has the format {format:?}")
         );
     }
-    // It would go out as the format up to the 0.
+    // As a C string it would end at the 0.
     let cut = "tss:a\0b";
     let days = Export::values([1i64], None).with_format(cut).unwrap_err();
     assert_eq!(days.to_string(), format!("no type has the format {cut:?}"));

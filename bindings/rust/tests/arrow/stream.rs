@@ -1,4 +1,4 @@
-//! Streams that another part of the program gives, and those that are handed on.
+//! Imported and exported streams.
 use std::ffi::{CString, c_char, c_int};
 use std::ptr;
 
@@ -267,7 +267,7 @@ fn exported_streams_say_what_is_wrong() {
     );
 }
 
-/// What a stream of a column says of a batch of another one.
+/// The error of a stream of one type for a batch of another type.
 fn difference(batch: Export, stream: Field) -> String {
     let batches = [Ok(Export::batch([batch]))];
     let stream = ExportStream::new(Field::batch([stream]), batches);
@@ -333,7 +333,7 @@ fn exported_streams_name_the_column_of_another_type() {
     );
 }
 
-/// A query's errors come to the consumer of its batches: those of the stream that it reads too.
+/// The consumer of a query's batches gets its errors, including those of the stream that it reads.
 #[test]
 fn errors_of_arrays_become_those_of_streams() {
     let doubled = |stream: Stream| {

@@ -1,4 +1,4 @@
-//! Texts that are kept, taken and narrowed, of each type, beside loops over rows.
+//! Texts of each type that are kept, taken and narrowed, compared with loops over rows.
 use vortex_bits::arrow::{Array, Export};
 use vortex_bits::{BitIndex, Bitmap, Bits, Mask};
 
@@ -22,8 +22,7 @@ const ROWS: [Row; 9] = [
     None,
 ];
 
-/// The rows behind one more, of which null ones have bytes that say nothing, or a view of a buffer
-/// that isn't there.
+/// The rows at offset 1. Null rows have junk bytes, or a view of a buffer that doesn't exist.
 fn texts(rows: &[Row], format: &str, count: &Count) -> Array {
     let all = || [Some("before")].into_iter().chain(rows.iter().copied());
     let bytes: String = all().map(|row| row.unwrap_or("junk")).collect();
@@ -53,7 +52,7 @@ fn texts(rows: &[Row], format: &str, count: &Count) -> Array {
     import(array, Schema::new("s", format, count)).unwrap()
 }
 
-/// The rows of an export, as a consumer reads them, whose name and type are these.
+/// The rows of an export, as a consumer reads them. Tests its name and format.
 #[track_caller]
 fn read(export: Export, format: &str) -> Vec<Option<String>> {
     assert_eq!(
@@ -155,7 +154,7 @@ fn texts_of_each_type_are_taken() {
     }
 }
 
-/// A taken column may have nulls, also where the rows that it is of have none.
+/// The type of a taken column allows nulls, even if that of its input doesn't.
 #[test]
 fn types_of_what_is_taken_have_nulls() {
     let count = Count::default();
@@ -199,7 +198,7 @@ fn views_share_their_buffers() {
     }
 }
 
-/// A reader that tests the views of null rows finds nothing that is wrong, whatever they were.
+/// Views of null rows are replaced by empty ones, which pass the tests of any reader.
 #[test]
 fn views_of_null_rows_become_empty() {
     let array = texts(&ROWS, "vu", &Count::default());
@@ -238,7 +237,7 @@ fn what_has_no_texts_is_refused() {
     assert_eq!(narrow.to_string(), format!("{wanted} between offsets"));
     let views = Export::from(texts(&ROWS, "vu", &Count::default())).narrow();
     assert!(views.is_err());
-    // A view that lies in no buffer isn't handed on, whether the mask keeps it or not.
+    // A view that is in no buffer isn't exported, whether the mask keeps it or not.
     let lost = vec![
         None,
         Some(Buffer::new(&view("a long text of no buffer", 0, 0), 0)),
@@ -279,7 +278,7 @@ fn texts_are_narrowed() {
             let part = texts(&ROWS, format, &count).slice(start..);
             let export = Export::from(part).narrow().unwrap();
             let rows = ROWS[start..].iter().copied();
-            // An array that was handed on as it came has its offset.
+            // An array that is exported as it was imported keeps its offset.
             if format == narrow {
                 assert_eq!(export.len(), rows.len());
             } else {
@@ -329,7 +328,7 @@ fn long_texts_are_not_narrowed() {
     }
 }
 
-/// Before memory is taken for their bytes.
+/// The error comes before the bytes are allocated.
 #[test]
 fn texts_that_are_taken_often_may_be_too_long() {
     let long = "x".repeat(1 << 20);

@@ -47,7 +47,7 @@ fn in_row(rows: &Array, row: usize) -> Option<Vec<u8>> {
 #[test]
 fn offsets_between_the_rows_of_lists_do_not_count() {
     let none = Count::default();
-    // The items of the null row go back: they are bytes 1 to 6, and 6 to 2.
+    // The offsets of the null row's items decrease: bytes 1 to 6, and 6 to 2.
     let texts = |format| texts_of(format, &[0, 1, 6, 2, 3]);
     let of_texts = |format| {
         let schema = Schema::of("", "+l", vec![Schema::new("", format, &none)], None, &none);

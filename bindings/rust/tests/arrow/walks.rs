@@ -1,4 +1,4 @@
-//! Walks over texts and over where they lie, from both ends and past some rows, and texts that grow,
+//! Walks over texts and over their ranges, from both ends and past some rows, and texts that grow,
 //! compared with plain lists of rows.
 use std::collections::VecDeque;
 use std::fmt::Debug;
@@ -25,7 +25,7 @@ fn mask(maker: &mut Maker, len: usize) -> Bitmap {
     (0..len).map(|_| maker.below(most) == 0).collect()
 }
 
-/// Steps of a walk, by chance, are those of a queue.
+/// Compares random steps of a walk with those of a queue.
 #[track_caller]
 fn steps<T, I>(maker: &mut Maker, walk: I, all: Vec<T>)
 where

@@ -21,8 +21,8 @@ fn names(stream: &Stream) -> Vec<(String, String)> {
     fields.map(text).collect()
 }
 
-/// The answer over GDAL's batches of so many rows is that over the crate's own; texts are those of
-/// their file.
+/// Compares the answer over GDAL's batches with that over the crate's own, and the texts with those
+/// of the file.
 pub fn compare(case: &Case) -> Result<(), Missing> {
     let gdal = Gdal::load()?;
     let types = "Integer,Integer64,Real,Integer(Boolean)";

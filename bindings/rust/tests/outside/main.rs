@@ -1,5 +1,5 @@
-//! The query of examples/query beside `sqlite3`, and over the batches that GDAL makes of the same
-//! file, where these are installed: a line says which isn't.
+//! The query of examples/query compared with `sqlite3`, and over the batches that GDAL makes of the
+//! same file. If one of them isn't installed, a line says so.
 #[path = "../../examples/query/engine.rs"]
 mod engine;
 mod gdal;
@@ -21,7 +21,7 @@ use vortex_bits::arrow::Stream;
 /// What isn't installed.
 type Missing = &'static str;
 
-/// The rows in a file of their own, with the question.
+/// The rows, a file that contains them, and the question of the query.
 struct Case {
     rows: Rows,
     file: PathBuf,

@@ -72,7 +72,7 @@ fn lines(answer: &Answer) -> String {
     lines
 }
 
-/// Those of the rows at places, whose nulls the answer counts alone.
+/// The values and the number of nulls that `sqlite3` prints for the taken rows.
 fn taken(said: &str) -> (Vec<i64>, usize) {
     let rows = said.lines().filter_map(|line| line.strip_prefix("taken|"));
     let fields = rows.map(|row| row.split_once('|').unwrap());

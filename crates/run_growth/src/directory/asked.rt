@@ -73,7 +73,7 @@ macro_rules! ask {
     };
 }
 
-/// Returns an index in the second half: a different one at each turn, until they reach the length.
+/// Returns an index in the second half, greater by 777 at each turn, but at most the length.
 fn place(turn: usize, len: usize) -> usize
     ensures { result ≤ len }
 {

@@ -1,4 +1,4 @@
-//! Windows of bytes. Each call has its own window, which begins at another bit, so that the
+//! Windows of bytes. Successive calls have windows that begin at different bits, so that the
 //! compiler can't merge the calls.
 ghost use Rattle.std.specs.Prelude.{◌≡◌, length, IfOk};
 ghost use Rattle.vb_view.specs.View.{bits_of};

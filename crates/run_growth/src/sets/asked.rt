@@ -43,7 +43,7 @@ fn repeated(page: &ByteBuffer, others: &ByteBuffer, row: &str, case: Case) -> Re
     Ok(sum)
 }
 
-/// Makes one call on a set and another one.
+/// Makes one call: on `bits`, on a set of `others`, or on both.
 fn beside(
     bits: &BitBuffer,
     others: &ByteBuffer,

@@ -1,4 +1,4 @@
-//! Sets over a page of bytes. Each call has its own set, which begins at another bit, so that the
+//! Sets over a page of bytes. Successive calls have sets that begin at different bits, so that the
 //! compiler can't merge the calls.
 ghost use Rattle.std.specs.Prelude.{◌≡◌, length, IfOk};
 

@@ -14,8 +14,8 @@ const AGES: &[u32] = &[31, 17, 0, 54, 18];
 /// Which of the ages aren't null.
 const VALID: &[bool] = &[true, true, false, true, true];
 
-/// A condition, the valid ages that meet it, which of all ages that meet it are those of members,
-/// and the number of allocations.
+/// A condition, the valid ages that meet it, for each age that meets it, valid or not, whether it
+/// is a member's, and the number of allocations.
 type Row = (Condition, &'static [u32], &'static [bool], u64);
 
 const ROWS: &[Row] = &[
@@ -123,8 +123,8 @@ fn rows_of_two_conditions_are_found_or_refused(rt: HostRuntime) {
             let answer = has_rows(&rt, rows_between(&heap, span), span.2);
             equal(&rt, answer, heap.wanted(Ok(()), refused));
         }
-        // The bytes and the count of owners of the values, of their mask and of the rows of each
-        // condition; and a count of owners for each `&`, whose result is in the left side's bytes.
+        // Eight for the values, their mask and the rows of each condition: bytes and a count of
+        // owners. Three for the counts of owners of the `&`s, which reuse the left side's bytes.
         equal(&rt, (heap.has_refused(), heap.asked()), (false, 11));
     }
 }

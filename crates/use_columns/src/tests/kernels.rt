@@ -102,7 +102,7 @@ fn columns_are_made_or_refused(rt: HostRuntime) {
     equal(&rt, shows(&rt, none, &[]), Ok(()));
 }
 
-/// The proof names the lemma that a range counts its numbers.
+/// The proof cites the lemma that a range knows how many numbers it has.
 #[test]
 #[tactic(auto, using(vortex_buffer::proofs::Hints::unsigned_range_counts))]
 fn numbers_of_a_range_are_mapped(rt: HostRuntime) {

@@ -1,4 +1,5 @@
-//! Calls a closure once for each bit of a set, in ascending order of indices, word by word.
+//! Calls a closure for each true bit, each false bit or each bit of a set, in ascending order, word
+//! by word.
 ghost use Rattle.std.specs.Prelude.{◌≡◌, ℕ, ◌+◌, ◌*◌, ◌%◌, ◌^◌, ◌<◌, ◌≤◌, true, length, Ok};
 ghost use Rattle.std.specs.Prelude.{MatchResult};
 ghost use Rattle.std.specs.List.{FoldsTo};

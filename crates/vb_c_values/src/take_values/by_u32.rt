@@ -17,7 +17,7 @@ use vb_c_core::Taken;
 /// If `all_valid` is true, each position counts, and the validity is ignored. Else a position
 /// counts if its bit of `validity`, from bit `v` on, is true; the others get 0, and their indices
 /// are ignored. Items of `out` past the number of indices are unchanged. If a position is returned,
-/// the items before them are unspecified.
+/// the other items of `out` are unspecified.
 #[unsafe(no_mangle)]
 pub extern "C" fn vb_take_values_u8_u32(
     out: &mut [u8],
@@ -64,7 +64,7 @@ pub extern "C" fn vb_try_take_values_u8_u32(
 /// If `all_valid` is true, each position counts, and the validity is ignored. Else a position
 /// counts if its bit of `validity`, from bit `v` on, is true; the others get 0, and their indices
 /// are ignored. Items of `out` past the number of indices are unchanged. If a position is returned,
-/// the items before them are unspecified.
+/// the other items of `out` are unspecified.
 #[unsafe(no_mangle)]
 pub extern "C" fn vb_take_values_u16_u32(
     out: &mut [u16],
@@ -111,7 +111,7 @@ pub extern "C" fn vb_try_take_values_u16_u32(
 /// If `all_valid` is true, each position counts, and the validity is ignored. Else a position
 /// counts if its bit of `validity`, from bit `v` on, is true; the others get 0, and their indices
 /// are ignored. Items of `out` past the number of indices are unchanged. If a position is returned,
-/// the items before them are unspecified.
+/// the other items of `out` are unspecified.
 #[unsafe(no_mangle)]
 pub extern "C" fn vb_take_values_u32_u32(
     out: &mut [u32],
@@ -158,7 +158,7 @@ pub extern "C" fn vb_try_take_values_u32_u32(
 /// If `all_valid` is true, each position counts, and the validity is ignored. Else a position
 /// counts if its bit of `validity`, from bit `v` on, is true; the others get 0, and their indices
 /// are ignored. Items of `out` past the number of indices are unchanged. If a position is returned,
-/// the items before them are unspecified.
+/// the other items of `out` are unspecified.
 #[unsafe(no_mangle)]
 pub extern "C" fn vb_take_values_u64_u32(
     out: &mut [u64],
@@ -205,7 +205,7 @@ pub extern "C" fn vb_try_take_values_u64_u32(
 /// If `all_valid` is true, each position counts, and the validity is ignored. Else a position
 /// counts if its bit of `validity`, from bit `v` on, is true; the others get 0, and their indices
 /// are ignored. Items of `out` past the number of indices are unchanged. If a position is returned,
-/// the items before them are unspecified.
+/// the other items of `out` are unspecified.
 #[unsafe(no_mangle)]
 pub extern "C" fn vb_take_values_u128_u32(
     out: &mut [Wide],

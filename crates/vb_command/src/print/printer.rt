@@ -15,7 +15,7 @@ pub trait Printer<O> {
     // The effect of putting a text, by its result.
     ghost puts: { Self → O → List ℕ → Result (Unit {0}) Self.Error → Self → O → Type 0 };
 
-    // The end of an answer.
+    // The text that ends an answer: a line feed in `vb_script`, nothing for a `Formatter`.
     ghost end: { List ℕ };
 
     /// Puts words.

@@ -263,8 +263,7 @@ fn countrange<A: Allocator>(a: &str, b: &str, c: &str) -> Result<Command<A>, Unr
     Ok(Command::Countrange(k, i, j))
 }
 
-/// Returns the command of this name with a number, a truth value and a number, which these words
-/// write.
+/// Returns the command of this name. The words after it are a number, a truth value and a number.
 #[tactic(auto, unfolding(crate::specs::Arguments::value_of))]
 fn value<A: Allocator>(name: &str, a: &str, b: &str, c: &str) -> Result<Command<A>, Unread>
     ensures { Tells order_of result (value_of name.now a.now b.now c.now) }

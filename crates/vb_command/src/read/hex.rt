@@ -45,7 +45,7 @@ fn are_pairs(bytes: &[u8]) -> bool
     bytes.len() % 2 == 0 && are_digits(bytes)
 }
 
-/// Returns the pairs of digits that write the bytes of a word. Does not allocate.
+/// Returns the hexadecimal digits of a word, in pairs; none for `-`. Does not allocate.
 pub(crate) fn hex_pairs(word: &str) -> Result<&[u8], Unread>
     ensures { MatchResult result
         (λ digits. (hex word.now ≡ hex_pairs digits.now) × IsTrue (is_some (hex word.now)))

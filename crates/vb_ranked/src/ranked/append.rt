@@ -32,7 +32,7 @@ impl<A: Allocator + Clone> Ranked<A> {
         ensures needs { NeedsCountedBits n result self.old self.new }
     {
         make_room_for(&mut self.set, &mut self.counts, n)?;
-        // There is capacity already. This call tells the prover that the indices of the bits fit.
+        // There is capacity already. This call shows the prover that the indices of the bits fit.
         self.set.reserve(n)
     }
 

@@ -1,7 +1,7 @@
 //! Answers as they are printed.
 use crate::machine::text::Text;
 
-/// Adds a place, or that there is none.
+/// Adds an index, or that there is none.
 pub(crate) fn add_place(text: &mut Text, place: Option<usize>) {
     match place {
         Some(place) => text.add_number(place),
@@ -16,7 +16,7 @@ pub(crate) fn add_bits(text: &mut Text, bits: &[bool]) {
     }
 }
 
-/// Adds the places of the true bits.
+/// Adds the indices of the true bits.
 pub(crate) fn add_places(text: &mut Text, bits: &[bool]) {
     for (place, bit) in bits.iter().enumerate() {
         if *bit {
@@ -25,7 +25,7 @@ pub(crate) fn add_places(text: &mut Text, bits: &[bool]) {
     }
 }
 
-/// Adds the runs of true bits: where each begins, and the place behind it.
+/// Adds the runs of true bits: where each begins, and the index after its end.
 pub(crate) fn add_runs(text: &mut Text, bits: &[bool]) {
     let mut before = false;
     for (place, bit) in bits.iter().chain(&[false]).enumerate() {

@@ -1,4 +1,4 @@
-//! The form of each command's line, and how the command changes a plain list or what it answers.
+//! The form of each command's line, and how the command changes a plain list, or its answer.
 use crate::machine::answer::{add_bits, add_place, add_places, add_runs, add_shown};
 use crate::machine::form::Form;
 use crate::machine::form::Kind::{
@@ -96,7 +96,7 @@ pub(crate) fn change(call: Call<'_>, named: Named<'_>, bits: &mut Vec<bool>) -> 
             }
             Ok(())
         }
-        // All others leave it.
+        // All other commands leave the list unchanged.
         _ => Ok(()),
     }
 }

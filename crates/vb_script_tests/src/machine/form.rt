@@ -1,4 +1,4 @@
-//! What the line of a command is made of.
+//! The words of a command's line.
 
 /// What a word of a line is.
 #[derive(Clone, Copy)]
@@ -30,19 +30,19 @@ pub enum Kind {
 /// What becomes of the list of a line.
 #[derive(Clone, Copy)]
 pub enum Then {
-    /// It is put down as an open list.
+    /// It is stored as an open list.
     Opens,
-    /// It is put down as a frozen list.
+    /// It is stored as a frozen list.
     Freezes,
-    /// It is put down as open or frozen, as the first slot's list is.
+    /// It is stored as open or frozen, like the list of the first slot.
     Keeps,
     /// It is gone.
     Empties,
-    /// It is asked a question.
+    /// It stays, and the command returns something about it.
     Answers,
 }
 
-/// Whether a command can be refused memory.
+/// Whether a command can run out of memory.
 #[derive(Clone, Copy)]
 pub enum Memory {
     /// It can.
@@ -51,7 +51,7 @@ pub enum Memory {
     Never,
 }
 
-/// The name of a command, its other words, what becomes of its list, and whether it can be refused
+/// The name of a command, its other words, what becomes of its list, and whether it can run out of
 /// memory.
 #[derive(Clone, Copy)]
 pub struct Form(pub &'static str, pub &'static [Kind], pub Then, pub Memory);

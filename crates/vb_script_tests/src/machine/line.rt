@@ -2,7 +2,7 @@
 use crate::machine::commands::form_of;
 use crate::machine::form::{Form, Kind};
 
-/// The word at a place of a line, or no text where there are fewer.
+/// The word at an index of a line, or no text if the line has fewer words.
 pub(crate) fn word(text: &str, place: usize) -> &str {
     let mut words = text.split(' ').filter(is_not_empty);
     words.nth(place).unwrap_or("")
@@ -13,12 +13,12 @@ fn is_not_empty(word: &&str) -> bool {
 }
 
 /// Returns the number that a word is. If it isn't one, returns `usize::MAX`, which is neither a
-/// slot nor a place of a list.
+/// slot nor an index of a list.
 pub(crate) fn number(word: &str) -> usize {
     word.parse().unwrap_or(usize::MAX)
 }
 
-/// The place that an index names. An index below 0 gives `usize::MAX`, which is no place of a list.
+/// Returns the index that a word is. One below 0 gives `usize::MAX`, which is out of range.
 pub(crate) fn index(word: &str) -> usize {
     usize::try_from(word.parse().unwrap_or(-1i64)).unwrap_or(usize::MAX)
 }
@@ -102,12 +102,12 @@ fn is_index(word: &str) -> bool {
 }
 
 impl Call<'_> {
-    /// The word at a place, the name being at place 0.
+    /// The word at an index; the name has index 0.
     pub(crate) fn word(&self, place: usize) -> &str {
         word(self.text, place)
     }
 
-    /// The number at a place among the words, which is 1 for a truth value that is true.
+    /// The number at an index of the words. A word for true is 1.
     pub(crate) fn number(&self, place: usize) -> usize {
         number(self.word(place))
     }

@@ -67,8 +67,8 @@ pub(crate) fn window(bits: &mut Vec<bool>, o: usize, n: usize, digits: &str) -> 
     Ok(())
 }
 
-/// Adds `n` bits that are true at these places. A place that isn't below `n` is refused first, even
-/// if there is no memory.
+/// Adds `n` bits that are true at these indices. An index that isn't below `n` is refused first,
+/// even if memory runs out.
 pub(crate) fn name_places(bits: &mut Vec<bool>, n: usize, places: &str) -> Result<(), Stop> {
     let lengthened = lengthen(bits, false, n);
     for item in places.split_terminator(',') {
@@ -102,7 +102,7 @@ pub(crate) fn take(
     Ok(())
 }
 
-/// The bit at a place, or false where the index at this position doesn't count.
+/// The bit at an index, or false if this position doesn't count.
 fn taken(from: &[bool], counts: Option<&[bool]>, position: usize, place: usize) -> Option<bool> {
     match counts {
         Some(counts) if counts.get(position) == Some(&false) => Some(false),
@@ -119,7 +119,7 @@ pub(crate) fn count(bits: &[bool]) -> usize {
     count
 }
 
-/// The place of the `n`-th bit that is `v`.
+/// The index of the `n`-th bit that is `v`.
 pub(crate) fn nth_place(bits: &[bool], v: bool, n: usize) -> Option<usize> {
     let mut left = n;
     for (place, bit) in bits.iter().enumerate() {

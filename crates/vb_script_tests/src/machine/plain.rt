@@ -42,7 +42,7 @@ pub struct Plain {
     list: Vec<bool>,
     /// Its answer.
     text: Text,
-    /// Whether a request for memory was refused, and no answer has reported it yet.
+    /// Whether a request for memory was refused that no answer has reported yet.
     pub may_refuse: bool,
 }
 
@@ -101,7 +101,7 @@ impl Plain {
             third: bits_of(&self.slots, call, 3),
         };
         let changed = change(call, named, &mut self.list);
-        // A `take` tests its indexes after it has memory. All other tests come first.
+        // A `take` tests its indexes after it has allocated. All other tests come before.
         if let Err(Stop::Refused(_) | Stop::TooLong) = changed {
             return changed;
         }
@@ -113,7 +113,7 @@ impl Plain {
         changed
     }
 
-    /// Each slot that a line names is as its kind says.
+    /// Checks that each slot that a line names holds what the kind of the word requires.
     fn check_slots(&self, call: Call<'_>) -> Result<(), Stop> {
         for (kind, place) in call.form.1.iter().zip(1..) {
             let is_left_out = matches!(kind, Kind::Validity) && call.word(place) == "-";
@@ -124,8 +124,8 @@ impl Plain {
         Ok(())
     }
 
-    /// What the slot that a word names holds. For the other words, the slot that gives its list
-    /// away is empty.
+    /// What the slot that a word names holds. If another word gives away the list of that slot, it
+    /// counts as empty.
     fn holds(&self, call: Call<'_>, place: usize) -> Option<Holds> {
         let named = call.number(place);
         let given = call.given().unwrap_or(place);

@@ -6,7 +6,7 @@ use std::alloc::AllocError;
 pub(crate) enum Stop {
     /// It is refused, and this is answered after `refused`.
     Refused(&'static str),
-    /// The list's new length is so near to 2^64 that the place of its first bit decides between
+    /// The list's new length is so near to 2^64 that the offset of its first bit decides between
     /// two refusals.
     TooLong,
     /// The index at this position of a `take` is out of range.

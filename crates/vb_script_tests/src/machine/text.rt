@@ -53,7 +53,7 @@ impl Text {
         self.text.len()
     }
 
-    /// What was added from a place on.
+    /// What was added from byte `start` on.
     pub fn added(&self, start: usize) -> &str {
         self.text.as_str().get(start..).unwrap_or("")
     }

@@ -231,7 +231,7 @@ impl<A: Allocator + Clone> BitBufferMut<A> {
         ensures stays { n ≤ self.old.room → self.new.room ≡ self.old.room }
         ensures needs { NeedsBits (n - length self.old.bits) result self.old self.new }
     {
-        // This tells the prover that the end of the bits fits in `usize`.
+        // This shows the prover that the end of the bits fits in `usize`.
         let _bytes = self.as_slice();
         let len = self.len();
         if n < len {

@@ -32,7 +32,7 @@ impl<A: Allocator + Clone> BitBufferMut<A> {
         ensures needs { NeedsBits (length bools.now) result self.old self.new }
     {
         self.reserve(bools.len())?;
-        // This tells the prover that the bits are in bounds of the bytes.
+        // This shows the prover that the bits are in bounds of the bytes.
         let _bytes = self.as_slice();
         for block in 0..bools.len().div_ceil(PACKED_BITS) {
             let start = PACKED_BITS * block;
@@ -67,7 +67,7 @@ impl<A: Allocator + Clone> BitBufferMut<A> {
             × GivesPastBehind I.into_iter_gives I.IntoIter.next_gives
             (self.old.offset + length self.old.bits) iter)) }
     {
-        // This tells the prover that the bits are in bounds of the bytes.
+        // This shows the prover that the bits are in bounds of the bytes.
         let _bytes = self.as_slice();
         let mut rest = iter.into_iter();
         loop {

@@ -213,7 +213,7 @@ impl Array {
         }
     }
 
-    /// Returns the first valid index that names none of `items` items, with its row before it.
+    /// Returns the row and the number of the first valid index that names none of `items` items.
     pub(in crate::arrow) fn first_lost(
         &self,
         items: usize,

@@ -57,8 +57,8 @@ impl Array {
         Ok(ranges)
     }
 
-    /// Returns the range of each row, without a test. The caller reads only those of rows that
-    /// [`ranges`](Array::ranges) returns for a slice.
+    /// Returns the range of each row, without a test. The caller must test the rows whose ranges it
+    /// uses, such as by [`ranges`](Array::ranges) of a slice.
     pub(in crate::arrow) fn untested_ranges(&self) -> Result<Ranges<'_>, ArrowError> {
         let Layout::Ranges(width, _) = self.node.field.layout else {
             return Err(self.is_not("that of texts or lists"));

@@ -31,9 +31,9 @@ pub(super) use memory::all_true;
 use memory::reserved;
 use rows::{Rows, Runs};
 
-/// If a mask selects at most one row in so many, the rows of a batch or of texts are selected by
-/// their indices, which are computed once for all columns. A single column of numbers takes less
-/// time by the words of the mask.
+/// If a mask selects at most one row in this many, the rows are selected by their indices. They are
+/// computed once for all columns of a batch. For a single column of numbers or truth values it is
+/// faster to read the mask word by word.
 const SPARSE: usize = 64;
 
 /// Rows of any type.
@@ -207,8 +207,8 @@ impl Array {
         Ok(rows)
     }
 
-    /// Sets the rows of indices that aren't valid and name none to 0. Returns an error for the first
-    /// valid index that names none.
+    /// Sets the row of each null index that is out of bounds to 0. Returns an error for the first
+    /// valid index that is out of bounds.
     #[cold]
     fn are_names<I: BitIndex>(
         &self,

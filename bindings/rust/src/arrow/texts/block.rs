@@ -100,7 +100,7 @@ fn half(numbers: &[u32; 32], test: impl Fn(u32) -> bool) -> u32 {
     })
 }
 
-/// The bits of 32 rows.
+/// The bit of each of 32 rows.
 const DIGITS: [u32; 32] = {
     let mut digits = [1; 32];
     let mut row = 1;

@@ -102,8 +102,8 @@ impl Texts<'_> {
     }
 
     /// Returns a bitmap of the rows that are one of the texts, as `in ('a', 'c')`. It sorts the
-    /// texts once. Among more than a few it then does a binary search for each row that may be one
-    /// of them by its length and its first eight bytes.
+    /// texts once. For more than 16 texts it then does at most one binary search per row, and none
+    /// for rows that the length or the first eight bytes exclude.
     ///
     /// ```
     /// use vortex_bits::Bitmap;

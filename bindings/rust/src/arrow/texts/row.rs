@@ -4,8 +4,8 @@ use core::ops::Range;
 
 use crate::portable::first_eight;
 
-/// A row: a range of the bytes of a buffer. Most rows fail a test by their length, so tests read no
-/// byte before that. They read eight bytes at once, even past the row, unless the buffer ends.
+/// A row: a range of the bytes of a buffer. Most rows fail a test by their length, so tests compare
+/// it before any byte. They read eight bytes at once, even past the row, unless the buffer ends.
 #[derive(Clone, Copy)]
 pub(super) struct Row<'a> {
     buffer: &'a [u8],
@@ -50,7 +50,7 @@ impl<'a> Row<'a> {
     /// are 0.
     #[inline]
     pub(super) fn first_eight(self) -> u64 {
-        /// The bits of each number of bytes.
+        /// A mask of the lowest `n` bytes, for each `n`.
         const LOW: [u64; 9] = {
             let mut low = [u64::MAX; 9];
             let mut len = 0;

@@ -197,7 +197,7 @@ impl Test for Contains<'_> {
         row::contains(self.0, row)
     }
 
-    /// It searches all bytes of rows that follow each other at once.
+    /// It searches the bytes of consecutive rows in one pass.
     fn of_block(&self, block: Block<'_>, rows: u64) -> u64 {
         /// Rows of up to this number of bytes are searched even if their bits aren't needed: that
         /// is faster than to begin again behind them.

@@ -45,7 +45,7 @@ impl Maker {
         self.made("+s", &rows, vec![], (columns, None))
     }
 
-    /// Rows without nulls, at an offset by chance.
+    /// Rows without nulls, at a random offset.
     fn whole(&mut self, len: usize) -> Rows {
         Rows {
             len,
@@ -161,7 +161,7 @@ impl Maker {
         }
         let number = ends.len();
         let of = self.whole(number);
-        // Before the offset there may be any ends.
+        // The ends before the offset may have any values.
         let before = (0..of.offset).map(|_| i64::try_from(self.below(9)).unwrap() - 4);
         let ends: Vec<i64> = before.collect::<Vec<_>>().into_iter().chain(ends).collect();
         let ends = vec![Some(numbers(&ends, width))];

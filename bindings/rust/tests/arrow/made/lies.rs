@@ -1,5 +1,5 @@
-//! What is wrong in arrays that lie. The buffers stay as long as their numbers say: that is the
-//! promise of who hands an array over, and can't be tested.
+//! Errors that are put into arrays. The buffers stay as long as the numbers say, since the reader
+//! has to trust the producer in that.
 use std::ptr;
 
 use super::{Maker, Rows, Tree};
@@ -45,7 +45,7 @@ impl Maker {
     }
 }
 
-/// Spoils a number or a pointer of one array of a tree, in a way by which nothing may be read.
+/// Spoils a number or a pointer of one array of a tree, or the format. Nothing may be read then.
 pub fn spoil(maker: &mut Maker, (array, schema): &mut Tree) {
     let mut all = Vec::new();
     collect(&raw mut *array, &mut all);
@@ -70,7 +70,7 @@ pub fn spoil(maker: &mut Maker, (array, schema): &mut Tree) {
     }
 }
 
-/// Formats with other buffers or children than most arrays have, or with none at all.
+/// Formats that no type has.
 const FORMATS: [&std::ffi::CStr; 5] = [c"", c"+x", c"+w:-1", c"+us:1,1", c"?"];
 
 /// The arrays of a tree, the outermost one first.

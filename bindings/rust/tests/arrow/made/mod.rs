@@ -1,4 +1,4 @@
-//! Arrays by chance, of each type, at offsets, nested: right ones, and such that lie.
+//! Random arrays of each type, at offsets and nested: valid ones, and ones with errors.
 mod kinds;
 mod lies;
 mod rows;
@@ -13,7 +13,7 @@ pub use lies::spoil;
 /// An array with its type.
 pub type Tree = (Array, Schema);
 
-/// What makes arrays, whose buffers are as long as their numbers say, to a byte.
+/// Makes random arrays. Their buffers are exactly as long as their numbers say.
 pub struct Maker {
     random: Random,
     /// Whether some numbers, offsets and views are wrong.
@@ -26,7 +26,7 @@ pub struct Maker {
 /// How many kinds of arrays there are.
 pub const KINDS: usize = 13;
 
-/// So many rounds: few under Miri, and as many times as many as `ROUNDS` in the environment says.
+/// A number of rounds: a hundredth under Miri, else multiplied by the environment's `ROUNDS`.
 pub fn rounds(number: usize) -> usize {
     let times = std::env::var("ROUNDS").ok().and_then(|it| it.parse().ok());
     if cfg!(miri) {
@@ -73,13 +73,13 @@ impl Maker {
         self.lies && self.below(14) == 0
     }
 
-    /// Rows of a type by chance, with so many levels below at most.
+    /// Rows of a random type, with at most `levels` levels of children.
     pub fn tree(&mut self, len: usize, levels: usize) -> Tree {
         let kind = self.below(if levels == 0 { 5 } else { KINDS });
         self.tree_of(kind, len, levels)
     }
 
-    /// Rows of a kind of type, of which those from 5 on have levels below.
+    /// Rows of a kind of type. Kinds from 5 on have children or a dictionary.
     pub fn tree_of(&mut self, kind: usize, len: usize, levels: usize) -> Tree {
         match kind {
             0 => self.fixed(len),
@@ -98,7 +98,7 @@ impl Maker {
         }
     }
 
-    /// How long a child is of which so many items are wanted.
+    /// The length of a child whose parent needs `wanted` items.
     fn child_len(&mut self, wanted: usize) -> usize {
         if self.lies() {
             return self.below(wanted + 1);
@@ -123,7 +123,7 @@ impl Maker {
         }
     }
 
-    /// The array of rows with these buffers behind that of the validity.
+    /// The array of rows with a validity and then these buffers.
     fn made(
         &mut self,
         format: &str,

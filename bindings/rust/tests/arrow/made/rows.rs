@@ -60,7 +60,7 @@ impl Maker {
         self.made("n", &rows, vec![], (vec![], None))
     }
 
-    /// The bytes of an item of texts or of binary values, of which most could be texts.
+    /// The bytes of a text or of a binary value. Most binary values are UTF-8 too.
     fn text(&mut self, is_text: bool) -> Vec<u8> {
         if is_text || self.below(8) > 0 {
             return self.one_of(&TEXTS).as_bytes().to_vec();
@@ -127,7 +127,7 @@ impl Maker {
     }
 }
 
-/// A view of bytes, which are put into a buffer where they are long.
+/// The view of bytes. Long ones are appended to a buffer.
 fn shown(text: &[u8], buffer: usize, buffers: &mut [Vec<u8>]) -> [u8; 16] {
     let mut view = [0; 16];
     view[..4].copy_from_slice(&i32::try_from(text.len()).unwrap().to_ne_bytes());

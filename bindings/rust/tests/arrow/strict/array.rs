@@ -14,7 +14,7 @@ struct Node<'a> {
     children: Vec<&'a raw::Array>,
 }
 
-/// Whether an array is one of a type; how many arrays were looked at.
+/// Tests that an array is valid for a type. Returns the number of arrays that were tested.
 ///
 /// # Safety
 ///
@@ -106,7 +106,7 @@ unsafe fn children<'a>(array: &'a raw::Array, tree: &Tree) -> Checked<Vec<&'a ra
 }
 
 impl Node<'_> {
-    /// How many arrays are below, each of which is one of its type.
+    /// Tests the children and the dictionary. Returns the number of arrays that were tested.
     unsafe fn below(&self, array: &raw::Array, look: Look) -> Checked<usize> {
         let mut looked = 0;
         for (place, (child, tree)) in self.children.iter().zip(&self.tree.children).enumerate() {
@@ -125,7 +125,7 @@ impl Node<'_> {
         usize::try_from(self.children[child].length).unwrap_or(0)
     }
 
-    /// Whether children are as long as the type alone says.
+    /// Tests the lengths of children that depend only on the type.
     fn has_its_items(&self) -> Checked<()> {
         let (end, has_rows) = (self.end, self.end > self.start);
         let wanted = match &self.tree.of {
@@ -147,7 +147,7 @@ impl Node<'_> {
         Ok(())
     }
 
-    /// Whether there are as many nulls as it says, and none where its type has none.
+    /// Tests `null_count`, and that there are no nulls if the type allows none.
     fn has_its_nulls(&self, array: &raw::Array) -> Checked<()> {
         let len = self.end - self.start;
         let nulls = match self.tree.of {
@@ -176,7 +176,7 @@ impl Node<'_> {
         Ok(is_valid(self.buffers.validity()?, place))
     }
 
-    /// Whether a consumer that follows the items stays within what there is.
+    /// Tests that a consumer that follows the items stays within the buffers and the children.
     unsafe fn items(&self, array: &raw::Array) -> Checked<()> {
         match &self.tree.of {
             Type::Bits => drop(self.buffers.bytes(1, self.end.div_ceil(8))?),
@@ -214,7 +214,7 @@ impl Node<'_> {
         Ok(())
     }
 
-    /// The offsets of the rows, and one more; none where there is no row.
+    /// The offsets of the rows and of their end; no offsets if there are no rows.
     fn offsets(&self, width: usize) -> Checked<Vec<i64>> {
         if self.end == self.start {
             return Ok(Vec::new());

@@ -1,4 +1,4 @@
-//! The buffers of an array, of which each byte is read that a consumer may read.
+//! The buffers of an array. Each byte that a consumer may read is read.
 use std::hint::black_box;
 use std::slice;
 
@@ -7,7 +7,7 @@ use super::{Checked, holds};
 use crate::plain::bit;
 use crate::raw;
 
-/// The buffers of an array of so many items, those before its own too.
+/// The buffers of an array. `end` is its offset plus its length.
 pub struct Buffers<'a> {
     array: &'a raw::Array,
     pub end: usize,
@@ -18,8 +18,7 @@ impl<'a> Buffers<'a> {
         Buffers { array, end }
     }
 
-    /// The first bytes of a buffer, all of which are read; none where it is null, which it may be
-    /// for these.
+    /// Reads and returns the first `size` bytes of a buffer. It may be null if `size` is 0.
     pub fn bytes(&self, place: usize, size: usize) -> Checked<&'a [u8]> {
         // SAFETY: there are as many buffers as the type has.
         let pointer = unsafe { *self.array.buffers.add(place) };
@@ -48,7 +47,7 @@ impl<'a> Buffers<'a> {
         Ok(bytes.chunks_exact(width).map(signed).collect())
     }
 
-    /// What is left of the buffers of views: each has as many bytes as the last one says.
+    /// The data buffers of views. The last buffer has their lengths.
     pub fn of_views(&self) -> Checked<Vec<&'a [u8]>> {
         let all = usize::try_from(self.array.n_buffers).unwrap();
         let sizes = self.numbers(all - 1, 8, all - 3)?;

@@ -3,17 +3,17 @@ use std::collections::BTreeSet;
 
 use super::{Checked, holds};
 
-/// How items lie.
+/// The layout of items.
 #[derive(Clone, Debug, PartialEq)]
 pub enum Type {
     Null,
     Bits,
-    /// So many bytes each; whether they are whole numbers, which may be indices.
+    /// The bytes per item, and the sign of whole numbers, which may be indices.
     Fixed(usize, Option<Sign>),
-    /// Offsets of so many bytes into bytes; whether these are UTF-8.
+    /// The bytes per offset, and whether the bytes of rows are UTF-8.
     Bytes(usize, bool),
     Views(bool),
-    /// Offsets of so many bytes into the child; whether it is a map.
+    /// The bytes per offset into the child, and whether it is a map.
     List(usize, bool),
     ListView(usize),
     FixedList(usize),
@@ -124,7 +124,7 @@ fn ids(parameters: &str) -> Checked<Vec<i8>> {
 }
 
 impl Type {
-    /// How many buffers an array has; of views it is that many and more.
+    /// The number of buffers of an array; views of texts may have more.
     pub fn buffers(&self) -> i64 {
         match self {
             Type::Null | Type::Runs => 0,

@@ -1,6 +1,6 @@
-//! A reader of the interface that takes nothing on trust, written from Arrow's documents alone:
-//! each number of a struct, each offset, index, size, type and text that the format makes a
-//! consumer follow is compared with what is there, and each byte that it may read is read.
+//! A checker of the interface, written from Arrow's documents alone. It tests each number of a
+//! struct, and each offset, index, size, type and text that a consumer follows, and reads each byte
+//! that a consumer may read.
 mod array;
 mod buffers;
 mod format;
@@ -18,8 +18,8 @@ use crate::raw;
 /// How much of an array is looked at.
 #[derive(Clone, Copy, PartialEq)]
 pub enum Look {
-    /// The numbers of structs and which pointers are null, as of an array that is handed on as it
-    /// came. Flags may be any.
+    /// The numbers of structs and which pointers are null, for an array that is exported as it was
+    /// imported. Flags may be any.
     Numbers,
     /// The items too.
     Items,
@@ -38,7 +38,7 @@ pub fn holds(is_so: bool, what: impl FnOnce() -> String) -> Checked<()> {
     if is_so { Ok(()) } else { Err(what()) }
 }
 
-/// Whether an array is one of its type; how many arrays were looked at.
+/// Tests that an array is valid for its type. Returns the number of arrays that were tested.
 ///
 /// # Safety
 ///

@@ -24,7 +24,7 @@ impl Tree {
     ///
     /// # Safety
     ///
-    /// The pointers are null or to what they are said to be to.
+    /// The pointers are null or point to what the interface says.
     pub unsafe fn read(schema: &raw::Schema, look: Look) -> Checked<Tree> {
         holds(schema.release.is_some(), || "it is released".into())?;
         // SAFETY: as of this function.
@@ -90,7 +90,7 @@ unsafe fn text(pointer: *const c_char, what: &str) -> Checked<String> {
         .map_err(|_| format!("{what} isn't UTF-8"))
 }
 
-/// Whether keys and values are behind their lengths.
+/// Reads all keys and values of the metadata.
 unsafe fn metadata(pointer: *const c_char) -> Checked<()> {
     if pointer.is_null() {
         return Ok(());

@@ -6,8 +6,8 @@ use vortex_bits::arrow::{ArrowArrayStream, ExportStream};
 use super::{Checked, Look, Tree, check, holds, under};
 use crate::raw::{Array, Schema, Stream};
 
-/// The lengths of the batches of a stream, each of which is one of its type; the errno and what is
-/// said of the first call that fails. All of it is released.
+/// Returns the lengths of the batches of a stream, and the errno of its last call. Tests that each
+/// batch is valid for the stream's type, and releases everything.
 pub fn batches(stream: ExportStream) -> Checked<(Vec<i64>, i32)> {
     // SAFETY: the types are laid out alike.
     let mut stream = unsafe { transmute::<ArrowArrayStream, Stream>(stream.into_raw()) };

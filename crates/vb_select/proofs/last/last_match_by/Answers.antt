@@ -6,7 +6,7 @@ use Rattle.vb_count.proofs.LooksLemmas.{looks_most}
 use Rattle.vb_select.proofs.StopsLemmas.{long, previous_found, previous_passed, hit_before}
 use Rattle.vb_select.proofs.last.last_match_by.Goals as goal
 
--- fewer looks than the most were made
+-- the bound on the looks holds without the a looks to come
 less_had : (was now most a : ℕ) → now + a ≤ was + most → now ≤ was + most
 less_had was now most a before = omega arith
 

@@ -16,7 +16,7 @@ pub(super) fn validity<'a>(
     of: &'a [Array],
     rows: Rows<'_>,
 ) -> Result<Option<(AlignedBytes, usize)>, ArrowError> {
-    // Null rows of a column that allows no null are below a null row, and may be anything.
+    // A column that allows no null gets null rows only below a null parent: any values will do.
     let has_nulls = rows.has_nulls() && field.is_nullable();
     let bits = |one: &'a Array| one.validity().map(Validity::bits);
     with_each(of, bits, |bits| {

@@ -39,7 +39,7 @@ pub(super) fn texts(
         let bytes = fixed::values(field, 1, &bytes, parts.rows())?;
         Ok(Made::of([offsets, bytes]))
     };
-    // With the bytes of null rows there are fewer runs to copy, but they may be too many.
+    // Copying the bytes of null rows too takes fewer runs, but there may be too many bytes.
     match copied(None) {
         Err(_) if valid.is_some() => copied(valid),
         made => made,
