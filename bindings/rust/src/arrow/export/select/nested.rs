@@ -60,12 +60,9 @@ pub(super) fn list_views(
     valid: Option<Bits<'_>>,
 ) -> Result<Made, ArrowError> {
     let used = with_valid_rows(field, of.len(), rows, valid)?;
-    let items = || {
-        let used = of.iter().zip(&used).filter(|(_, is_used)| **is_used);
-        used.map(|(it, _)| &it.node.children[0])
-    };
+    let items = || used.arrays(of).map(|it| &it.node.children[0]);
     let one = only(items());
-    if let Some(items) = one.filter(|_| used.iter().all(|is_used| *is_used)) {
+    if let Some(items) = one.filter(|_| used.has_all()) {
         let numbers = of.iter().map(|it| it.list_view_numbers(width));
         let numbers = numbers.map(|[offsets, sizes]| (offsets, sizes));
         let (offsets, sizes): (Vec<&[u8]>, Vec<&[u8]>) = numbers.unzip();
@@ -75,11 +72,7 @@ pub(super) fn list_views(
         return Ok(made);
     }
     let items = Nodes::of(items());
-    let mut before = items.before(Array::len);
-    let before = used
-        .iter()
-        .map(|is_used| if *is_used { before.next() } else { None });
-    let before: Vec<usize> = before.map(Option::unwrap_or_default).collect();
+    let before = used.each_before(&items);
     let number = items.each.iter().map(Array::len);
     let number = number.fold(0, usize::saturating_add);
     if width == 4 && one.is_none() && i32::try_from(number).is_err() {
@@ -157,10 +150,7 @@ pub(super) fn coded(
 ) -> Result<Made, ArrowError> {
     let width = field.layout.widest().0;
     let used = with_valid_rows(field, of.len(), rows, valid)?;
-    let dictionaries = || {
-        let used = of.iter().zip(&used).filter(|(_, is_used)| **is_used);
-        used.filter_map(|(it, _)| it.node.dictionary.as_ref())
-    };
+    let dictionaries = || used.arrays(of).filter_map(|it| it.node.dictionary.as_ref());
     if let Some(one) = only(dictionaries()) {
         let mut made = Made::of([fixed::own_values(field, width, of, rows)?]);
         let Node { offset, len, .. } = **one;
@@ -172,11 +162,7 @@ pub(super) fn coded(
         return Ok(made);
     }
     let dictionaries = Nodes::of(dictionaries());
-    let mut before = dictionaries.before(Array::len);
-    let before = used
-        .iter()
-        .map(|is_used| if *is_used { before.next() } else { None });
-    let before: Vec<usize> = before.map(Option::unwrap_or_default).collect();
+    let before = used.each_before(&dictionaries);
     let mut made = Made::of([moved_indices(field, of, rows, &before)?]);
     let all = all_rows(field, &dictionaries.each)?;
     let items = selected(items, &dictionaries.each, all.rows());
@@ -187,15 +173,39 @@ pub(super) fn coded(
     Ok(made)
 }
 
-/// Returns for each array whether its dictionary is needed: a selected row of it is valid. If none
-/// is, the first array's dictionary is kept.
+/// Which arrays' items or dictionaries the selected rows need.
+struct Used(Vec<bool>);
+
+impl Used {
+    fn has_all(&self) -> bool {
+        self.0.iter().all(|is_used| *is_used)
+    }
+
+    /// Returns those arrays.
+    fn arrays<'a>(&'a self, of: &'a [Array]) -> impl Iterator<Item = &'a Array> {
+        let used = of.iter().zip(&self.0).filter(|(_, is_used)| **is_used);
+        used.map(|(it, _)| it)
+    }
+
+    /// Returns for each array the number of items in front of its own; 0 for arrays that aren't
+    /// used. `items` are those of the used arrays.
+    fn each_before(&self, items: &Nodes) -> Vec<usize> {
+        let mut before = items.before(Array::len);
+        let each = self.0.iter();
+        let each = each.map(|is_used| if *is_used { before.next() } else { None });
+        each.map(Option::unwrap_or_default).collect()
+    }
+}
+
+/// Returns which arrays are used: those with a selected row that is valid. If there is none, the
+/// first one is.
 fn with_valid_rows(
     field: &Field,
     arrays: usize,
     rows: Rows<'_>,
     valid: Option<Bits<'_>>,
-) -> Result<Vec<bool>, ArrowError> {
-    let mut used = reserved(field, arrays)?;
+) -> Result<Used, ArrowError> {
+    let mut used: Vec<bool> = reserved(field, arrays)?;
     used.resize(arrays, arrays == 1);
     if arrays > 1 {
         rows.for_each(|at, run| {
@@ -208,7 +218,7 @@ fn with_valid_rows(
     if let (false, Some(first)) = (used.contains(&true), used.first_mut()) {
         *first = true;
     }
-    Ok(used)
+    Ok(Used(used))
 }
 
 /// Selects indices. `before` has for each array the number of items in front of its own. Null rows
