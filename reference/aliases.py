@@ -1,7 +1,7 @@
 """Other words of the field by which a reader looks for a call: `popcount` finds `count_ones`."""
 from functools import cache
 
-# Names of calls, and of traits as `BitOr`, after the words that find them
+# Each key has the words that find the names in its value: calls, and traits such as `BitOr`.
 WORDS = {
     "popcount popcnt cardinality hamming weight": "count_ones count_ones_by count_ones_wide "
     "vb_count_ones vb_count_ones_wide true_count",

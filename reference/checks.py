@@ -59,7 +59,7 @@ class Checks:
                         self.found.append(f"{where}: `{name}` is shown as `{entry.name}`")
 
     def is_hidden(self, crate: str, module: tuple[str, ...], n: int, name: str) -> bool:
-        """Whether no user can name it: its type isn't public, or no `pub use` gives it."""
+        """Whether no user can name it: its type isn't public, or no `pub use` exports it."""
         for item in self.library.crates[crate].modules[module].file.items:
             if item.kind == "impl" and any(it.line == n for it in item.items):
                 of = self.site.urls.type_of(item)

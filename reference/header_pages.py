@@ -109,7 +109,7 @@ class HeaderPages:
             self.section(page, it)
 
     def title(self, entry: Entry) -> str:
-        """The names of an entry; of many the first one and the last one."""
+        """The names of an entry; if there are many, the first one and the last one."""
         names = list(dict.fromkeys(it.last for it in entry.calls()))
         return ", ".join(names) if len(names) <= MANY else f"{names[0]} .. {names[-1]}"
 

@@ -74,8 +74,9 @@ class Languages:
 
     # ---- addresses
     def number(self, header: Header) -> None:
-        """Gives each name of a header an anchor; a second one of the name gets a number. A checked
-        form has that of the call, and types and constants under one comment have one together."""
+        """Gives each name of a header an anchor; if calls have the same name, all but the first get
+        a number too. A checked form shares its call's anchor; types and constants under one comment
+        share one."""
         self.urls[header.name] = header_page(header.name)
         taken: set[str] = set()
         for entry in header.entries:

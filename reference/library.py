@@ -30,7 +30,7 @@ class Module:
 
 @dataclass
 class Reach:
-    """An item under the name by which a crate gives it."""
+    """An item under the name by which a crate exports it."""
 
     name: str
     item: Item
@@ -184,7 +184,7 @@ class Library:
         return sorted(items, key=lambda it: it.name.lower())
 
     def re_exported_by(self, item: Item) -> list[str]:
-        """The crates that give an item of another one; the one that users name comes first."""
+        """The crates that re-export an item; the one that users name comes first."""
         found = [
             crate
             for crate, reach in self.reached.items()

@@ -27,7 +27,7 @@ class Urls:
                 self.number_members(item)
 
     def number_members(self, item: Item) -> None:
-        """Gives each member of a type an anchor of its own: two of one name get numbers."""
+        """Gives each member of a type its own anchor: later ones of equal names get numbers."""
         taken: set[str] = set()
         impls = self.library.impls_of(item)
         for block in [item, *(impl for impl, _ in impls)]:
@@ -39,7 +39,7 @@ class Urls:
                 self.take(impl, f"impl.{base_name(trait)}", taken)
 
     def take(self, item: Item, name: str, taken: set[str]) -> None:
-        """An anchor that is free yet: the name, or with a number."""
+        """Gives the item a free anchor: the name, or the name with a number."""
         n, free = 1, name
         while free in taken:
             n += 1

@@ -70,8 +70,8 @@ impl Bench {
         self.times.with_those_before(&best(contenders, self.budget))
     }
 
-    /// Measures a row, after a test that all contenders return the same. At x86-64-v4 only rows of
-    /// counts have targets.
+    /// Measures a row, after a test that all of its `equals` return the same. At x86-64-v4 only
+    /// rows of counts have targets.
     pub fn row(&mut self, row: Row) {
         let has_targets = self.level != "x86-64-v4" || self.part == "Counts";
         let row = if has_targets {

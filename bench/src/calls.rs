@@ -42,8 +42,8 @@ pub type OfTable = unsafe extern "C" fn(
     usize,
 ) -> usize;
 
-/// A call of a directory in which each question waits for the answer before it; the last number is
-/// the mask, which library/src/directory.rt.in explains.
+/// Calls of a directory, each of which needs the result of the one before; the last number is the
+/// mask, which library/src/directory.rt.in explains.
 pub type OfTableInTurn = unsafe extern "C" fn(
     Bytes,
     usize,
@@ -77,8 +77,8 @@ pub type Write = unsafe extern "C" fn(*mut u8, usize, usize, Bytes, usize, usize
 pub type Operator =
     unsafe extern "C" fn(Bytes, usize, usize, Bytes, usize, usize, usize, usize, usize) -> usize;
 
-/// Bits taken: bytes and length of the set, the indices, the bytes of a validity, and whether it
-/// counts.
+/// Bits taken: bytes and length of the set, the indices, the bytes of a validity, and whether it is
+/// used.
 pub type Take<I> =
     unsafe extern "C" fn(Bytes, usize, usize, *const I, usize, Bytes, usize, bool) -> usize;
 

@@ -180,7 +180,7 @@ pub fn chunks(input: &Input, offset: usize, len: usize) -> usize {
     realigned(input, offset, len).fold(0, u64::wrapping_add) as usize
 }
 
-/// Two windows of whole words combined into words of their own; the answer is their length.
+/// Combines two windows of whole words into new words. Returns their number of bits.
 #[inline(never)]
 pub fn combine(left: (&Input, usize), right: (&Input, usize), len: usize) -> usize {
     let left = realigned(left.0, left.1, len);
@@ -280,8 +280,8 @@ pub fn collect_truthy(bytes: &[u8]) -> usize {
     collect(bytes.len(), |i| bytes[i] != 0)
 }
 
-/// Truth values appended to the first `before` bits of words, word by word; the answer is the
-/// number of all bits.
+/// Appends truth values to the first `before` bits of words, word by word. Returns the number of
+/// all bits.
 #[inline(never)]
 pub fn append_bools(words: &mut Vec<u64>, before: usize, bools: &[bool]) -> usize {
     let packed = |bools: &[bool]| {

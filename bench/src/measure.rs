@@ -14,7 +14,7 @@ const PART: Duration = Duration::from_micros(20);
 /// A turn's calls take at least this many times as long as making its sets takes.
 const SHARE: u32 = 4;
 
-/// A function that returns a number, the same one as every other contender.
+/// A function that returns a number, the same one as other contenders that do the same work.
 pub struct Contender<'a> {
     ask: Box<dyn Fn(usize) -> usize + 'a>,
     answers: usize,
@@ -37,8 +37,8 @@ impl<'a> Contender<'a> {
         }
     }
 
-    /// A function that makes its sets, and then calls the given number of times. The time of making
-    /// them isn't counted: it is measured with 0 calls, and subtracted.
+    /// A function that makes its sets, and then the given number of calls. The time of making the
+    /// sets isn't counted: it is measured with 0 calls, and subtracted.
     pub fn in_rounds(ask: impl Fn(usize) -> usize + 'a) -> Self {
         Contender {
             ask: Box::new(move |times| black_box(ask(times))),

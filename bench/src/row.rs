@@ -6,7 +6,7 @@ use crate::json::Object;
 use crate::measure::Contender;
 use crate::times::Placed;
 
-/// The names of the contenders that have columns of their own.
+/// The names of the contenders that have separate columns.
 pub const UPSTREAM: &str = "upstream";
 pub const LOOP: &str = "loop";
 
@@ -23,7 +23,7 @@ pub const NOISE: f64 = 1.02;
 enum Over {
     /// The time of another contender.
     Other(&'static str),
-    /// One nanosecond, for one answer, or for one of so many items.
+    /// One nanosecond: per call, and below per item.
     Nanosecond,
     NanosecondAnItem,
 }

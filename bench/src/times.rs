@@ -1,6 +1,5 @@
-//! Times of the same rows by several programs, which have the code of all contenders at other
-//! placements: each program writes a line of its times for each row, and reads those of the
-//! programs before it.
+//! Times of the same rows by several programs. Each has the code of all contenders at a different
+//! placement, writes a line of its times for each row, and reads those of the programs before it.
 
 use std::fs::File;
 use std::io::{BufRead, BufReader, BufWriter, Lines, Write};

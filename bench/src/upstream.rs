@@ -1,4 +1,4 @@
-//! The calls of vortex-buffer. Each is a function of its own, so that none gains by being inlined
+//! The calls of vortex-buffer. Each is a separate function, so that none gains by being inlined
 //! into the loop that measures it.
 
 use std::cell::Cell;

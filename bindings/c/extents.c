@@ -1,7 +1,7 @@
 /*
  * Runs each function that writes on windows whose bytes are the last ones before a page that can be
- * neither read nor written, or the first ones after one. The arguments claim that the function may
- * write that page, so a load or a store of another byte stops the call. The same call in writable
+ * neither read nor written, or the first ones after one. The sizes in the arguments include the
+ * page at the end, but a load or a store in either page stops the call. The same call in writable
  * memory must have the same result. It is C and C++ alike.
  */
 #ifndef _DEFAULT_SOURCE

@@ -43,7 +43,7 @@ static size_t size;
 #define WINDOW(bytes, offset) bytes, size, offset
 #define NULLS false, WINDOW(other, RIGHT)
 
-/* A row has the name of its function, without `vb_`. */
+/* A row has the name of its function without `vb_`; in rows `far_..` the call reads all bits. */
 #define ROW(name, call)                                                                           \
     static size_t row_##name(size_t n)                                                            \
     {                                                                                             \

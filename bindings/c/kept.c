@@ -9,7 +9,7 @@
 
 enum { BYTES = 96, BITS = 8 * BYTES, ROUNDS = 5000 };
 
-/* Returns a number for index i, whose low bytes are the values of each width. */
+/* Returns the number of index i. Its low bytes are the values of each width. */
 static uint64_t number_at(size_t i)
 {
     return (i + 1) * 0x9E3779B97F4A7C15u;
@@ -126,8 +126,8 @@ static unsigned truth(const uint8_t *values, size_t v, const uint8_t *validity, 
 }
 
 /*
- * Three-valued logic: its calls, with a validity or null, and the results of `and` and `or` for two
- * rows.
+ * Three-valued logic: the calls of `and` and of `or`, and their results for two rows: 0, 1, or 2
+ * for null.
  */
 static const struct {
     void (*plain)(uint8_t *, size_t, size_t, uint8_t *, size_t, size_t, const uint8_t *, size_t,

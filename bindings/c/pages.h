@@ -84,7 +84,7 @@ static void *items(size_t k, size_t count, size_t each)
     return arena[k] + start[k];
 }
 
-/* Returns a number that is often valid, and otherwise past every limit. */
+/* Returns a number: mostly below 600 and often valid, else below 9 * MOST or near SIZE_MAX. */
 static size_t any_number(void)
 {
     const size_t kind = random_below(12);

@@ -66,7 +66,7 @@ struct answer {
     /* The number of rows in which a or b is null, and the number with a true flag. */
     size_t nulls;
     size_t flags;
-    /* The values of b at AT of the selected rows, and the number of nulls of c there. */
+    /* The values of b at up to AT of the selected rows, and the number of nulls of c there. */
     size_t taken;
     int64_t at[AT];
     size_t taken_nulls;
@@ -153,7 +153,7 @@ static void add(struct answer *answer, const struct ArrowArray *batch)
     answer->rows += a.len;
 }
 
-/* Computes the sums of the selected values, and takes rows at indices of them. */
+/* Computes the sums over the selected rows, and takes (gathers) some of these by index. */
 static void finish(struct answer *answer)
 {
     size_t found[64], start = 0, n;

@@ -117,7 +117,7 @@ static void free_rows(struct rows *rows)
     }
 }
 
-/* Releases a column or a struct: its own part is one block of memory. */
+/* Releases a column or a struct: its children, and its own memory, which is one block. */
 static void release_array(struct ArrowArray *array)
 {
     for (int64_t i = 0; i < array->n_children; i++) {

@@ -1,7 +1,7 @@
 /*
  * Compares the three-valued logic of vortex_bits_gather.h with the table of the nine pairs: at each
  * length of up to 200, with windows that begin at bits 0 to 15 and end in the last byte of their
- * memory, since fewer than eight bytes are read and written in another way. It is C and C++ alike.
+ * memory: the functions handle fewer than eight bytes separately. It is C and C++ alike.
  */
 #include "tests.h"
 #include "vortex_bits.h"

@@ -59,7 +59,7 @@ template <class Value, class Number> constexpr bool is_compared_with()
     return false;
 }
 
-/* The least value that isn't below a number, whether it equals the number, and if none is. */
+/* The least value that isn't below a number, whether they are equal, and whether none exists. */
 template <class Value> struct bound {
     Value value;
     bool is_number;

@@ -275,8 +275,8 @@ VB_CHECKED bool vb_try_filter_bits(uint8_t *out, size_t out_size, size_t out_off
         size_t mask_offset, size_t len, size_t *written);
 
 /*
- * Does the same with a validity that may be missing: then writes true for each row that the mask
- * selects.
+ * Does the same with a validity that may be missing: if it is, writes true for each row that the
+ * mask selects.
  *
  *     uint8_t out[] = {0xC0};
  *     const uint8_t mask[] = {0x4B};

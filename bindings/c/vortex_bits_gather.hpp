@@ -218,7 +218,7 @@ template <class Bytes> void bits_mut::copy_from_truthy(const Bytes &truthy)
 
 /*
  * Packs bools into the first bytes of `out`, eight into each. The remaining bits of the last byte
- * are false. Not for std::vector<bool>, which stores no bools.
+ * are false. Doesn't accept std::vector<bool>, which stores no bools.
  */
 template <class Bools, class Out> void pack_bools(const Bools &bools, Out &&out)
 {

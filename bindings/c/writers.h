@@ -95,9 +95,9 @@ static inline size_t bytes_of(const struct writer *it, size_t bit, size_t count)
 }
 
 /*
- * The call of `it` on bits from bit `bit` of `first` on, or on items from there, with all bytes up
- * to `end` to write. If the first bit is an argument of the function, `out` begins `before` bytes
- * earlier.
+ * The call of `it` on bits from bit `bit` of `first` on, or on items from there. Its sizes include
+ * all bytes up to `end`. If the first bit is an argument of the function, `out` begins `before`
+ * bytes earlier.
  */
 static inline struct job job_of(const struct writer *it, uint8_t *const first[OUTS],
     uint8_t *const end[OUTS], size_t before, size_t bit, size_t count, const uint8_t *mask)

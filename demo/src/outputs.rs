@@ -110,8 +110,8 @@ impl Place {
     }
 }
 
-/// Returns the canonical path of the file that writing to `path`, which leads to no file, creates;
-/// None if its folder doesn't exist.
+/// Returns the canonical path of the file that a write to `path` would create; None if its folder
+/// doesn't exist. There is no file at `path`, but there may be a link.
 fn new(path: &Path, most_links: usize) -> Option<PathBuf> {
     let folder = fs::canonicalize(Path::new(".").join(path.parent()?)).ok()?;
     let path = folder.join(path.file_name()?);

@@ -53,8 +53,8 @@ pub struct Table {
 }
 
 impl Table {
-    /// Returns the table of a file. Its first row has the names of the columns. Without a header
-    /// line, and if a name is empty, the names are c1, c2 and so on. Without a header line, and if
+    /// Returns the table of a file. Its first row has the names of the columns. A column without a
+    /// name is called c1, c2 and so on; if there is no header line, all are. If there is none and
     /// rows may be short, there is a column for each field of the longest row; this reads the whole
     /// file to find it.
     ///
@@ -204,8 +204,8 @@ impl Batches<'_> {
     ///
     /// # Errors
     ///
-    /// Returns an error if the file can't be read, isn't CSV, or a row has another number of fields
-    /// than the first one.
+    /// Returns an error if the file can't be read, isn't CSV, or a row has more fields than there
+    /// are columns, or fewer unless rows may be short.
     pub fn next_batch(&mut self) -> Result<Option<&Rows>, Error> {
         self.rows.clear();
         while !self.is_full() && self.next_row()? {}

@@ -11,7 +11,7 @@ use support::{Folder, error, program, run};
 
 const PARCELS: &str = concat!(env!("CARGO_MANIFEST_DIR"), "/parcels.csv");
 
-/// Files that are wrong, with the options of a run, and the error behind their names.
+/// Wrong files, the options of a run, and its error without the file's name before it.
 const BAD_FILES: [(&str, &[&str], &str); 9] = [
     (
         "",

@@ -80,7 +80,7 @@ fn answers(text: &str) -> Vec<Vec<Vec<String>>> {
     all
 }
 
-/// What the program prints as CSV, without the header.
+/// Returns the CSV that the program prints, without the header.
 fn printed(file: &Path, args: &[&str]) -> Vec<Vec<String>> {
     let output = program(file).args(args).output().unwrap();
     assert!(

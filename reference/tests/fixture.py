@@ -271,7 +271,7 @@ template <class Value> void counter::add(const Value &value)
 
 
 class Repository(tempfile.TemporaryDirectory):
-    """The repository in a folder of its own, with some texts replaced."""
+    """The repository in its own folder, with some texts replaced."""
 
     def __init__(self, *edits: tuple[str, str, str]) -> None:
         super().__init__(prefix="reference-fixture-")

@@ -32,7 +32,7 @@ fn and_are_or_null(rows: &mut Bitmap, column: &Array, test: impl Fn(&Texts) -> B
 
 /// Returns the rows that `loops::is_kept` selects. `a and not (b and c)` selects the rows of `a`,
 /// except those in which `b` and `c` are each true or null. So masks of true rows are enough, and
-/// no text is read in 64 rows of which none is left.
+/// the texts of 64 rows are skipped if none of these rows is left.
 pub fn kept(batch: &Array, limit: f64) -> Result<Bitmap> {
     let number = batch.column("number")?;
     let mut kept = are(&batch.column("price")?, Comparison::Greater, limit)?;

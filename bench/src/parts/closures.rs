@@ -73,7 +73,7 @@ fn unset<'a>(input: &'a Input, w: Window<'a>, share: f64) -> Row<'a> {
     held(row, 1.0 - share)
 }
 
-/// Questions at every bit.
+/// Closures that are called at every bit.
 fn bits(bench: &mut Bench, w: Window) {
     let row_of_bits = row("`iter_bits`, summed", calls::bench_iter_bits, w, 0.5)
         .upstream(upstream!({

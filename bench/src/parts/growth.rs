@@ -6,7 +6,7 @@ use crate::input::{Input, Random};
 use crate::measure::Contender;
 
 /// The first size of walks and counts, in bits, and of lists, in items. The last is 1,000 times
-/// that, and still fits a core's second-level cache.
+/// that: these bits still fit a core's second-level cache, and lists of wide items don't.
 const BITS: usize = 8 << 10;
 const ITEMS: usize = 1_000;
 

@@ -99,7 +99,7 @@ fn owned<'a>(
         MILLION
     };
     let row = row.plain(Contender::of(plain));
-    // The loop's words begin with the window, so it is the same work at left offset 0 alone.
+    // The loop's words begin with the window, so only at left offset 0 does it do the same work.
     if l == 0 { row.at_most(1.0, LOOP) } else { row }
 }
 

@@ -61,7 +61,7 @@ pub fn measure(bench: &mut Bench) {
     }
 }
 
-/// The last true bit. A short window may have none: then its first true bit isn't found.
+/// The last true bit. A short window may have none: then the select of rank 0 finds none.
 fn last(w: Window<'_>, offset: usize, set: f64) -> Row<'_> {
     let rank = on(vb_count_ones, w).saturating_sub(1);
     let row = true_bits("last place", w, vec![rank])

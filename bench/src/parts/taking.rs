@@ -10,7 +10,7 @@ use crate::row::{Row, UPSTREAM};
 
 const BY_U64: &str = "by `u64`";
 
-/// Which positions count.
+/// Which positions are valid.
 #[derive(Clone, Copy, PartialEq)]
 enum Validity {
     None,
@@ -135,7 +135,7 @@ fn take<'a, I: Copy>(
     .plain(Contender::of(plain))
 }
 
-/// Indices of 128 bits don't cross to C, so the library makes them of narrower ones.
+/// Indices of 128 bits don't cross to C, so the library builds them from narrower ones.
 fn by_u128(bench: &mut Bench, bits: &Input, order: &str, indices: &[u64]) {
     let bytes = bits.bytes(MILLION / 8);
     let ours = move |rounds| unsafe {

@@ -123,8 +123,8 @@ static inline uint8_t known(uint8_t op)
 /*
  * Few calls have a null pointer or an unknown comparison, or come before a level is chosen: the
  * function rare_NAME is for these. The others pay for one test of the highest bit of several
- * numbers. It selects a pointer to the function to call: with a branch for each function, compilers
- * move each argument on the stack to a register and back. A pointer with that bit set goes to
+ * numbers. The test selects a function pointer, which one call uses: with a call in each branch,
+ * compilers copy each argument on the stack through a register. A pointer with that bit set goes to
  * rare_NAME too, which accepts any pointer.
  */
 #define NULL_DIGIT(number) ((uintptr_t)(number) - 1)

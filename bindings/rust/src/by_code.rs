@@ -41,7 +41,7 @@ impl BitmapsByCode {
     /// # Panics
     ///
     /// Panics if the number of bits of all codes exceeds `usize::MAX`, or their bytes exceed the
-    /// memory that a [`Vec`] can have, as do the calls that append.
+    /// memory that a [`Vec`] can have. Calls that append panic then too.
     #[must_use]
     #[track_caller]
     pub fn with_capacity(codes: usize, rows: usize) -> BitmapsByCode {

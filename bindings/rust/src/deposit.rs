@@ -54,8 +54,8 @@ impl Bits<'_> {
     }
 
     /// Writes the values, in their order, to the items of `out` whose bit is set, and returns their
-    /// number. The other items of `out` are unchanged, and values after those are ignored. It undoes
-    /// a [`keep_into`](Bits::keep_into): new values of the selected rows go back to their column.
+    /// number. The other items of `out` are unchanged, and further values are ignored. It undoes a
+    /// [`keep_into`](Bits::keep_into): new values of the selected rows go back to their column.
     ///
     /// ```
     /// use vortex_bits::Bits;

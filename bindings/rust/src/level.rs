@@ -21,8 +21,8 @@ pub enum Level {
 /// All levels, the lowest first.
 const LEVELS: [Level; 3] = [Level::Portable, Level::V2, Level::V3];
 
-/// The level, if the compiler's target fixes it, such as `-C target-cpu=x86-64-v3`. Calls then go
-/// straight to its functions.
+/// The level, if the build fixes it: no archive is linked, or the compiler's target has v3, such as
+/// with `-C target-cpu=x86-64-v3`. Calls then go straight to its functions.
 const FIXED: Option<Level> = if cfg!(not(vortex_bits_native)) {
     Some(Level::Portable)
 } else if cfg!(all(

@@ -60,7 +60,7 @@ pub fn and_is_in<'a, I: BitIndex>(values: &[I], set: impl Into<Bits<'a>>, mut ma
 
 /// Returns a bit per value: whether `mask` selects it, and it is in a set of whole numbers, which
 /// are the indices of the set bits of `set`. A negative value, and one that isn't below the length
-/// of `set`, is in none. If the mask is None, all values are selected. Values that it doesn't
+/// of `set`, isn't in the set. If the mask is None, all values are selected. Values that it doesn't
 /// select, such as nulls, may be any numbers.
 ///
 /// It is the semi-join of a column with keys, and `in` of a dictionary's codes: with the validity

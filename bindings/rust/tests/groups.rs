@@ -86,7 +86,7 @@ fn bitmaps_by_code_have_no_rows_or_no_codes() {
     assert!(panics(|| drop(BitmapsByCode::with_capacity(0, usize::MAX))).is_some());
 }
 
-/// The bitmaps share their bytes; one that is owned has those of its own rows.
+/// The bitmaps share one buffer; one that is made owned has only the bytes of its own rows.
 #[test]
 fn bitmaps_by_code_share_a_buffer_until_one_is_owned() {
     let codes: Vec<usize> = (0..1000).map(|row| row % 50).collect();
@@ -132,7 +132,7 @@ fn minimum_and_maximum_by_group_are_those_of_a_loop() {
     let mut nans = [Some(f64::NAN); 2];
     values::group_min(&mut nans, &[0u8, 0, 0], &[f64::NAN, 2.0, 1.0], None::<Bits>);
     assert!(nans[0] == Some(1.0) && nans[1].is_some_and(f64::is_nan));
-    // The first of equal values is the minimum.
+    // The first of equal values is the maximum.
     let mut zeros = [None];
     values::group_max(&mut zeros, &[0u8, 0], &[-0.0, 0.0], None::<Bits>);
     assert!(zeros[0].is_some_and(f64::is_sign_negative));

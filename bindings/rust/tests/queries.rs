@@ -368,7 +368,7 @@ fn batches_of_few_values_and_of_many_are_those_of_a_sort() {
     }
 }
 
-/// In an ascending column each row comes before all rows above it.
+/// If the column ascends, each row comes before all earlier rows in the order of `top_k`.
 #[test]
 #[cfg(not(miri))]
 fn the_greatest_values_of_an_ascending_column_are_its_last_ones() {

@@ -210,7 +210,7 @@ fn the_first_code_of_no_group_is_refused_and_nothing_is_changed() {
             let answer = values::try_group_sums(&mut sums, &codes, &column, &mask);
             assert_eq!(answer, Err(refused));
             assert_eq!((counts, sums), ([3; 7], [0.5; 7]));
-            // Without that row and the last one the others count.
+            // If the mask leaves out that row and the last one, the others count.
             let mask: Bitmap = (0..len).map(|row| row != bad && row != len - 1).collect();
             assert!(values::try_group_sums(&mut sums, &codes, &column, &mask).is_ok());
             let many = mask.count_ones();

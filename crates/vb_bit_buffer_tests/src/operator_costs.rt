@@ -40,7 +40,7 @@ fn calls_on_one_set_ask_for_what_they_need(rt: HostRuntime) {
     }
 }
 
-/// A copy is of the bytes of the window alone, wherever the storage ends.
+/// A copy has only the bytes of the window, wherever the storage ends.
 fn parts_are_copied<A: Allocator + Clone>(
     rt: &impl Abort,
     heap: &Refusing<Global>,

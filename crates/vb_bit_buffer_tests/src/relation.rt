@@ -61,7 +61,7 @@ fn rights(left: &[bool], seed: usize) -> [[bool; LONGEST]; 3] {
     lists
 }
 
-/// Each length at eight pairs of offsets within a byte; together the lengths have each pair.
+/// Each length at eight pairs of offsets within a byte; all lengths together cover each pair.
 #[test]
 fn relations_are_plain(rt: HostRuntime) {
     let lefts = list(21);

@@ -8,7 +8,7 @@ use vb_bit_buffer::BitBuffer;
 use vb_core::Result;
 use vb_mem::ByteBuffer;
 
-/// Both sets that were made are the same five true bits, and so are those that are true in both.
+/// Both sets that were made have the same five true bits, and so has their `and`.
 fn both_are_ones<A: Allocator + Clone>(
     rt: &impl Abort,
     left: Result<BitBuffer<A>>,
@@ -28,7 +28,7 @@ fn bits_at_unequal_offsets_are_combined(rt: HostRuntime) {
     both_are_ones(&rt, left, right);
 }
 
-/// The true bits of a set from bit 8 on, negated, are so many false bits.
+/// The bits from bit 8 on of a set of true bits, negated, are `len` false bits.
 fn none_is_left<A: Allocator + Clone>(rt: &impl Abort, made: Result<BitBuffer<A>>, len: usize) {
     let all = made.expect(rt, "a set");
     let negated = One::Not.make(part(&all, 8, 137)).expect(rt, "a set");

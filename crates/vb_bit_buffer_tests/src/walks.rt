@@ -1,4 +1,4 @@
-//! Walks over a set: of one byte, and one whose bits go past words.
+//! Walks over two sets: one of a byte, and one of more than two words.
 use crate::compared::equal;
 use crate::made::window;
 use std::alloc::Allocator;

@@ -98,7 +98,7 @@ fn a_refused_append_leaves_the_set(rt: HostRuntime) {
     equal(&rt, (heap.has_refused(), heap.asked()), (false, 7));
 }
 
-/// Adds a set of true bits to none, 5000 times.
+/// Adds a set of true bits to an empty set, 5000 times.
 fn append_again<A: Allocator + Clone>(rt: &impl Abort, alloc: A, added: &BitBuffer<A>) {
     let mut set = BitBufferMut::empty(alloc);
     for _ in 0..5000 {

@@ -87,7 +87,7 @@ fn a_mask_of_kept_rows_becomes_one_of_all_or_is_refused(rt: HostRuntime) {
 /// A mask with four true bits.
 const PLACES: [bool; 6] = [true, false, true, true, false, true];
 
-/// Five bits for a mask of four true ones are an error, and nothing is allocated. Four bits make a
+/// Five bits for a mask of four true bits are an error, and nothing is allocated. Four bits make a
 /// set by one request for its bytes and one for its owners.
 fn ask_four_of_six(rt: &impl Abort, heap: &Refusing<Global>, call: Call, refused: BufferError) {
     let mask = BitBuffer::from_bools(heap, &PLACES).expect(rt, "memory");

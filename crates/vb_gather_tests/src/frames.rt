@@ -28,7 +28,7 @@ fn half<A: Allocator>(alloc: A) -> Result<BufferMut<Wide, A>> {
     Ok(made)
 }
 
-/// All of them, of which the others are added as a slice.
+/// All elements: the first half, and then the same bytes again, added as a slice.
 fn elements(rt: &impl Abort, alloc: Global) -> Buffer<Wide, Global> {
     let first = half(alloc).expect(rt, "memory");
     let mut all = half(alloc).expect(rt, "memory");

@@ -155,8 +155,8 @@ fn beside_the_tables(rt: &impl Abort, alloc: Global, left: &Column, right: &Colu
     drop((a, b));
 }
 
-/// Two columns of so many values, whose four windows begin with these bits of their bytes, and of
-/// which one or both may have no nulls.
+/// Two columns of `len` values. `first` has the bits at which their four windows begin, and `nulls`
+/// says which columns may have nulls.
 fn columns(len: usize, first: [usize; 4], nulls: (bool, bool)) -> (Column, Column) {
     let left = Column {
         values: Row(len, first[0], Kept::OneIn(2)),

@@ -14,15 +14,15 @@ use vb_bits::window_fits;
 use vb_kleene::{and_kleene_into, or_kleene_into};
 use vb_view::BitBufferView;
 
-/// A column in bytes that all windows share: the bits with which its values begin, and its
-/// validity, if there is one.
+/// A column in bytes that all windows share: the bits at which its values and its validity, if
+/// there is one, begin.
 #[derive(Clone, Copy)]
 struct Side {
     values: usize,
     validity: Option<usize>,
 }
 
-/// The bits with which the written windows begin, and the columns.
+/// The bits at which the written windows begin, and the columns.
 #[derive(Clone, Copy)]
 struct Windows {
     trues: usize,
@@ -33,7 +33,7 @@ struct Windows {
 }
 
 impl Windows {
-    /// The n-th of many: each begins with one of the first eight bits.
+    /// The n-th of many cases, whose windows begin at one of the first eight bits.
     fn nth(n: usize) -> Windows {
         let validity = |here: bool, at: usize| if here { Some(at % 8) } else { None };
         Windows {

@@ -22,7 +22,7 @@ enum Call {
 
 const CALLS: [Call; 4] = [Call::Number, Call::Others, Call::And, Call::Or];
 
-/// How long the left values, the right ones, and the validities are, of which there may be none.
+/// The lengths of the left values, of the right ones and of both validities; None without one.
 #[derive(Clone, Copy)]
 struct Lens(usize, usize, Option<usize>, Option<usize>);
 
@@ -70,7 +70,8 @@ fn is_true(place: usize, one_in: usize) -> bool {
     one_in == 0 || place % one_in != 0
 }
 
-/// A truth value of such bits, under a validity of such bits, if there is one.
+/// The truth value at index `place` of such bits; null where a validity of such bits, if there is
+/// one, is false.
 fn truth(place: usize, one_in: usize, validity: Option<usize>, valid_in: usize) -> Truth {
     match validity {
         Some(_) if !is_true(place, valid_in) => None,

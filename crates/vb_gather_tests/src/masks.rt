@@ -69,7 +69,7 @@ pub(crate) const ROWS: &[Row] = &[
 pub(crate) enum Kept {
     OneIn(usize),
     AllButOneIn(usize),
-    /// `Runs(first, n)`: the first ones of each `n` bits, from bit 0 on.
+    /// `Runs(first, n)`: the first `first` bits of each `n`, from bit 0 on.
     Runs(usize, usize),
 }
 

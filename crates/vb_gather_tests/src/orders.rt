@@ -63,8 +63,8 @@ const LENGTHS: BufferError = BufferError::LengthMismatch { left: 9, right: 8 };
 
 const SECOND: BufferError = BufferError::TakeOutOfRange { position: 1 };
 
-/// The calls, the error of each with ample memory, and the number of requests before it. Before an
-/// index they are a copy of the allocator and the bytes, but not the owner.
+/// The calls, the error of each with ample memory, and the number of requests before it. Before the
+/// error of an index they are for a copy of the allocator and for the bytes, not for the owner.
 const ROWS: &[(Call, BufferError, u64)] = &[
     (Call::FilterBits, LENGTHS, 0),
     (Call::FilterItems, LENGTHS, 0),

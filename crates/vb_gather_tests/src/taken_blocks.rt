@@ -121,7 +121,7 @@ fn the_first_bad_position_is_named(rt: HostRuntime) {
     drop(set);
 }
 
-/// Two words and the start of a third, each across two words of bytes; the other bits stay.
+/// Two words and the start of a third, from each of the first nine bits on; the other bits stay.
 #[test]
 fn takes_write_from_any_bit_on(rt: HostRuntime) {
     const OLD: [u8; 19] = [0xA5; 19];

@@ -23,7 +23,7 @@ const MASKS: &[Kept] = &[
     Kept::Runs(100, 130),
 ];
 
-/// The bits with which the windows begin, and how many the mask has.
+/// The bits at which the windows begin, and the length of the mask.
 #[derive(Clone, Copy)]
 struct Windows {
     out: usize,
@@ -41,7 +41,7 @@ struct Bytes {
 }
 
 impl Bytes {
-    /// So many bytes of each. Values repeat after seven bits, so that a shift by up to six places
+    /// `count` bytes of each. Values repeat after seven bits, so that a shift by up to six bits
     /// shows.
     fn new(rt: &impl Abort, alloc: Global, count: usize, mask: Kept) -> Bytes {
         Bytes {

@@ -86,7 +86,7 @@ fn looks_of_counts_are_exact(rt: HostRuntime) {
     equal(&rt, most_looks(8000), 31);
 }
 
-/// A chunk and a byte of which one bit counts, and a byte with false bits.
+/// A window of a chunk and one bit more, and a window of seven bits, of which five are true.
 #[test]
 fn bits_behind_the_window_count_in_none(rt: HostRuntime) {
     let src = &mut Tally::new(&[0xFF; 65]);

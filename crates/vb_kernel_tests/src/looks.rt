@@ -57,8 +57,8 @@ pub(crate) fn looks_at(at: usize, l: usize, len: usize) -> u64 {
         .looks
 }
 
-/// Neither window is looked at more often than the bound says, and the right one is looked at most
-/// one time more than the left one.
+/// Neither window is looked at more often than the bound says, and the right one gets at most one
+/// look more than the left one.
 fn looks_are_few(rt: &impl Abort, l: usize, r: usize, len: usize) {
     let (left, right) = (looks_at(l, l, len), looks_at(r, l, len));
     let most = most_looks(len) as u64;

@@ -93,7 +93,7 @@ fn plain_counts(left: &BitBufferView<'_>, right: &BitBufferView<'_>) -> Counts {
     )
 }
 
-/// Views that begin at these places and have this length.
+/// Views that begin at these bits and have this length.
 fn is_plain(rt: &impl Abort, left: &[u8], right: &[u8], case: (usize, usize, usize)) {
     let (l, r, len) = case;
     let (one, other) = (&view(rt, left, l, len), &view(rt, right, r, len));
@@ -119,7 +119,7 @@ fn each_is_plain(rt: &impl Abort, left: &[u8], noise: &[u8], (l, r, len): (usize
     }
 }
 
-/// Each length at eight pairs of offsets within a byte; together the lengths have each pair.
+/// Each length at eight pairs of offsets within a byte; all lengths together cover each pair.
 #[test]
 fn relations_of_short_views_are_plain(rt: HostRuntime) {
     let (mut left, mut noise) = ([0; 27], [0; 28]);

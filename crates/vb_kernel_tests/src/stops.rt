@@ -1,4 +1,4 @@
-//! The looks of searches that stop at what they find, beside a plain loop.
+//! The looks of searches that stop at what they find, compared with a plain loop.
 use crate::compared::{equal, equal_at, holds};
 use crate::looks::looks_at;
 use crate::plain::{next_match, previous_match};
@@ -44,7 +44,7 @@ fn looks_back(offset: usize, len: usize, place: Option<usize>) -> u64 {
     looks_to(at, len, place)
 }
 
-/// A search from place `from` to the back.
+/// A search from index `from` to the back.
 fn next_is_exact(rt: &impl Abort, (bytes, offset, len): Window<'_>, from: usize, value: bool) {
     holds(rt, window_fits(bytes, offset, len));
     let src = &mut Tally::new(bytes);
@@ -64,7 +64,7 @@ fn next_is_exact(rt: &impl Abort, (bytes, offset, len): Window<'_>, from: usize,
     );
 }
 
-/// A search from place `before` to the front.
+/// A search from index `before` to the front.
 fn previous_is_exact(
     rt: &impl Abort,
     (bytes, offset, len): Window<'_>,
@@ -130,7 +130,7 @@ const PLACES: [usize; 14] = [
     0, 5, 8, 17, 70, 200, 511, 519, 700, 1030, 1599, 1606, 2060, 3106,
 ];
 
-/// Both searches from some places, in bytes of one value but for one bit.
+/// Both searches from several indices, in bytes of one value except for one bit.
 fn window_is_exact(rt: &impl Abort, window: Window<'_>, value: bool) {
     whole_is_exact(rt, window);
     for from in [0, 1, 6, 64, 530, window.2] {
@@ -206,7 +206,7 @@ fn subset_is_exact(
     equal_at(rt, (one.looks(), other.looks()), looks, (l, r, len));
 }
 
-/// The bits at each place in turn.
+/// The bits at each index in turn.
 fn places_are_exact(rt: &impl Abort, l: usize, r: usize, len: usize) {
     for place in PLACES {
         two_are_exact(rt, l, r, len, place);

@@ -5,7 +5,7 @@ use vb_core::TrustedLen;
 use vb_view::BitBufferView;
 use vb_walk::{BitIndexIterator, BitIterator, BitSliceIterator};
 
-/// The bits are those of the view, and so is its count of true ones.
+/// The bits are those of the view, and so is the number of set bits.
 pub(crate) fn bits_are_plain(rt: &impl Abort, view: &BitBufferView<'_>, mut bits: BitIterator<'_>) {
     let window = view.meta();
     let mut ones = 0usize;

@@ -1,4 +1,4 @@
-//! From which of two allocators calls that have both allocate. No contract can say it.
+//! Calls that have two allocators: from which of them they allocate. No contract can say it.
 use crate::compared::equal;
 use bytes::Bytes;
 use std::alloc::{AllocError, Allocator};

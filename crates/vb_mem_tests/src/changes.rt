@@ -60,7 +60,7 @@ fn try_extend<A: Allocator>(buffer: &mut BufferMut<u32, A>) -> Result<()> {
     buffer.try_extend_trusted(values).map_err(refusal)
 }
 
-/// A change in a state in which it takes memory.
+/// A change in a state in which it allocates.
 enum Trial {
     /// A change of a buffer that is full of sevens.
     Full(Change),

@@ -134,7 +134,7 @@ enum Shared {
     ItemsMutOfTwo,
 }
 
-/// A part that begins where its alignment is that of the whole.
+/// A part that begins at a multiple of the alignment of the whole.
 const SLICE: Twin = Twin::Slice(64, 1000);
 
 impl Shared {

@@ -28,7 +28,7 @@ pub(crate) enum Row {
     SelectUnset(usize, Option<usize>),
 }
 
-/// The directory answers as the rows say.
+/// The directory returns what the rows say.
 pub(crate) fn answers<A: Allocator + Clone>(rt: &impl Abort, ranked: &Ranked<A>, rows: &[Row]) {
     for row in rows {
         match *row {

@@ -44,7 +44,7 @@ fn rows_take_at_most_three_probes(rt: HostRuntime) {
 }
 
 /// The most probes of a select, by the number of blocks in the table: the number of binary digits
-/// of the number of blocks plus 1.
+/// of `blocks + 1`.
 const PROBES: [u64; 6] = [1, 2, 2, 3, 3, 3];
 
 const RANKS: [usize; 6] = [0, 1, 255, 511, 700, 1400];

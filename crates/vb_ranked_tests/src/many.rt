@@ -76,8 +76,8 @@ fn shared_answers_each(
     drop(places);
 }
 
-/// No bits, one, a block, and from one group to three groups and more. The last blocks are at the
-/// end of the bytes, or don't begin with a byte.
+/// No bits, one, a block, and from one group to three groups and more. The last block is at the end
+/// of the bytes; at offset 3 no block begins with a byte.
 const SETS: [(usize, usize); 8] = [
     (0, 0),
     (0, 1),
@@ -122,10 +122,10 @@ fn many_ranks_of_shared_sets_are_answered_as_each(rt: HostRuntime) {
     }
 }
 
-/// The number of ranks and that of places, which differs.
+/// The number of ranks and that of results, which differ.
 const UNEQUAL: [(usize, usize); 5] = [(0, 1), (1, 0), (8, 7), (8, 9), (64, 16)];
 
-/// The places are unchanged.
+/// The results are unchanged.
 fn are_untouched(rt: &impl Abort, places: &[Option<usize>]) {
     for place in places {
         equal(rt, *place, Some(7));

@@ -40,7 +40,7 @@ fn a_refused_request_refuses_the_directory(rt: HostRuntime) {
         let wanted = heap.wanted(Ok(()), Err(BufferError::OutOfMemory));
         equal(&rt, answer, wanted);
     }
-    // The set, and each table at once.
+    // One request for the set, and one for each table.
     equal(&rt, (heap.asked(), heap.has_refused()), (3, false));
 }
 

@@ -49,7 +49,7 @@ fn has_table(rt: &impl Abort, alloc: Global, bits: BitBufferView<'_>, wanted: &[
     drop(table);
 }
 
-/// A directory of the bits, which answers as the rows say. Its table has these entries.
+/// A directory of the bits, which returns what the rows say. Its table has these entries.
 fn indexed(
     rt: &impl Abort,
     alloc: Global,

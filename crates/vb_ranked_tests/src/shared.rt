@@ -133,7 +133,7 @@ fn a_refused_clone_leaves_the_directory(rt: HostRuntime) {
     }
 }
 
-/// The directory answers as a row says.
+/// The directory returns what a row says.
 fn answers<A: Allocator + Clone>(rt: &impl Abort, ranked: &RankedBuffer<A>, row: Row) {
     match row {
         Row::Rank(i, wanted) => {

@@ -295,7 +295,7 @@ fn memory_comes_before_indices(rt: HostRuntime) {
     drop(pool);
 }
 
-/// `show` prints only the first bits, so a longer set takes no more memory.
+/// `show` prints only the first bits, so it allocates no more for a longer set.
 #[test]
 fn a_text_takes_the_same_of_each_length(rt: HostRuntime) {
     let heap = Refusing::new(rt.alloc(), 0);

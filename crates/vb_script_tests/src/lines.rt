@@ -146,7 +146,7 @@ fn parts_of_about_16_bytes_are_read(rt: HostRuntime) {
     }
 }
 
-/// Whether a line asks for a command, or why it can't be read.
+/// Whether a line has a command, or why it can't be read.
 fn has_command(alloc: Global, line: &[u8]) -> Result<bool, Unread> {
     let command = command_of(&alloc, line)?;
     let is_there = command.is_some();

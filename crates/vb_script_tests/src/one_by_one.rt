@@ -76,7 +76,7 @@ impl OneByOne {
         self.put(digits.format(n).as_bytes(), output)
     }
 
-    /// Adds places with commas between two.
+    /// Adds indices with commas between two.
     fn put_places<W: Sink>(&mut self, places: &[usize], output: &mut W) -> Result<(), Fault> {
         let [first, rest @ ..] = places else {
             return self.put(b"-", output);
@@ -124,8 +124,8 @@ impl OneByOne {
         Ok(())
     }
 
-    /// Adds truth values as binary digits, at most as many as the buffer holds. If both don't fit,
-    /// writes what waits first.
+    /// Adds truth values as binary digits, at most as many as the buffer holds. If they don't fit
+    /// behind what waits, writes that first.
     fn put_block<W: Sink>(&mut self, bits: &[bool], output: &mut W) -> Result<(), Fault>
         requires { length bits.now ≤ 65536 }
     {
@@ -136,7 +136,7 @@ impl OneByOne {
         Ok(())
     }
 
-    /// Adds bytes. If both don't fit, writes what waits first.
+    /// Adds bytes. If they don't fit behind what waits, writes that first.
     fn put<W: Sink>(&mut self, bytes: &[u8], output: &mut W) -> Result<(), Fault> {
         if bytes.len() > ROOM - self.bytes.len() {
             self.flush(output)?;

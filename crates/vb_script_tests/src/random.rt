@@ -155,7 +155,7 @@ impl Random {
         self.add_filled("bits C\nruns A\nfreeze C\n", slots);
     }
 
-    /// Adds a text, with what its capital letters stand for.
+    /// Adds a text, with each capital letter replaced by what it represents.
     fn add_filled(&mut self, text: &str, (a, b, c): (char, char, char)) {
         for letter in text.chars() {
             match letter {

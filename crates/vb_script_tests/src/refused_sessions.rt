@@ -151,8 +151,8 @@ not own 13 13
 not own 11 11
 ";
 
-/// Makes sets of places, takes from them, and adds them to others; each command is refused for each
-/// of its reasons.
+/// Makes sets from indices, takes from them, and adds them to others; each command is refused for
+/// each of its reasons.
 const TAKES: &str = "\
 indices 0 70 0,64,3,69,3
 indices 0 1 0

@@ -370,7 +370,7 @@ fn is_cut_between_pieces(rt: &impl Abort, alloc: Global, lines: &str) {
     equal(rt, (lines, ended, widths.0), (lines, Ok(()), widths.1));
 }
 
-/// For some `room`, each piece of the last answers ends at the end of the buffer, and for others at
+/// Each piece of the last answers ends at the end of the buffer for one `room`, and for others at
 /// each distance of up to 21 bytes before it: a number and a byte next to it take at most 21. Each
 /// write has the same width as when the pieces are written one by one.
 #[test]
@@ -383,7 +383,7 @@ fn writes_are_cut_between_pieces(rt: HostRuntime) {
 }
 
 /// Lines that list as many bits as the buffer has bytes, and more, before and after other answers;
-/// and lines that list places, for which the buffer grows step by step.
+/// and lines that list indices, for which the buffer grows step by step.
 const LONG_LISTS: &[&str] = &[
     "full 0 1 65536\nfreeze 0\nbits 0\nlen 0\n",
     "full 0 1 65537\nbits 0\nlen 0\n",

@@ -86,8 +86,7 @@ fn by_append<A: Allocator + Clone>(set: &mut BitBufferMut<A>, many: usize) -> En
     (many, Ok(()))
 }
 
-/// The set has so many more bits, every third one true, and the next ones after an error are
-/// appended too.
+/// The set has `appended` bits more, every third one true. Bits after an error are appended too.
 fn is_kept<A: Allocator + Clone>(
     rt: &impl Abort,
     heap: &Refusing<Global>,

@@ -44,7 +44,7 @@ fn notes_of_calls<A: Allocator + Clone>(source: &BitBuffer<A>) -> Notes {
     (set, unset, bits)
 }
 
-/// Returns for each place whether its bit equals `place % 2 == 0`, and how often the closure was
+/// Returns for each index `i` whether its bit equals `i % 2 == 0`, and how often the closure was
 /// called.
 #[tactic(auto, using(vb_pack::proofs::AnswersLemmas::CanAsk_always))]
 fn mapped<A: Allocator + Clone>(rt: &impl Abort, set: &BitBuffer<A>) -> (BitBuffer<A>, usize) {

@@ -41,7 +41,7 @@ pub(crate) fn shows_set<A: Allocator + Clone>(rt: &impl Abort, set: &BitBuffer<A
     }
 }
 
-/// The set has these bits; compares each bit and the count of true ones.
+/// The set has these bits; compares each bit and the number of set bits.
 pub(crate) fn same<A: Allocator + Clone>(rt: &impl Abort, set: &BitBufferMut<A>, list: &[bool]) {
     equal(rt, set.len(), list.len());
     let mut ones = 0usize;

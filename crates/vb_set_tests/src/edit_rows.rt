@@ -79,7 +79,7 @@ fn edits_answer_and_leave_bits(rt: HostRuntime) {
     }
 }
 
-/// Adds a false bit to true ones.
+/// Adds a false bit to true bits.
 fn ends_false<A: Allocator + Clone>(rt: &impl Abort, made: Result<BitBufferMut<A>>) {
     let mut set = made.expect(rt, "a set");
     set.append(false).expect(rt, "room");

@@ -137,7 +137,7 @@ fn edited_is_plain<A: Allocator + Clone>(
     shorten(rt, set, list);
 }
 
-/// The set negated, beside the list.
+/// Negates the set and the list, and compares them.
 fn negated_is_plain<A: Allocator + Clone>(
     rt: &impl Abort,
     set: BitBufferMut<A>,

@@ -18,7 +18,7 @@ fn nine<A: Allocator + Clone>(alloc: A) -> Result<BitBuffer<A>> {
 }
 
 /// Opens a second owner of a set that was made, adds false bits, and copies the result. Returns the
-/// number of its bits, and that of the true ones.
+/// number of its bits, and that of its set bits.
 fn grown<A: Allocator + Clone>(made: Result<BitBuffer<A>>) -> Result<(usize, usize)> {
     let mut set = opened(twin(made))?;
     let answer = set.append_n(false, 1000);

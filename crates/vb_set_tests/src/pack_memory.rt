@@ -83,7 +83,7 @@ fn collected_shared<A: Allocator + Clone>(alloc: A) -> Result<BitBuffer<A>> {
     unasked(made, asked)
 }
 
-/// Four bits: whether each bit of a set equals `place % 2 == 0`.
+/// Four bits: whether each bit `i` of a set equals `i % 2 == 0`.
 #[tactic(auto, using(vb_pack::proofs::AnswersLemmas::CanAsk_always))]
 fn mapped<A: Allocator + Clone>(alloc: A) -> Result<BitBuffer<A>> {
     let set = BitBuffer::from_bools(alloc, &[true, false, false, true])?;

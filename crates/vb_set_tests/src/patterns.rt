@@ -10,7 +10,7 @@ pub(crate) fn thirds<A: Allocator + Clone>(alloc: A, len: usize) -> Result<BitBu
     BitBuffer::collect_bool(alloc, len, &mut |i| i % 3 == 0)
 }
 
-/// Two hundred bits: those of [`thirds`], and some more true ones.
+/// Two hundred bits: those of [`thirds`], with more of them true.
 #[tactic(auto, using(vb_pack::proofs::AnswersLemmas::CanAsk_always))]
 pub(crate) fn scattered<A: Allocator + Clone>(alloc: A) -> Result<BitBuffer<A>> {
     BitBuffer::collect_bool(alloc, 200, &mut |i| i % 3 == 0 || i % 7 == 2)

@@ -24,7 +24,7 @@ fn compare<T: PartialOrd + Hash>(rt: &impl Abort, one: &T, two: &T, order: Order
     equal(rt, equals, (is_equal, is_equal));
 }
 
-/// The items, with the least alignment of the type or one above.
+/// The items, aligned to 2^`exponent` bytes. [`Fixed`] requires at least 64.
 fn fixed(alloc: Global, items: &[u32], exponent: u8) -> Result<Fixed> {
     let alignment = Alignment::try_from_exponent(exponent.max(2))?;
     ConstBuffer::try_from_buffer(Buffer::copy_from_aligned(alloc, items, alignment)?)

@@ -1,4 +1,4 @@
-//! What the tests share: numbers that look random, files that go away, and random tables with
+//! Code that the tests share: numbers that look random, files that go away, and random tables with
 //! conditions on them.
 #![allow(dead_code, reason = "each test uses a part of it")]
 
@@ -72,7 +72,7 @@ pub fn run(file: &Path, args: &[&str]) -> process::Output {
     program(file).args(args).output().unwrap()
 }
 
-/// What is printed by a run that succeeds.
+/// Returns the output of a run, which must succeed.
 pub fn printed(file: &Path, args: &[&str]) -> String {
     let output = run(file, args);
     let errors = String::from_utf8(output.stderr).unwrap();

@@ -1,5 +1,5 @@
-//! Reads a file with GDAL, whose C library is found when the program runs: neither to build this
-//! nor to run it without a file does one need GDAL.
+//! Reads a file with GDAL. It loads GDAL's C library at run time: to build this, or to run it
+//! without a file, you don't need GDAL.
 
 use std::ffi::{CString, c_char, c_int, c_uint, c_void};
 use std::mem::transmute;

@@ -62,7 +62,7 @@ fn filtered(
     ExportStream::new(field, kept).into_stream()?.collect()
 }
 
-/// Where there is a `not`, a null has to stay null up to it, by three-valued logic.
+/// Below a `not`, a null has to stay null, by three-valued logic.
 fn neither_near_nor_light(batch: &Array) -> Result<Bitmap, ArrowError> {
     let [days, weight, express] = ["days", "weight", "express"].map(|name| batch.column(name));
     let (days, weight, express) = (days?, weight?, express?);
@@ -120,7 +120,7 @@ fn with_drivers(parcels: Stream, trucks: &Array) -> Rows {
     parcels.map(joined).collect()
 }
 
-/// What is known of the parcels of a city.
+/// The counts, the sum and the extremes of the parcels of a city.
 #[derive(Default)]
 struct Group {
     rows: i64,

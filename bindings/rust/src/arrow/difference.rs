@@ -123,8 +123,8 @@ impl Between {
     }
 }
 
-/// Returns the number of null rows, counted anew: a producer's number may be wrong, and slices don't
-/// have it. Unions and run-end-encoded arrays have their nulls in the children only.
+/// Returns the number of null rows. Only a producer's 0 is used: other numbers may be wrong, and
+/// slices don't have them. Unions and run-end-encoded arrays have their nulls in the children only.
 fn null_count(rows: &Array) -> usize {
     match rows.field().layout {
         Layout::Nulls => rows.len(),

@@ -37,9 +37,9 @@ const OF_ARRAY: Between = Between {
 };
 
 /// An array of the Arrow C data interface over values or bits of this program, with its type, for
-/// any consumer. Export copies no value: the array keeps the owner of the values until it is
-/// released, by the consumer or, if no consumer took it, by dropping the `Export`. If the owner
-/// then panics in its `drop`, the program aborts, because C has no panics.
+/// any consumer. Export copies no value, except texts: the array keeps the owner of the values
+/// until it is released, by the consumer or, if no consumer took it, by dropping the `Export`. If
+/// the owner then panics in its `drop`, the program aborts, because C has no panics.
 ///
 /// ```
 /// use vortex_bits::Bitmap;

@@ -31,7 +31,7 @@ pub enum Layout {
     /// Each row is a range of a buffer or of the child. The offsets between rows have this number
     /// of bytes.
     Ranges(usize, Of),
-    /// The items are in views and in buffers. The last buffer has the sizes of the others.
+    /// The items are in views and in buffers of bytes. The last buffer has the sizes of these.
     Views,
     /// Each row is this number of items of the child.
     Lists(usize),

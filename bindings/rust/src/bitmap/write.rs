@@ -98,7 +98,7 @@ impl<B: AsRef<[u8]>> Bitmap<B> {
     }
 
     /// Writes the values, in their order, to the items of `out` whose bit is set, and returns their
-    /// number. The other items of `out` are unchanged, and values after those are ignored.
+    /// number. The other items of `out` are unchanged, and further values are ignored.
     ///
     /// ```
     /// use vortex_bits::Bitmap;

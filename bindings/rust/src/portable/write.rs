@@ -328,7 +328,7 @@ pub fn unpack<T>(out: &mut [T], bits: Bits<'_>, of: impl Fn(u8) -> T) {
 }
 
 /// Returns the bits of a byte, as bytes 0 and 1. A multiplication copies it to each byte of a word,
-/// where one bit is kept; adding 127 sets the highest bit unless that is 0.
+/// where one bit is kept; adding 127 sets a byte's highest bit unless the byte is 0.
 #[inline]
 fn digits_of(byte: u8) -> [u8; 8] {
     let each = u64::from(byte).wrapping_mul(0x0101_0101_0101_0101) & 0x8040_2010_0804_0201;

@@ -44,7 +44,7 @@ impl<'a> Of<'a> {
     }
 
     unsafe fn child(self, place: usize) -> Of<'a> {
-        // SAFETY: there are as many.
+        // SAFETY: the caller says that there is such a child.
         unsafe {
             Of {
                 array: &**self.array.children.add(place),
@@ -58,7 +58,7 @@ impl<'a> Of<'a> {
         if len == 0 {
             return &[];
         }
-        // SAFETY: there are as many.
+        // SAFETY: the caller says that the buffer has these bytes.
         unsafe {
             let bytes = (*self.array.buffers.add(buffer)).cast::<u8>();
             std::slice::from_raw_parts(bytes.add(start), len)
@@ -81,7 +81,7 @@ impl<'a> Of<'a> {
         if *of == Type::Null {
             return true;
         }
-        // SAFETY: there is a buffer at least, and a bit for each item where it is there.
+        // SAFETY: there is a buffer at least; unless it is null, it has a bit for each item.
         unsafe {
             of.has_validity()
                 && self.array.null_count != 0

@@ -11,7 +11,7 @@ use crate::strict::{Look, looked_at, parse};
 
 /// The message of the checker for a tree.
 fn said((mut array, mut schema): Tree, look: Look) -> String {
-    // SAFETY: it is as the interface asks for, but for what is wrong.
+    // SAFETY: it is as the interface asks for, except for what is wrong.
     let answer = unsafe { looked_at(&array, &schema, look) };
     // SAFETY: they aren't released, or are so by the test.
     unsafe {
@@ -234,7 +234,7 @@ fn what_the_crate_refuses_is_wrong() {
     for _ in 0..1000 {
         let mut tree = maker.tree(9, 2);
         spoil(&mut maker, &mut tree);
-        // SAFETY: it is as the interface asks for, but for what is wrong.
+        // SAFETY: it is as the interface asks for, except for what is wrong.
         let is_right = unsafe { looked_at(&tree.0, &tree.1, Look::Numbers) }.is_ok();
         let answer = import(tree.0, tree.1);
         refused += usize::from(answer.is_err());

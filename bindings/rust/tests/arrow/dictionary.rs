@@ -160,7 +160,7 @@ fn texts_of_a_dictionary_are_those_of_its_items() {
         "column \"d.dictionary\": format \"C\" isn't that of texts"
     );
     let lost = Export::values(vec![0u8, 4, 9], None).named("word");
-    // SAFETY: this crate reads it alone, and tests the indices.
+    // SAFETY: only this crate reads it, and tests the indices.
     let lost = unsafe { lost.with_dictionary_unchecked(items()).unwrap() };
     assert_eq!(
         said(&lost.into_array()),
@@ -268,7 +268,7 @@ fn validities_of_a_dictionary_are_refused_as_its_values_are() {
     );
     let words = Export::texts(["a"], None);
     let items = Export::values(vec![0u8, 1], None);
-    // SAFETY: this crate reads it alone, and tests the indices.
+    // SAFETY: only this crate reads it, and tests the indices.
     let items = unsafe { items.with_dictionary_unchecked(words).unwrap() };
     let rows = Export::values([0u8], None)
         .named("d")

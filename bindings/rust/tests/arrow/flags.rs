@@ -161,7 +161,7 @@ fn nulls_are_refused_where_a_stream_has_none() {
     let rows = |column| Field::batch([column]);
     let of_a = |number| format!("column \"a\": {}", nulls(number));
     assert_eq!(said(part(gap, 0..3), rows(strict())), of_a(1));
-    // Rows of the slice count alone.
+    // Only the rows of the slice count.
     assert_eq!(said(part(gap, 2..3), rows(strict())), "1");
     assert_eq!(said(part(gaps, 1..3), rows(strict())), of_a(1));
     assert_eq!(said(part(gaps, 2..2), rows(strict())), "0");
@@ -234,7 +234,7 @@ fn nulls_without_bits_are_counted() {
     assert_eq!(said(Export::from(union), strict), "4");
 }
 
-/// A flag of the stream that isn't of nulls is a promise of each batch.
+/// Each batch must have the flags of its stream, except the one for nulls.
 #[test]
 fn sorted_keys_and_ordered_dictionaries_are_promises() {
     let coded = |flags| {

@@ -250,7 +250,7 @@ where
             let refused = rows.with_dictionary(dictionary()).unwrap_err().to_string();
             let wanted = format!("index {number} at position {place} names none of {items} values");
             assert_eq!(refused, format!("column \"d\": {wanted}"));
-            // A part without it has a dictionary.
+            // A part without this index gets a dictionary.
             let rows = Export::values(indices.clone(), None).read_back();
             let part = Export::from(rows.slice(place + 1..));
             assert!(part.with_dictionary(dictionary()).is_ok());

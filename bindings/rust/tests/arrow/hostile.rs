@@ -207,7 +207,8 @@ impl Reader {
     }
 }
 
-/// Joins the rows with a part of them, and the rows imported again, which share nothing, with it.
+/// Joins a part of the rows to the rows, and to the rows imported again, which share nothing with
+/// it.
 fn joined(array: &Array) -> [Result<Export, ArrowError>; 2] {
     let part = array.slice(array.len() / 2..);
     let again = array.clone().try_into_export();

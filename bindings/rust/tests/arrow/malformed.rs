@@ -374,7 +374,7 @@ fn whatever_the_numbers_are_nothing_is_read_by_them_and_all_is_released() {
             let mut arrays = Vec::new();
             all(&raw mut array, &mut arrays);
             assert_eq!(arrays.len(), 6);
-            // SAFETY: it is one of the tree. The producer itself goes by what it keeps.
+            // SAFETY: it is one of the tree. Its release reads none of these numbers.
             unsafe { *field(&mut *arrays[place]) = extreme };
             let answer = import(array, schema);
             refused += usize::from(answer.is_err());

@@ -80,7 +80,7 @@ fn sparse_unions_have_as_many_items_in_each_child() {
     ] {
         let answer = of("+us:0,5", &[], &[("C", a), ("c", b)]);
         assert_eq!(answer.err(), wanted);
-        // Those of a dense one are where its offsets say.
+        // A dense union names items by its offsets, so its children may have any length.
         assert!(of("+ud:0,5", &[], &[("C", a), ("c", b)]).is_ok());
     }
 }

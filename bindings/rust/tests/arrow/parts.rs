@@ -9,8 +9,8 @@ use crate::plain::Random;
 use crate::ranges::offsets;
 use crate::raw::{self, Buffer, Count, Schema, import};
 
-/// A column between these offsets, of a struct that begins `start` rows behind its own first one
-/// and ends `left` before its last one. There are as many bytes or items as the last offset says.
+/// A column between these offsets, of a struct that leaves out the column's first `start` rows and
+/// its last `left` ones. There are as many bytes or items as the last offset says.
 fn column(numbers: &[i64], format: &str, start: usize, left: usize) -> Array {
     let none = Count::default();
     let last = usize::try_from(numbers[numbers.len() - 1]).unwrap_or(0);
@@ -130,7 +130,7 @@ fn a_hundred_bytes_of_five_are_refused() {
     assert_eq!(answers(&column(&[0, 9, 5, 5], "U", 1, 0)), vec![""; 4]);
 }
 
-/// A part that is handed on is an array of its own, whose last offset is the part's.
+/// An exported part is an array of its own, whose last offset is that of the part.
 #[test]
 fn parts_that_end_behind_all_are_not_handed_on() {
     for format in ["u", "Z", "+l"] {
@@ -143,7 +143,7 @@ fn parts_that_end_behind_all_are_not_handed_on() {
             let refused = catch_unwind(AssertUnwindSafe(|| Export::from(part))).unwrap_err();
             assert_eq!(refused.downcast_ref::<String>().unwrap(), wanted);
         }
-        // Others go out as they came, and are read as they are.
+        // Other parts are exported as they came, and are read as before.
         for part in [
             all.slice(..),
             all.slice(2..),

@@ -236,7 +236,7 @@ impl Schema {
 
 /// Imports both structs, which the crate then owns.
 pub fn import(mut array: Array, mut schema: Schema) -> Result<arrow::Array, ArrowError> {
-    // SAFETY: they are as the interface asks for, but for numbers and null pointers.
+    // SAFETY: they are as the interface asks for, except for numbers and null pointers.
     let answer =
         unsafe { arrow::Array::from_raw((&raw mut array).cast(), (&raw mut schema).cast()) };
     assert!(array.release.is_none() && schema.release.is_none());

@@ -100,7 +100,7 @@ fn read(releases: In, errno: c_int) -> (Vec<String>, usize, usize) {
         release: Some(release),
         private_data: (&raw mut producer).cast(),
     };
-    // SAFETY: it is as the interface asks for, but for its releases.
+    // SAFETY: it is as the interface asks for, except for its releases.
     let read = match unsafe { Stream::from_raw((&raw mut stream).cast()) } {
         Err(error) => vec![error.to_string()],
         Ok(mut stream) => {
@@ -124,7 +124,7 @@ fn no_stream_is_called_when_it_is_released() {
             .map(String::from)
             .collect::<Vec<_>>()
     };
-    // The release within a callback counts as a call too, by the producer.
+    // The release counts as a call too, also one by the producer within a callback.
     assert_eq!(read(In::None, 0), (rows(2, &[]), 5, 1));
     assert_eq!(read(In::None, 5), (rows(2, &["get_next: errno 5"]), 6, 1));
     assert_eq!(read(In::Schema, 0), (rows(0, &[lost]), 2, 1));

@@ -143,7 +143,7 @@ fn children_of_a_schema_are_as_many_as_some_memory_has() {
     }
 }
 
-/// Few items of a dictionary may be those of many rows.
+/// Many rows may name the few items of a dictionary.
 #[test]
 #[cfg(all(target_pointer_width = "64", not(miri)))]
 fn texts_that_no_memory_holds_are_refused() {

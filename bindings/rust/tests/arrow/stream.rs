@@ -84,7 +84,7 @@ fn raw_stream(left: u8, errno: c_int, text: Option<&str>, counts: &Counts) -> ra
 }
 
 fn import(mut stream: raw::Stream) -> Result<Stream, ArrowError> {
-    // SAFETY: it is as the interface asks for, but for callbacks that are missing.
+    // SAFETY: it is as the interface asks for, except for callbacks that are missing.
     let answer = unsafe { Stream::from_raw((&raw mut stream).cast()) };
     assert!(stream.release.is_none());
     answer
@@ -175,7 +175,7 @@ fn callbacks_and_schemas_that_are_missing_are_named() {
     });
     assert_eq!(malformed.0, "column \"0\": no type has the format \"?\"");
     let unfilled = said(|it| {
-        // SAFETY: it isn't released; it answers 0 and no schema.
+        // SAFETY: it isn't released; it returns 0 and no schema.
         unsafe { (producer(it).format, producer(it).errno) = ("", 0) };
     });
     assert_eq!(unfilled.0, "ArrowSchema is released");

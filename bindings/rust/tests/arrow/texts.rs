@@ -185,7 +185,7 @@ fn views_share_their_buffers() {
         drop(kept);
         let (mut array, mut schema) = raw_of(taken);
         assert_eq!(count.get(), 1 + released);
-        // SAFETY: there are three buffers and more, and neither is released.
+        // SAFETY: there are at least three buffers, and neither struct is released.
         unsafe {
             // Views are numbers of 128 bits to some consumers.
             let values = *array.buffers.add(1);
@@ -213,7 +213,7 @@ fn views_of_null_rows_become_empty() {
         Export::concat(array.field(), &[array.slice(..4), again.slice(4..)]),
     ] {
         let (mut array, mut schema) = raw_of(made.unwrap());
-        // SAFETY: there are nine views, and neither is released.
+        // SAFETY: there are nine views, and neither struct is released.
         unsafe {
             let views = *array.buffers.add(1).cast::<*const [[u8; 16]; 9]>();
             for (row, view) in ROWS.iter().zip(&*views) {

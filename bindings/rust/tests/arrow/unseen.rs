@@ -21,7 +21,7 @@ pub fn indices(numbers: &[i8], items: i64) -> raw::Array {
     raw::Array::of(len, buffers, vec![], Some(items), &none)
 }
 
-/// Rows of a format with such a child; before it come the buffers and the children.
+/// Rows of a format with these buffers and with the children `before` and then `items`.
 pub fn rows(
     format: &str,
     len: i64,
@@ -60,7 +60,7 @@ fn each_type(last: i8, items: i64) -> Vec<Array> {
 
 #[test]
 fn items_outside_of_the_slices_do_not_count() {
-    // Index 127 has no place after the 127 items of the others, and -1 is the index of no item.
+    // Index 127 would pass 127 after the items of the others, and -1 is the index of no item.
     for last in [127, -1] {
         for (one, other) in each_type(0, 127).into_iter().zip(each_type(last, 128)) {
             let joined = Export::concat(one.field(), &[one.slice(..1), other.slice(..1)]);

@@ -4,7 +4,7 @@ use std::alloc::AllocError;
 /// Why a line isn't carried out.
 #[derive(Clone, Copy)]
 pub(crate) enum Stop {
-    /// It is refused, and this is answered after `refused`.
+    /// It is refused: the answer is `refused` and then this text.
     Refused(&'static str),
     /// The list's new length is so near to 2^64 that the offset of its first bit decides between
     /// two refusals.

@@ -13,7 +13,7 @@ use crate::{BitIndex, Bitmap, TakeError, TakeValuesError, Validity, Value, value
 /// Values and their validity.
 type Column<T> = (Vec<T>, Option<Bitmap>);
 
-/// Calls a method of a column with a dictionary with the type of its indices.
+/// Calls a method of a column. Its last type parameter is the type of the dictionary indices.
 macro_rules! by_index {
     ($column:ident.$call:ident::<$($type:ident,)? _>($items:expr)) => {
         match $column.node.field.layout {

@@ -91,8 +91,8 @@ impl Array {
         }
     }
 
-    /// Returns the bytes of each valid row of texts or binary values. It tests each view, or each
-    /// offset until a call for the whole array has tested all of them.
+    /// Returns the bytes of each valid row of texts or binary values. It tests the view of each
+    /// valid row, or each offset until a call for the whole array has tested all of them.
     ///
     /// ```
     /// use vortex_bits::Bitmap;
@@ -136,7 +136,7 @@ impl Array {
         has_views.then(|| unsafe { self.items_of::<View>(self.len) })
     }
 
-    /// Returns the buffers of views. The last buffer has their sizes.
+    /// Returns the buffers that views name. It reads their sizes in the last buffer of the array.
     pub(in crate::arrow) fn view_buffers(&self) -> Result<Vec<&[u8]>, Fault> {
         let [_, _, buffers @ .., sizes] = &self.node.buffers[..] else {
             return Ok(Vec::new());

@@ -100,8 +100,8 @@ enum Proof {
     None,
     /// Each valid row is UTF-8.
     Texts,
-    /// Each valid index names an item, and is below this number. From it on, the highest bit is
-    /// set, which is the sign in one of the two formats.
+    /// Each valid index names an item, and is below this number. Indices that aren't below it have
+    /// the highest bit set, which is the sign in one of the two formats.
     Below(usize),
 }
 

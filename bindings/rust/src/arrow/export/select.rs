@@ -77,7 +77,7 @@ impl Array {
     /// - Returns [`ArrowError::Malformed`] if a selected text or list ends before it begins or after
     ///   the last byte or item of the array, if runs end before the rows do, if a row of a union
     ///   names no child or item, or if a buffer that the rows need is null.
-    /// - Returns [`ArrowError::TooLong`] if more than 2^31 rows of a dense union have one child, and
+    /// - Returns [`ArrowError::TooLong`] if one child has more than 2^31 rows of a dense union, and
     ///   the errors of [`take`](Array::take) if its rows share items.
     /// - Returns [`ArrowError::Memory`] if memory runs out for the copies.
     #[doc(alias("where", "compress", "select"))]
@@ -237,10 +237,10 @@ impl Export {
     /// rows with different indices may then be equal.
     ///
     /// It copies the rows as [`Array::filter`] does. Slices of one array continue to share its
-    /// dictionary, the items of its list views and the buffers of its views. Otherwise the
-    /// dictionaries and the items of list views are copied, those of each array with a valid row
-    /// once and one array after the other, and the indices and offsets are adjusted. The items of a
-    /// dictionary are then in no order, whatever the field's flags say.
+    /// dictionary, the items of its list views and the buffers of its views. Otherwise it copies
+    /// the dictionaries and the items of list views of the arrays with a valid row, array by array
+    /// and each once, and adjusts the indices and offsets. The items of a joined dictionary are
+    /// then in no order, whatever the field's flags say.
     ///
     /// ```
     /// use vortex_bits::arrow::{Export, Field};

@@ -207,8 +207,8 @@ impl Export {
 }
 
 impl Array {
-    /// Tests that the rows are texts or binary values. It tests each view too, since a consumer
-    /// follows them; offsets are tested when the rows are copied.
+    /// Tests that the rows are texts or binary values. It also tests the views of valid rows, since
+    /// a consumer follows them; offsets are tested when the rows are copied.
     fn shows_texts(&self) -> Result<(), ArrowError> {
         match self.node.field.layout {
             Layout::Views => self.texts().map(drop),

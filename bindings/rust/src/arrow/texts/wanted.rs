@@ -18,8 +18,8 @@ pub(super) struct Wanted<T> {
     /// The bits of the high ends of their keys; `crowded` has those that more than one text has.
     highs: u64,
     crowded: u64,
-    /// The index of the first text with each high end that a key has, if it is a `u8`. If not, all
-    /// bits of `crowded` are set.
+    /// For each high end that a key has, the index of the first text with it. If there are more
+    /// texts than a `u8` can index, all bits of `crowded` are set.
     places: [u8; 64],
     /// The length of the shortest; `longer` is the length of the longest minus that.
     shortest: u32,

@@ -24,7 +24,7 @@ impl Maker {
         }
     }
 
-    /// Types of unions that aren't there, and items behind those that are.
+    /// Ids and offsets of unions, most of which name no child or no item.
     pub(super) fn wrong_items(&mut self, types: &mut [i64], offsets: &mut [i64]) {
         while self.lies() && !types.is_empty() {
             let row = self.below(types.len());
@@ -34,7 +34,7 @@ impl Maker {
         }
     }
 
-    /// Views of places that aren't there.
+    /// Views of bytes that aren't there.
     pub(super) fn wrong_views(&mut self, views: &mut [u8], rows: &Rows) {
         while self.lies() && rows.end > 0 {
             let row = self.below(rows.end);
@@ -50,7 +50,7 @@ pub fn spoil(maker: &mut Maker, (array, schema): &mut Tree) {
     let mut all = Vec::new();
     collect(&raw mut *array, &mut all);
     let chosen = all[maker.below(all.len())];
-    // SAFETY: it is one of the tree, whose producer goes by what it keeps.
+    // SAFETY: it is one of the tree, and its release reads nothing that is spoiled.
     let array = unsafe { &mut *chosen };
     let number = maker.one_of(&[i64::MIN, -7, -1]);
     match maker.below(9) {

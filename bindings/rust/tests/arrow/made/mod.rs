@@ -155,7 +155,7 @@ impl Maker {
             .nulls(said);
         let name = self.one_of(&["", "a", "b", "\u{e9}"]);
         let mut schema = Schema::of(name, format, fields, of, &self.count);
-        // A null type without rows has nulls too where a null row is taken.
+        // Type null allows nulls even without rows, since a take may add null rows.
         let has_nulls = nulls > 0 || format == "n";
         schema.flags = if has_nulls { 2 } else { self.one_of(&[0, 2]) };
         if self.below(4) == 0 {

@@ -62,7 +62,7 @@ fn buffers_are_there(array: &raw::Array, of: &Type, len: usize) -> Checked<()> {
     holds(number == 0 || !array.buffers.is_null(), || {
         "buffers is null".into()
     })?;
-    // SAFETY: there are as many pointers.
+    // SAFETY: there is a pointer for each buffer.
     let is_null = |place: usize| unsafe { *array.buffers.add(place) }.is_null();
     if of.has_validity() && is_null(0) {
         let nulls = array.null_count;
@@ -96,7 +96,7 @@ unsafe fn children<'a>(array: &'a raw::Array, tree: &Tree) -> Checked<Vec<&'a ra
     let is_right = has_dictionary == tree.dictionary.is_some();
     holds(is_right, || "a dictionary of one alone".into())?;
     let child = |place| {
-        // SAFETY: there are as many pointers.
+        // SAFETY: there is a pointer for each child.
         let child = unsafe { *array.children.add(place) };
         holds(!child.is_null(), || "a child is null".into())?;
         // SAFETY: as of `check`.

@@ -89,7 +89,7 @@ pub fn is_valid(validity: Option<&[u8]>, place: usize) -> bool {
     validity.is_none_or(|bits| bit(bits, place))
 }
 
-/// Whether numbers don't go back, and none is negative; the last one, 0 where there is none.
+/// Tests that offsets don't decrease and aren't negative. Returns the last one, or 0 without any.
 pub fn ascending(offsets: &[i64]) -> Checked<usize> {
     let mut last = 0;
     for (place, &offset) in offsets.iter().enumerate() {

@@ -134,7 +134,7 @@ impl Type {
         }
     }
 
-    /// How many children there are; of a struct it is any number.
+    /// The number of children; None for a struct, which may have any number.
     pub fn children(&self) -> Option<usize> {
         match self {
             Type::Struct => None,

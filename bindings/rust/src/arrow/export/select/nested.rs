@@ -139,8 +139,8 @@ fn signed(bytes: &[u8], place: usize, width: usize) -> i64 {
     }
 }
 
-/// Selects rows of a column with a dictionary: the indices. The items are those of all arrays.
-/// `valid` has a bit per row.
+/// Selects rows of a column with a dictionary: the indices. The items are those of all arrays with
+/// a valid row. `valid` has a bit per row.
 pub(super) fn coded(
     field: &Field,
     items: &Field,

@@ -91,7 +91,7 @@ impl Rows<'_> {
 pub(super) struct Runs {
     all: Vec<Run>,
     len: usize,
-    /// The start of the first row of an array that a run has, and the end of the last one.
+    /// The least start and the greatest end of the runs of rows that arrays have.
     span: Option<(usize, usize)>,
 }
 
