@@ -28,6 +28,15 @@ struct mask {
     explicit mask(std::size_t len) : bytes((len + 7) / 8), len(len) {}
 
     bits_mut write() { return bits_mut(bytes, 0, len); }
+
+    /* Appends `rows` bits, and returns them. */
+    bits_mut grow(std::size_t rows)
+    {
+        len += rows;
+        bytes.resize((len + 7) / 8);
+        return write().slice(len - rows, rows);
+    }
+
     operator bits() const { return bits(bytes, 0, len); }
 
     std::vector<std::uint8_t> bytes;
@@ -229,24 +238,15 @@ static rows filter(const table &from, const rule &where)
     return found;
 }
 
-/*
- * Returns which trucks are in Linz. The C library has no tests of texts: this is the only loop over
- * rows.
- */
+/* Returns which trucks are in Linz. */
 static mask in_linz(const table &trucks)
 {
     mask made(0);
     for (const batch &all : trucks.batches) {
-        const ArrowArray &city = *all->children[trucks.places[0]];
-        const auto *ends = static_cast<const std::int32_t *>(city.buffers[1]) + city.offset;
-        const auto *texts = static_cast<const char *>(city.buffers[2]);
-        for (std::int64_t row = 0; row < all->length; row++) {
-            const auto size = static_cast<std::size_t>(ends[row + 1] - ends[row]);
-            const std::string_view text(texts + ends[row], size);
-            made.bytes.resize(made.len / 8 + 1);
-            made.len++;
-            made.write().set(made.len - 1, text == "Linz");
-        }
+        const column city(all, trucks.places[0]);
+        bits_mut rows = made.grow(city.size());
+        city.texts().compare(VB_EQUAL, "Linz", rows);
+        rows.and_validity(city.valid());
     }
     return made;
 }

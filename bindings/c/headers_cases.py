@@ -1,6 +1,6 @@
-"""What compiles over vortex_bits.hpp, and what must not: for bindings/c/headers."""
+"""Code that must compile with vortex_bits.hpp, and code that must not, for bindings/c/headers."""
 
-# What each program begins with.
+# The beginning of each program.
 BEGIN = """\
 #include "vortex_bits.h"
 size_t position(vb_taken);
@@ -15,7 +15,7 @@ size_t position(vb_taken);
 using namespace vortex_bits;
 using buffer = std::vector<std::uint8_t>;
 
-/* A view of a user's own, one of bytes that may be written, and what has bytes of its own. */
+/* A user's view, a view of writable bytes, and types that own their bytes. */
 struct slice {
     const std::uint8_t *first;
     std::size_t count;
@@ -60,7 +60,7 @@ template <> inline constexpr bool std::ranges::enable_borrowed_range<range> = tr
 template <class Window, class Bytes>
 constexpr bool can_be = std::is_constructible_v<Window, Bytes, std::size_t, std::size_t>;
 """
-# What each line of code finds in its function.
+# The function around each line of code, with the variables that the line may use.
 AROUND = """\
 static void line_{line}()
 {{
@@ -75,7 +75,7 @@ static void line_{line}()
 
 """
 
-# What must compile as C++17 and later, and as C++20 and later.
+# Code that must compile as C++17 and later, and code that must as C++20 and later.
 ACCEPTED = [
     "(void)bits(bytes, 0, 8); (void)bits_mut(bytes, 0, 8);",
     "(void)bits(fixed, 0, 8); (void)count({fixed, 0, 8});",
@@ -129,6 +129,13 @@ ACCEPTED = [
     "compare(std::vector<float>(8), VB_LESS, 0.5, {bytes, 0, 8});",
     "compare(std::vector<double>(8), VB_LESS, fixed.size(), {bytes, 0, 8});",
     "const auto op = static_cast<vb_comparison>(plain[0]); compare_with(fixed, op, fixed, four);",
+    "const std::vector<int> at{0}; const std::string all; (void)(texts(at, all).size());",
+    "std::vector<int> at{0, 1}; texts(at, std::string_view(\"a\")).contains(\"\", {bytes, 0, 1});",
+    "std::int64_t at[1] = {}; (void)texts(vortex_bits::view(at, 1), fixed).slice(0, 0).empty();",
+    "column<int> at{{0, 1}}; column<char> it{{'a'}}; texts(at, it).is_in({\"a\"}, {bytes, 0, 1});",
+    "std::vector<std::string> all; texts<std::int64_t>().is_in(all, bits_mut(bytes, 0, 0));",
+    "texts_mut<int> all; all.append(\"a\"); texts it = all.all(); (void)(it[0] == all[0]);",
+    "texts_mut<int> all; (void)(all.append_kept({}, {}) + all.append_taken({}, fixed).value());",
     "static_assert(!can_be<bits, std::string &> && !can_be<bits, std::uint8_t *>);",
     "static_assert(!can_be<bits_mut, std::string &> && !can_be<bits_mut, std::uint8_t *>);",
 ]
@@ -148,7 +155,8 @@ ACCEPTED_SINCE_20 = [
 # Code that must not compile: windows over bytes that are freed before them, writable windows over
 # const bytes, and windows over other items; a number in place of a comparison; and results that are
 # ignored. Both compilers have these words in their errors.
-DELETED, NONE, UNUSED = "deleted (function|constructor)", "no matching", "ignoring return value"
+DELETED = "deleted (function|constructor|member function)"
+NONE, UNUSED = "no matching", "ignoring return value"
 REFUSED = [
     ("bits it(buffer(4), 0, 8); (void)it;", DELETED),
     ("bits it(made(), 0, 8); (void)it;", DELETED),
@@ -185,11 +193,13 @@ REFUSED = [
     ("take_values(fixed, fixed, rows, bytes);", UNUSED),
     ("masked_sum(fixed, rows);", UNUSED),
     ("masked_max(fixed, rows);", UNUSED),
+    ("texts_mut<int>().append_taken({}, fixed);", UNUSED),
+    ("(void)texts_mut<int>().all();", DELETED),
 ]
 
 
 def program(codes: list[str]) -> str:
-    """A program in which a line of code has the number of its place in the list, from 1001 on."""
+    """A program with these lines of code, which `#line` numbers in their order from 1001 on."""
     parts = [AROUND.format(line=line, code=code) for line, code in enumerate(codes, 1001)]
     uses = "".join(f"    line_{line}();\n" for line in range(1001, 1001 + len(codes)))
     return f"{BEGIN}{''.join(parts)}int main()\n{{\n{uses}}}\n"

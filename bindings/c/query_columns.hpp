@@ -49,6 +49,18 @@ public:
         return {static_cast<const T *>(child_.buffers[1]) + offset_, len_};
     }
 
+    /* The texts of a column of the format u. */
+    vortex_bits::texts<std::int32_t> texts() const
+    {
+        if (len_ == 0) {
+            return {};
+        }
+        const view<const std::int32_t> offsets(
+            static_cast<const std::int32_t *>(child_.buffers[1]) + offset_, len_ + 1);
+        const auto size = static_cast<std::size_t>(offsets[len_]);
+        return {offsets, view(static_cast<const char *>(child_.buffers[2]), size)};
+    }
+
 private:
     bool has_nulls() const { return child_.null_count != 0 && child_.buffers[0] != nullptr; }
 

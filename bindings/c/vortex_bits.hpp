@@ -91,7 +91,7 @@ public:
     std::size_t count_ones() const { return vb_count_ones(bytes_, size_, offset_, len_); }
     std::size_t count_zeros() const { return len_ - count_ones(); }
 
-    /* Returns the number of bits set in both, any, just one, or here alone. All need one length. */
+    /* Counts the bits set in both, either, just one, or here alone. The lengths must be equal. */
     std::size_t and_count(bits right) const { return by_another(vb_and_count, right); }
     std::size_t or_count(bits right) const { return by_another(vb_or_count, right); }
     std::size_t xor_count(bits right) const { return by_another(vb_xor_count, right); }
@@ -205,7 +205,7 @@ public:
         return runs;
     }
 
-    /* Writes them to the front of `out`, up to its capacity, and returns the number written. */
+    /* Writes indices or runs to the front of `out`, up to its capacity; returns their number. */
     template <class Out> std::size_t set_indices_into(Out &&out) const
     {
         using index = detail::lent_t<std::remove_reference_t<Out>>;
@@ -254,7 +254,7 @@ public:
      * Writes the values whose bit is set, in order, to the front of `out`, and returns their
      * number. There must be one value per bit. They are whole numbers, floats, bool, vb_u128, or
      * other types that can be copied as bytes. These must have 1, 2, 4, 8 or 16 bytes and the
-     * alignment of an integer of that size; those of 16 bytes need that of 8 bytes.
+     * alignment of an integer of that size; those of 16 bytes need alignment 8.
      */
     template <class Values, class Out>
     std::size_t keep_into(const Values &values, Out &&out) const;
@@ -274,7 +274,7 @@ public:
     std::size_t scatter_into(const Values &values, Out &&out) const;
 
     /*
-     * Copies the bits to one bool each (std::vector<bool> lends none), or to one byte 0 or 1. `out`
+     * Copies the bits to one bool each (not of a std::vector<bool>), or to one byte 0 or 1. `out`
      * has exactly one item per bit; vb_unpack_bools and vb_unpack_bytes of C accept more.
      */
     template <class Bools> void copy_to_bools(Bools &&out) const;
@@ -283,8 +283,7 @@ public:
 private:
     friend class bits_mut;
     friend class ranks;
-    friend std::size_t count_valid(std::optional<bits>, std::optional<bits>,
-        std::size_t);
+    friend std::size_t count_valid(std::optional<bits>, std::optional<bits>, std::size_t);
     friend struct detail::aggregate;
     template <class Values, class Indices, class Out>
     friend std::optional<std::size_t> take_values(const Values &, const Indices &,
@@ -397,7 +396,7 @@ public:
         vb_move_bits(writable(), size_, offset_ + to, offset_ + from, len);
     }
 
-    /* Here and below `source` or `right` has this length, and its bytes don't overlap these. */
+    /* Here and below `source` or `right` must have this window's length and none of its bytes. */
     void copy_from(bits source) { by_another(vb_copy_bits, source); }
     void operator&=(bits right) { by_another(vb_and_bits, right); }
     void operator|=(bits right) { by_another(vb_or_bits, right); }
@@ -413,7 +412,7 @@ public:
     void xor_of(bits left, bits right) { by_two(vb_xor_into, left, right); }
     void and_not_of(bits left, bits right) { by_two(vb_and_not_into, left, right); }
 
-    /* Writes which rows are valid in two columns, or in a mask and one. `nullopt` has no null. */
+    /* Writes which rows are true on both sides, validities or masks; `nullopt` is all true. */
     void and_validities_of(std::optional<bits> left, std::optional<bits> right);
 
     /*
@@ -448,15 +447,15 @@ public:
     /*
      * Writes which of `left and right`, or of `left or right`, are true, by three-valued logic:
      * `and` is false if one is false, `or` is true if one is true, even if the other one is null;
-     * else the result is null if one is, and false here. `valid` gets which are not null. A side
-     * without a validity has no null. `not` negates the values; `&=` them with `valid` to select.
+     * else it is null if one is: this window and `valid` then both get false. A side without a
+     * validity has no null. For `not`, negate the values; `&=` them with `valid` to select rows.
      */
     void and_kleene_of(bits left, std::optional<bits> left_valid, bits right,
         std::optional<bits> right_valid, bits_mut valid);
     void or_kleene_of(bits left, std::optional<bits> left_valid, bits right,
         std::optional<bits> right_valid, bits_mut valid);
 
-    /* Copies one bool per bit (std::vector<bool> lends none), or bytes, true if they are not 0. */
+    /* Copies one bool per bit (not of a std::vector<bool>), or bytes, true if they are not 0. */
     template <class Bools> void copy_from_bools(const Bools &bools);
     template <class Bytes> void copy_from_truthy(const Bytes &truthy);
 
@@ -493,6 +492,7 @@ private:
 #include "vortex_bits_compare.hpp"
 #include "vortex_bits_gather.hpp"
 #include "vortex_bits_ranks.hpp"
+#include "vortex_bits_texts_mut.hpp"
 #include "vortex_bits_values.hpp"
 
 #endif

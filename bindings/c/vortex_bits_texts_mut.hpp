@@ -1,0 +1,162 @@
+/*
+ * Texts that grow by the ones that masks and indices select, a part of vortex_bits.hpp, which
+ * includes this file. This code is tested, not proved.
+ *
+ *     vortex_bits::texts_mut<std::int32_t> kept;
+ *     kept.append_kept(cities, mask);                     // for each batch
+ *     kept.offsets(), kept.bytes();                       // the buffers of an array of Arrow
+ */
+#ifndef VORTEX_BITS_TEXTS_MUT_HPP
+#define VORTEX_BITS_TEXTS_MUT_HPP
+
+#include "vortex_bits_texts.hpp"
+
+#if __cplusplus >= 201703L
+
+namespace vortex_bits {
+
+template <class Offset> class texts;
+
+namespace detail {
+
+/* Returns the first of `count` positions that passes a test, if there is one. */
+template <class Test> std::optional<std::size_t> first_that(std::size_t count, Test test)
+{
+    for (std::size_t k = 0; k < count; k++) {
+        if (test(k)) {
+            return k;
+        }
+    }
+    return std::nullopt;
+}
+
+/* Makes the capacity of a container suffice for more items. It at least doubles if it grows. */
+template <class Container> void reserve(Container &of, std::size_t more)
+{
+    if (of.capacity() - of.size() < more) {
+        of.reserve(std::max(of.size() + more, 2 * of.capacity()));
+    }
+}
+
+} // namespace detail
+
+/*
+ * Texts in their own memory, which grows at its end by single texts or by those of batches. Only
+ * its calls that append allocate memory. An append throws std::out_of_range, before it changes
+ * anything, if the lengths of its arguments differ, or the bytes become more than the largest
+ * `Offset`. Texts to append must not be its own.
+ */
+template <class Offset> class texts_mut {
+public:
+    std::size_t size() const { return offsets_.size() - 1; }
+    bool empty() const { return size() == 0; }
+
+    /* The offsets, one more than texts, and the bytes, as Arrow's arrays have them. */
+    const std::vector<Offset> &offsets() const { return offsets_; }
+    const std::string &bytes() const { return bytes_; }
+
+    /* Returns all texts, until the next append. */
+    texts<Offset> all() const & { return texts<Offset>(offsets_, bytes_); }
+    texts<Offset> all() const && = delete;
+
+    std::string_view operator[](std::size_t row) const
+    {
+        detail::expect(row < size(), "a row is not one of the texts");
+        const auto from = static_cast<std::size_t>(offsets_[row]);
+        return {bytes_.data() + from, static_cast<std::size_t>(offsets_[row + 1]) - from};
+    }
+
+    void append(std::string_view text)
+    {
+        reserve(1, grown(0, text.size()));
+        push(text);
+    }
+
+    /* Appends the texts whose bit in `mask`, one per text, is set, and returns their number. */
+    std::size_t append_kept(texts<Offset> from, bits mask)
+    {
+        detail::expect(mask.size() == from.size(), "not a bit for each text");
+        std::size_t rows = 0, bytes = 0;
+        mask.for_each_run([&](std::size_t start, std::size_t end) {
+            rows += end - start;
+            bytes = grown(bytes, from.from(end) - from.from(start));
+        });
+        reserve(rows, bytes);
+        mask.for_each_run([&](std::size_t start, std::size_t end) { push(from, start, end); });
+        return rows;
+    }
+
+    /*
+     * Appends the texts at the indices, whole numbers of 8 to 64 bits, one each; where `valid` is
+     * false, an empty one, whatever the index. Returns the first position that counts and whose
+     * index is out of range, if there is one; then it appends nothing.
+     */
+    template <class Indices>
+    [[nodiscard]] std::optional<std::size_t> append_taken(texts<Offset> from,
+        const Indices &indices, std::optional<bits> valid = std::nullopt)
+    {
+        using index = std::remove_cv_t<detail::lent_t<const Indices>>;
+        static_assert(detail::is_index<index>(),
+            "append_taken takes indices of a whole number of 8, 16, 32 or 64 bits");
+        const std::size_t count = detail::size(indices);
+        detail::expect(!valid || valid->size() == count, "not a bit of validity for each index");
+        // A negative index becomes greater than each row.
+        const auto at = [&](std::size_t k) { return static_cast<std::size_t>(indices.data()[k]); };
+        const auto counts = [&](std::size_t k) { return !valid || (*valid)[k]; };
+        std::size_t bytes = 0;
+        const auto is_wrong = [&](std::size_t k) {
+            const bool is_row = at(k) < from.size();
+            bytes = counts(k) && is_row ? grown(bytes, from.length(at(k))) : bytes;
+            return counts(k) && !is_row;
+        };
+        if (const auto wrong = detail::first_that(count, is_wrong)) {
+            return wrong;
+        }
+        reserve(count, bytes);
+        for (std::size_t k = 0; k < count; k++) {
+            push(counts(k) ? from.text(at(k)) : std::string_view());
+        }
+        return std::nullopt;
+    }
+
+private:
+    /* Returns the sum of two numbers of bytes to append, if an offset can have that value. */
+    std::size_t grown(std::size_t bytes, std::size_t more) const
+    {
+        const auto most = static_cast<std::size_t>(std::numeric_limits<Offset>::max());
+        detail::expect(more <= most - bytes_.size() - bytes, "more bytes than an offset can have");
+        return bytes + more;
+    }
+
+    void reserve(std::size_t rows, std::size_t bytes)
+    {
+        detail::reserve(offsets_, rows);
+        detail::reserve(bytes_, bytes);
+    }
+
+    /* Appends a text. The capacity suffices. */
+    void push(std::string_view text)
+    {
+        bytes_.append(text);
+        offsets_.push_back(static_cast<Offset>(bytes_.size()));
+    }
+
+    /* Appends the texts from row `start` to row `end`. The capacity suffices. */
+    void push(const texts<Offset> &from, std::size_t start, std::size_t end)
+    {
+        const Offset moved = static_cast<Offset>(bytes_.size()) - from.offsets_[start];
+        bytes_.append(from.bytes_ + from.from(start), from.from(end) - from.from(start));
+        for (std::size_t row = start; row < end; row++) {
+            offsets_.push_back(from.offsets_[row + 1] + moved);
+        }
+    }
+
+    std::vector<Offset> offsets_ = {0};
+    std::string bytes_;
+};
+
+} // namespace vortex_bits
+
+#endif
+
+#endif
