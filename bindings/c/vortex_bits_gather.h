@@ -258,10 +258,10 @@ VB_CHECKED bool vb_try_take_bits_u64(uint8_t *out, size_t out_size, size_t out_o
 
 /*
  * Filters bits: writes the bits that the mask selects to the bits of `out` from bit `out_offset`
- * on, in order. It selects the bits of `bytes` from bit `offset` on whose bit of `mask`, from bit
- * `mask_offset` on, is true. The bits to write must be in `out`; the checked form tests that too.
- * Returns their number (`written`). Every other bit of `out` is unchanged. Processes 64 bits at a
- * time.
+ * on, in order. A bit among those of `bytes` from bit `offset` on is selected if its bit of `mask`,
+ * from bit `mask_offset` on, is true. The bits to write must be in `out`; the checked form tests
+ * that too. Returns their number (`written`). Every other bit of `out` is unchanged. Processes 64
+ * bits at a time.
  *
  *     uint8_t out[] = {0xFF};
  *     const uint8_t bits[] = {0x76}, mask[] = {0x4B};

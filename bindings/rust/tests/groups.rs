@@ -53,7 +53,7 @@ fn bitmaps_by_code_are_those_of_comparisons() {
                 assert!(bitmap.iter().eq((0..rows.len).map(|row| has(row, code))));
             }
         }
-        // After a refusal no bit is left: rows that are added then have only their own.
+        // A batch with an error leaves no bit: rows that are added later have only their own.
         let rest = if wrong.is_some() { 0 } else { rows.len };
         assert_eq!(all.len(), before.len() + rest);
         all.append(&[0u64; 70], Bitmap::new_unset(70));

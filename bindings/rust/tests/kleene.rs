@@ -169,7 +169,7 @@ fn bitmaps_and_windows_stand_by_reference() {
     assert_eq!((trues, Some(known)), both);
 }
 
-/// The rows that are true can also be found without nulls: `&` each column with its validity first.
+/// `&` and `|` find the same true rows if you first `&` each column with its validity.
 #[test]
 fn a_where_without_not_needs_no_nulls() {
     for offsets in [[0, 0], [3, 5]] {

@@ -60,7 +60,7 @@ fn time_of_half(rows: u32) -> Duration {
     (0..3).map(once).min().unwrap()
 }
 
-/// One test, so that no other one allocates beside it.
+/// One test, so that no other test allocates at the same time.
 #[test]
 fn calls_allocate_what_their_documents_say() {
     // Worst case: each row of an ascending column is among the first `k` so far.

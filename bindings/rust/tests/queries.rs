@@ -32,7 +32,8 @@ fn two_counts_are_those_of_a_loop() {
     assert_eq!(refused.unwrap(), "a mask of 71 bits for 70");
 }
 
-/// Portable code counts windows of whole bytes by blocks of 1,024 bits, and the rest by words.
+/// On x86 without `popcnt`, portable code counts whole bytes in blocks of 1,024 bits, and the rest
+/// by words.
 #[test]
 fn counts_of_blocks_are_those_of_a_loop() {
     let mut random = Random(3);
@@ -357,7 +358,7 @@ fn appended(random: &mut Random, k: usize, most: usize, is_greatest: bool) {
     }
 }
 
-/// After a batch of up to 16 new values these are inserted, after one of more all are sorted.
+/// Up to 16 new values of a batch are inserted one by one; if there are more, all are sorted.
 #[test]
 fn batches_of_few_values_and_of_many_are_those_of_a_sort() {
     let mut random = Random(7);

@@ -1,4 +1,4 @@
-//! Parts of a window that share no byte: what they cover, what is refused, and that no bit is lost
+//! Parts of a window that share no byte: what they cover, which calls fail, and that no bit is lost
 //! if threads write them.
 use std::ops::Range;
 use std::thread;

@@ -223,8 +223,8 @@ fn the_first_code_of_no_group_is_refused_and_nothing_is_changed() {
     }
 }
 
-/// The rows before the refused one may have wrapped sums around, and those that no mask selects have
-/// codes of no group.
+/// Sums may wrap around in the rows before the wrong code. The codes of unselected rows name no
+/// group.
 #[test]
 fn sums_and_counts_are_unchanged_after_a_code_of_no_group() {
     for bad in [0, 1, 40, 63, 64, 100, 190, 199] {

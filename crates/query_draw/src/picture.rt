@@ -182,7 +182,8 @@ impl<'a> Picture<'a> {
         let count = nearest_usize_to_f64(end.saturating_sub(first).max(1));
         let slot = (WIDTH - MARGIN - CHART_LEFT) / count;
         let label = nearest_usize_to_f64(histogram.longest().saturating_add(1)) * CHARACTER;
-        // A remainder of floats would call a C function that older C libraries lack.
+        // Edges are skipped by whole bins: a remainder of floats would call a C function that older
+        // C libraries lack.
         let each = saturating_f64_to_usize((label / slot).ceil()).max(1);
         for bin in first..end {
             let place = bin.saturating_sub(first);

@@ -114,7 +114,7 @@ fn several(alloc: Global, name: &str, found: Found) -> std::result::Result<Strin
 /// The most names that an error lists.
 const LISTED: usize = 12;
 
-/// Returns the names for an error; only the first if there are many.
+/// Returns the names for an error, at most the first [`LISTED`].
 pub fn listed(alloc: Global, names: &[String]) -> std::result::Result<String, AllocError> {
     let mut list = String::new(alloc);
     for (place, name) in names.iter().enumerate() {

@@ -155,7 +155,7 @@ impl Table {
         find(self.alloc, self.names.as_slice(), name, source, at)
     }
 
-    /// Returns the names for an error; only the first if there are many.
+    /// Returns the names for an error, at most the first 12.
     pub fn listed(&self) -> std::result::Result<String, AllocError> {
         listed(self.alloc, self.names.as_slice())
     }

@@ -69,7 +69,7 @@ fn values(alloc: Global, pages: &Pages, rows: usize, random: &mut Random) -> Res
     Ok(Buffer::read_from(alloc, part, Alignment::of::<u32>())?)
 }
 
-/// Returns a condition that one value in 1,000, in 10 or in 2 meets, or nearly all values.
+/// Returns a condition that one value in 1,000, one in 10, one in 2, or nearly every value meets.
 fn condition(random: &mut Random) -> Condition {
     match random.below(4) {
         0 => Condition::Below(4_294_967),

@@ -101,7 +101,7 @@ downwards_order = record {
       below_in z x (below_trans z y x (below_out z y r q b) (below_out y x q p a));
 }
 
--- whether a float is a NaN
+-- a float for which `is_nan` is true is `nan`
 only_nan : (x : Float) → is_nan x ≡ true → x ≡ nan
 unfolding is_nan
 only_nan nan h = refl

@@ -1,5 +1,5 @@
-//! What calls allocate: only an owner if they work in place, otherwise the bytes of the window and
-//! an owner.
+//! What calls allocate: nothing if they only share bytes, an owner if they work in place, otherwise
+//! the bytes of the window and an owner.
 use crate::calls::{LENT, OWNED, One, Two};
 use crate::compared::{equal, len_of};
 use crate::made::{ones, part};

@@ -12,9 +12,9 @@ use vb_filter::{filter_into, filter_into_at, filter_word};
 use vb_view::BitBufferView;
 
 /// Writes the bits that the mask selects to the bits of `out` from bit `o` on, in order, and
-/// returns their number. It selects among the `len` bits of `bytes` from bit `offset` on those
-/// whose bit of `mask`, from bit `m` on, is true. The bits to write must be in `out`. Every other
-/// bit of `out` is unchanged.
+/// returns their number. A bit among the `len` bits of `bytes` from bit `offset` on is selected if
+/// its bit of `mask`, from bit `m` on, is true. The bits to write must be in `out`. Every other bit
+/// of `out` is unchanged.
 #[unsafe(no_mangle)]
 pub extern "C" fn vb_filter_bits(
     out: &mut [u8],

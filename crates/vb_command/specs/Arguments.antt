@@ -1,5 +1,5 @@
--- The order of a line of words, by the number of words after its name, by the name, and by the
--- fields.
+-- The order that a line of words writes. It depends on the number of words after the name, on the
+-- name, and on the fields.
 use Rattle.std.specs.Prelude.{ℕ, Bool, List, [], ◌∷◌, codes, Option, Some, None}
 use Rattle.std.specs.Prelude.{if◌then◌else◌}
 use Rattle.std.specs.Str.{bytes_eq}

@@ -10,8 +10,8 @@ use Rattle.vb_command.specs.Arguments.{arguments_of}
 use Rattle.vb_command.specs.declared.unread.Unread.{Unread}
 use Rattle.vb_command.specs.declared.unread.Unread.TheVariants as unread
 
--- a function returns the value of the definition `read`, or `Unreadable` if it has none. If memory
--- runs out, the definition has a value
+-- a function returns the value of the definition `read`, or `Unreadable` if it has none. It returns
+-- `Memory` only if the definition has a value
 abbrev pub Gives : {X Y : Type 0} → (X → Y) → Result X Unread → Option Y → Type 0
 Gives view (Ok x) read = read ≡ Some (view x)
 Gives view (Err unread.Memory) read = IsTrue (is_some read)

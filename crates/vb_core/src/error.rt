@@ -4,8 +4,8 @@ ghost use Rattle.std.specs.Prelude.{◌≡◌};
 use std::alloc::{AllocError, AllocFailed};
 use thiserror::Error;
 
-/// The reason why a call failed. Each call's contract states which of these errors it returns, and
-/// exactly when.
+/// The reason why a call failed. Each call's contract states which of these errors it returns and,
+/// except for `OutOfMemory`, when.
 #[derive(Clone, Copy, Debug, PartialEq, Eq, Hash, Error)]
 pub enum BufferError {
     /// An allocation failed, the requested capacity is more than `isize::MAX` bytes, a length

@@ -68,8 +68,8 @@ fn count_few(bytes: &[u8], offset: usize, len: usize) -> usize
     read_bits(bytes, offset, len).count_ones() as usize
 }
 
-/// [`count_ones`] of more than 512 bits, as a call, so that a shorter window needs no source in
-/// memory.
+/// [`count_ones`] of more than 512 bits. It isn't inlined, so that a shorter window needs no source
+/// in memory.
 #[inline(never)]
 fn count_of_many(bytes: &[u8], offset: usize, len: usize) -> usize
     requires long { 512 < len }

@@ -17,7 +17,7 @@ pub use wide::Wide;
 /// look, and no other call returns bytes. So a function that is generic over `Glance` can neither
 /// read more nor read more often than its contract says.
 ///
-/// An implementor's `look` clause fixes its ghost count, not its reads.
+/// The `look` clauses bind only the ghost count of an implementation, not its real reads.
 pub trait Glance {
     // The bytes, which no call changes, and the number of looks so far.
     ghost seen: { Self → CountedBytes };

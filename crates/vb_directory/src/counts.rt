@@ -120,10 +120,10 @@ impl<A: Allocator> Counts<A> {
     }
 
     /// Adds 1 to the counts after the block of bit `i` if `up`, since the bit becomes true; else
-    /// subtracts 1, since it becomes false. Counts that are exact before that write are exact after
-    /// it. Bit `i` must be in a group that has counts. Changes the later numbers of that group, at
-    /// most 127, and the counts before all later groups. Does not allocate, and the capacity stays
-    /// the same.
+    /// subtracts 1, since it becomes false. If the counts are those of the bits before bit `i`
+    /// changes, they become those of the bits after that. Bit `i` must be in a group that has
+    /// counts. Changes the later numbers of that group, at most 127, and the counts before all
+    /// later groups. Does not allocate, and the capacity stays the same.
     pub fn move_behind(&mut self, i: usize, up: bool)
         requires { GROUP_NUMBERS * (i / GROUP_BITS) + BEFORE_DIGITS ≤ length self.old.numbers }
         ensures moved { (l : List Bool) → AreCounts l self.old.numbers → length l < 2 ^ 64

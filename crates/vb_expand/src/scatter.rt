@@ -13,7 +13,7 @@ use vb_view::{BitBufferView, view_word};
 /// selects the written values from the new items.
 ///
 /// The mask must be as long as `out`, and must not have more true bits than there are values;
-/// values after those are ignored. Processes 64 bits at a time: copies a block of values if all are
+/// further values are ignored. Processes 64 bits at a time: copies a block of values if all are
 /// true, else writes the selected items one by one.
 pub fn scatter_values_into<T: Copy>(out: &mut [T], values: &[T], mask: BitBufferView<'_>) -> usize
     requires same_len { length out.old ≡ length (bits_of mask) }

@@ -14,8 +14,8 @@ use std::simd::prelude::*;
 /// below them.
 const BY_ONE: [u8; 16] = [0, 0, 2, 0, 0, 4, 6, 0, 8, 0, 2, 8, 0, 12, 14, 0];
 
-/// For each mask of four bits, the bits that then move down by two: the mask has two or three zeros
-/// below them, before the first move.
+/// For each mask of four bits, the bits that then move down by two: before the first move the mask
+/// has two or three zeros below them.
 const BY_TWO: [u8; 16] = [0, 0, 0, 0, 4, 0, 0, 0, 4, 8, 8, 0, 12, 0, 0, 0];
 
 /// For each mask of four digits, 2 to the number of its ones.

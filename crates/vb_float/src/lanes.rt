@@ -24,7 +24,7 @@ pub trait FloatLanes: Copy {
         requires { 64 ≤ length values.now }
         ensures { floats result ≡ map float (take 64 values.now) };
 
-    /// Returns a block of 64 times `value`.
+    /// Returns a block of 64 copies of `value`.
     fn splat(value: Self) -> Self::Block
         ensures { floats result ≡ replicate 64 (float value) };
 

@@ -59,8 +59,8 @@ pub trait Take: Sized {
     ///
     /// Returns `TakeOutOfRange` with the first position whose index is not ignored and out of
     /// range, or `OutOfMemory` if memory runs out. Allocates with this buffer's or set's allocator:
-    /// once for the new values before it reads an index, and once for the count of owners after
-    /// that.
+    /// once for the new values, if any, before it reads an index, and once for the count of owners
+    /// after that.
     ///
     /// ```rust
     /// let values = Buffer::copy_from(alloc, &[7u32, 0, 9, 4])?;

@@ -35,7 +35,7 @@ fn made<A: Allocator + Clone>(
     }
 }
 
-/// Bodies that take more bytes than those of two sets, or that copy a validity, fail here.
+/// Bodies that allocate more bytes than those of two sets, or that copy a validity, fail here.
 const ROWS: &[(Call, bool, bool)] = &[
     (Call::And, false, false),
     (Call::And, false, true),

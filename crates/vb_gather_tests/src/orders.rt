@@ -28,7 +28,7 @@ enum Call {
 const INDICES: [u8; 3] = [0, 9, 200];
 
 impl Call {
-    /// The error of the call with nine true bits or items and eight true bits, or at the indices.
+    /// The error of the call on nine true bits or items: with eight true bits, or at the indices.
     fn refusal<A: Allocator + Clone>(
         self,
         bits: &BitBuffer<A>,

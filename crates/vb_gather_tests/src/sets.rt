@@ -47,11 +47,11 @@ type Row = (Call, Bits, Bits, usize);
 const ROWS: &[Row] = &[
     // A body that allocates for all bits, and shrinks that, fails here.
     (Call::Filtered, Bits(100_000, 3), Bits(100_000, 1000), 100),
-    // A body that takes a byte for a bit fails here.
+    // A body that allocates a byte for each bit fails here.
     (Call::Filtered, Bits(100_000, 3), Bits(100_000, 10), 10_000),
     (Call::Filtered, Bits(100_000, 3), Bits(100_000, 1), 100_000),
     (Call::Filtered, Bits(0, 1), Bits(0, 1), 0),
-    // Bodies that take eight times the bytes fail here.
+    // Bodies that allocate eight times the bytes fail here.
     (Call::Deposited, Bits(100, 3), Bits(100_000, 1000), 100_000),
     (Call::Deposited, Bits(8000, 3), Bits(8000, 1), 8000),
     (Call::Deposited, Bits(0, 1), Bits(0, 1), 0),

@@ -1,4 +1,4 @@
-//! An element of 128 KiB, of which 64 are as many bytes as a stack usually has.
+//! An element of 128 KiB. 64 of them fill a usual stack of 8 MiB.
 ghost use Rattle.std.specs.Prelude.{◌≡◌, IsTrue};
 ghost use Rattle.vb_core.specs.Elements.{AreBytes};
 ghost use Rattle.vb_gather_tests.specs.WideLaws.{IsWide, wide_bytes, wide_of, wide_laws, wide_zero};

@@ -167,8 +167,8 @@ fn add_ones<C: BitIndex, V: Copy, A: Addition<V>>(
     good
 }
 
-/// Returns whether both are true. Because of the branch, a loop that updates `good` by this call
-/// leaves `good` alone for each row that has a total.
+/// Returns whether both are true. Because it branches, `good = both(has_total, good)` in a loop
+/// does not write `good` for a row that has a total.
 #[inline(always)]
 fn both(first: bool, second: bool) -> bool
     ensures { result ≡ (first && second) }

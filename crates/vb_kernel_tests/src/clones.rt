@@ -1,5 +1,5 @@
-//! Walks that are cloned after some of their items. By the clauses here, contracts see a clone as
-//! they see the walk itself.
+//! Walks that are cloned after some of their items. The clauses here prove that a clone is equal to
+//! its walk.
 ghost use Rattle.std.specs.Prelude.{◌≡◌, IfOk};
 
 use crate::compared::{equal, gives};

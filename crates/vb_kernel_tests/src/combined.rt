@@ -60,8 +60,9 @@ fn counts_are(rt: &impl Abort, left: &[u8], right: &[u8], (l, r, len): Windows, 
     equal_at(rt, counted, wanted, (l, r, len));
 }
 
-/// The counts of sources that count their looks are those that are wanted, and so are the looks at
-/// each. Windows are disjoint, or one is a subset of the other, as the counts say.
+/// The counts of sources that count their looks are `wanted`, and the looks at each are those of
+/// [`looks_at`]. Windows are disjoint exactly if `and` has no ones, and the left one is a subset of
+/// the right one exactly if `and not` has none.
 pub(crate) fn looks_tell(
     rt: &impl Abort,
     left: &[u8],
@@ -113,7 +114,7 @@ fn counts_of_short_windows_are_plain(rt: HostRuntime) {
     }
 }
 
-/// Lengths around those from which on larger parts are counted: bytes, words and chunks.
+/// Lengths around those of the parts that are counted as a whole: bytes, words and chunks.
 const LENS: [usize; 14] = [0, 1, 8, 9, 63, 64, 73, 200, 511, 512, 513, 519, 767, 1031];
 
 #[test]

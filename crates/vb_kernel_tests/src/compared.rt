@@ -19,7 +19,7 @@ pub(crate) fn equal<T: Copy + PartialEq + Debug>(rt: &impl Abort, given: T, want
     assert_eq!(rt; given, wanted);
 }
 
-/// The two values are equal, in this case of many.
+/// The two values are equal. If they aren't, the failure shows the case too.
 pub(crate) fn equal_at<T, C>(rt: &impl Abort, given: T, wanted: T, case: C)
 where
     T: Copy + PartialEq + Debug,

@@ -50,7 +50,7 @@ fn counts_are_plain(rt: HostRuntime) {
     }
 }
 
-/// From 8 MiB on, four quarters of the chunks are counted in turn.
+/// From 8 MiB on, each turn counts four chunks of each of four quarters.
 #[test]
 fn counts_past_the_caches_are_plain(rt: HostRuntime) {
     let mut bytes = Vec::from_elem(rt.alloc(), 0, 8 * 1024 * 1024 + 700).expect(&rt, "memory");

@@ -36,7 +36,7 @@ fn map_is_plain(rt: &impl Abort, before: &[u8; 32], offset: usize, len: usize) {
     }
 }
 
-/// How a window of other bytes is put into one: by an operation, or copied where there is none.
+/// How a window is combined with one of other bytes: by an operation, or by a copy if it is None.
 pub(crate) type Combined = Option<BitOp>;
 
 /// Copied, and by each operation.

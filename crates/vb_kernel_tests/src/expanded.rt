@@ -16,8 +16,8 @@ const ROOM: usize = 150;
 /// The number of items that calls write to, more than the longest window has.
 const ITEMS: usize = 1030;
 
-/// Byte `k` of bits of some kind: none, all, every second one, few, all but few, words in turn, or
-/// any.
+/// Byte `k` of bits of some kind: none, all, every second one, few, all but few, every second word,
+/// or any.
 fn byte(kind: usize, k: usize) -> u8 {
     match kind {
         0 => 0,

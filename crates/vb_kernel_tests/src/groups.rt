@@ -81,8 +81,8 @@ fn both_calls<C: Summand>(
     found
 }
 
-/// Byte `k` of a mask of some kind: none, all, every second one, few, all but few, words in turn,
-/// or any.
+/// Byte `k` of a mask of some kind: none, all, every second one, few, all but few, every second
+/// word, or any.
 fn byte(kind: usize, k: usize) -> u8 {
     match kind {
         0 => 0,

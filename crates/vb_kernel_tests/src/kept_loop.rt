@@ -72,8 +72,8 @@ fn at_offset<T: Term>(rt: &impl Abort, values: &[T], mask: &[u8], offset: usize)
     assert!(rt; masked_max(values, view) == found.greatest);
 }
 
-/// Byte `k` of a mask of some kind: none, all, every second one, few, all but few, words in turn,
-/// or any.
+/// Byte `k` of a mask of some kind: none, all, every second one, few, all but few, every second
+/// word, or any.
 fn byte(kind: usize, k: usize) -> u8 {
     match kind {
         0 => 0,

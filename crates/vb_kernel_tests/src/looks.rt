@@ -113,9 +113,9 @@ fn looks_at_long_windows_are_exact(rt: HostRuntime) {
     }
 }
 
-/// Where two windows begin, how long they are, and how often each is looked at. In a window without
-/// a chunk the most looks are those of a head, seven words, seven bytes and a tail, and of a byte
-/// before the right one's head.
+/// Where two windows begin, how long they are, and how often each is looked at. A left window
+/// without a chunk gets at most 16 looks: at a head, seven words, seven bytes and a tail. The right
+/// one gets at most one more, at its first byte.
 const LOOKS: [(usize, usize, usize, u64, u64); 10] = [
     (0, 0, 513, 2, 2),
     (0, 3, 513, 2, 2),

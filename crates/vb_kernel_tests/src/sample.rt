@@ -18,8 +18,8 @@ pub(crate) fn mix(bytes: &mut [u8]) {
     }
 }
 
-/// Sets stretches of `len` bytes to 0 and to 0xFF in turn, with as many unchanged bytes between
-/// two. Does nothing if `len` is 0.
+/// Sets stretches of `len` bytes to 0 and to 0xFF in turn. Leaves `len` bytes unchanged after each
+/// stretch. Does nothing if `len` is 0.
 pub(crate) fn stretch(bytes: &mut [u8], len: usize) {
     for (i, byte) in bytes.iter_mut().enumerate() {
         match i.checked_div(len).unwrap_or(1) % 4 {

@@ -218,7 +218,7 @@ fn write_part<T: Merge, F: Merge>(
 
 /// Writes the `n` lowest bits of `word` to the bits from bit `at` on.
 ///
-/// Stores 64 bits that begin at a byte boundary without a load and a mask; these would take a tenth
+/// If these are 64 bits from a byte boundary on, needs no load and no mask, which would be a tenth
 /// of the instructions for 64 truth values.
 #[inline(always)]
 fn write_results(out: &mut [u8], at: usize, n: usize, word: u64)

@@ -30,7 +30,7 @@ struct Searches {
 /// Does [`find_block`](crate::find_block) for eight selects: returns their blocks, and the number
 /// of bits that are `value` before each. Select `k` has its own level, with `sizes[k]` counts, at
 /// least 1 and at most `most`. The counts of a level must depend only on the entries of the source,
-/// and the number of probes must be the same for all levels.
+/// and all levels must report the same number of probes of the source.
 ///
 /// Makes at most eight probes for each binary digit of `most - 1`. The searches go side by side:
 /// each makes one probe before any makes its next. A search with one count left makes none.

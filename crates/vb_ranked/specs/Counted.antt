@@ -7,9 +7,8 @@ use Rattle.vb_directory.specs.Counts.{HeldCounts, AreCounts, numbers_for}
 use Rattle.vb_set.specs.OpenSet.{OpenSet}
 
 -- a call that needs n more bits. If the set has bits and capacity, it succeeds, since the counts
--- then have capacity too. It returns `TooManyBits` if the offset and the number of bits exceed 64
--- bits together; otherwise `OutOfMemory` is its only error. On error the set and its capacity are
--- unchanged
+-- then have capacity too. It returns `TooManyBits` if offset, length and n together are 2^64 or
+-- more; otherwise `OutOfMemory` is its only error. On error the set and its capacity are unchanged
 pub record NeedsCountedBits {T : Type 0} (n : ℕ) (result : Result T BufferError)
     (old new : OpenSet) : Type 0 where
   pub in_room : 0 < length old.bits → length old.bits + n ≤ old.room → IsOk result

@@ -7,7 +7,7 @@ use std::alloc::Allocator;
 use vb_set::{BitBufferMut, BitBufferView, Result};
 
 /// The number of bits that are appended at once: [`append_view`](BitBufferMut::append_view) of at
-/// most this number keeps the capacity.
+/// most this number keeps the capacity if that is large enough.
 const PART_BITS: usize = 512;
 
 /// Does the same as [`append_view`](BitBufferMut::append_view), but reserves the capacity first. If

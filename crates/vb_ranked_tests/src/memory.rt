@@ -146,8 +146,8 @@ fn edits_and_bits_within_the_room_ask_for_nothing(rt: HostRuntime) {
     drop(ranked);
 }
 
-/// A copy requests its bytes, and the counts of as many bits as these bytes hold. To take the set
-/// out is free, and to share it requests a count of its owners.
+/// A copy requests its bytes, and counts for all bits that these bytes hold. To take the set out is
+/// free, and to share it requests a count of its owners.
 #[test]
 fn copies_and_sets_ask_once(rt: HostRuntime) {
     let (bits, counts) = (Refusing::new(rt.alloc(), 0), Refusing::new(rt.alloc(), 0));

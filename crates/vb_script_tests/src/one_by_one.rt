@@ -76,7 +76,7 @@ impl OneByOne {
         self.put(digits.format(n).as_bytes(), output)
     }
 
-    /// Adds indices with commas between two.
+    /// Adds indices separated by commas.
     fn put_places<W: Sink>(&mut self, places: &[usize], output: &mut W) -> Result<(), Fault> {
         let [first, rest @ ..] = places else {
             return self.put(b"-", output);
@@ -89,7 +89,7 @@ impl OneByOne {
         Ok(())
     }
 
-    /// Adds runs with commas between two.
+    /// Adds runs separated by commas.
     fn put_runs<W: Sink>(&mut self, runs: &[(usize, usize)], output: &mut W) -> Result<(), Fault> {
         let [first, rest @ ..] = runs else {
             return self.put(b"-", output);
@@ -124,8 +124,8 @@ impl OneByOne {
         Ok(())
     }
 
-    /// Adds truth values as binary digits, at most as many as the buffer holds. If they don't fit
-    /// behind what waits, writes that first.
+    /// Adds truth values as binary digits, no more than the buffer holds. If they don't fit behind
+    /// what waits, writes that first.
     fn put_block<W: Sink>(&mut self, bits: &[bool], output: &mut W) -> Result<(), Fault>
         requires { length bits.now ≤ 65536 }
     {

@@ -35,7 +35,7 @@ fn whole_lines_before_a_failed_read_are_answered(rt: HostRuntime) {
     }
 }
 
-/// Gives its bytes, and faults once, after so many of them.
+/// Gives its bytes, and faults once, after `until_fault` of them.
 #[derive(Drop)]
 struct Broken<'a> {
     bytes: &'a [u8],
@@ -370,9 +370,9 @@ fn is_cut_between_pieces(rt: &impl Abort, alloc: Global, lines: &str) {
     equal(rt, (lines, ended, widths.0), (lines, Ok(()), widths.1));
 }
 
-/// Each piece of the last answers ends at the end of the buffer for one `room`, and for others at
-/// each distance of up to 21 bytes before it: a number and a byte next to it take at most 21. Each
-/// write has the same width as when the pieces are written one by one.
+/// For one `room` a piece of the last answers ends at the end of the buffer, and for others 1 to 21
+/// bytes before it: a number and a byte next to it have at most 21. Each write has the same width
+/// as when the pieces are written one by one.
 #[test]
 fn writes_are_cut_between_pieces(rt: HostRuntime) {
     for room in 0..160 {
@@ -382,8 +382,8 @@ fn writes_are_cut_between_pieces(rt: HostRuntime) {
     }
 }
 
-/// Lines that list as many bits as the buffer has bytes, and more, before and after other answers;
-/// and lines that list indices, for which the buffer grows step by step.
+/// Lines that list one bit per byte of the buffer, and more, before and after other answers; and
+/// lines that list indices, for which the buffer grows step by step.
 const LONG_LISTS: &[&str] = &[
     "full 0 1 65536\nfreeze 0\nbits 0\nlen 0\n",
     "full 0 1 65537\nbits 0\nlen 0\n",

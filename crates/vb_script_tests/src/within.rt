@@ -104,8 +104,8 @@ fn lines_of_about_32_bytes_are_read_alike(rt: HostRuntime) {
     }
 }
 
-/// Questions with a byte that isn't ASCII: within the first 32 bytes, which are read at once, at
-/// their end, and after them.
+/// Lines with a byte that isn't ASCII: among the first 32 bytes, as the last of them, and after
+/// them. These 32 bytes are read at once.
 const HIGH: &[(&str, u8, &str)] = &[
     ("", 128, "et 0 7"),
     ("get 0 7", 255, ""),

@@ -41,11 +41,11 @@ impl Stretch {
     /// Returns the number of its chunks to count next, if the `n`-th bit is sought.
     ///
     /// `left / 512` chunks have at most `left` bits, so the bit must come after them. If few bits
-    /// are set, this number is small. Then the search tries the number of chunks that it has passed
-    /// or searched before, and halves it until, at the density of the passed chunks, the bit comes
-    /// after that many. Counted chunks that may hold the bit are at most half of the stretch: if
-    /// they hold it, they are looked at again, but at least the same number of chunks after them is
-    /// never looked at.
+    /// are set, this number is small. Then the search tries more chunks: first the number of those
+    /// passed or searched so far, then half of it, and so on, until that many chunks, as dense as
+    /// the passed ones, would end before the bit. Counted chunks that may hold the bit are at most
+    /// half of the stretch: if they hold it, they are looked at again, but at least the same number
+    /// of chunks after them is never looked at.
     fn block(self, n: usize) -> usize
         requires { self.left ≤ n }
         ensures within { result ≤ self.chunks }

@@ -74,8 +74,8 @@ pub record AddsBits (added : List Bool) (old new : OpenSet) : Type 0 where
       ≡ max (length old.bytes) (div_ceil (old.offset + length old.bits + length added) 8)
 
 -- a call that needs n more bits. It succeeds if there is capacity. It returns `TooManyBits` if the
--- offset and the number of bits exceed 64 bits together; otherwise `OutOfMemory` is its only error.
--- On error the set and its capacity are unchanged
+-- end of the bits does not fit in 64 bits; otherwise `OutOfMemory` is its only error. On error the
+-- set and its capacity are unchanged
 pub record NeedsBits {T : Type 0} (n : ℕ) (result : Result T BufferError)
     (old new : OpenSet) : Type 0 where
   pub in_room : length old.bits + n ≤ old.room → IsOk result

@@ -28,7 +28,7 @@ fn append_both<A: Allocator + Clone, B: Allocator>(
     Ok(())
 }
 
-/// Bits are appended, by one appender after the other, to a window of so many bytes that are all
+/// Bits are appended, by one appender after the other, to a window of `bytes` bytes that are all
 /// ones. None of the bits after the window shows, and those before it are unchanged.
 fn is_plain<A: Allocator + Clone + Copy>(
     rt: &impl Abort,

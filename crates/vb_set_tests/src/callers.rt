@@ -68,7 +68,7 @@ pub(crate) fn append_two<A: Allocator + Clone>(
     Ok(())
 }
 
-/// Adds truth values by an appender. On error the set has the first of them.
+/// Adds truth values by an appender. On error the set has those before it.
 pub(crate) fn append_each<A: Allocator + Clone>(
     set: &mut BitBufferMut<A>,
     bools: &[bool],

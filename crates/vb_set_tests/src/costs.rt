@@ -39,14 +39,14 @@ impl Open {
     }
 }
 
-/// The set after `reserve` for as many bits again.
+/// The set after `reserve` for 8,000 more bits.
 fn reserved<A: Allocator + Clone>(made: Result<BitBufferMut<A>>) -> Result<BitBufferMut<A>> {
     let mut set = made?;
     let answer = set.reserve(8000);
     edited(set, answer)
 }
 
-/// The set after `reserve_exact` for half as many bits again.
+/// The set after `reserve_exact` for 4,000 more bits.
 fn reserved_exactly<A: Allocator + Clone>(
     made: Result<BitBufferMut<A>>,
 ) -> Result<BitBufferMut<A>> {

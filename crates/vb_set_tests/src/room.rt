@@ -34,7 +34,7 @@ const CALLS: &[Call] = &[
 ];
 
 impl Call {
-    /// Adds as many bits as `added` has: the bits of `added`, those of the list, or true bits.
+    /// Adds one bit per bit of `added`: the bits of `added`, those of the list, or true bits.
     fn add<A: Allocator + Clone>(
         &self,
         set: &mut BitBufferMut<A>,

@@ -9,8 +9,8 @@ use std::alloc::Allocator;
 /// test.
 const MOST_RUNS: u64 = 1000;
 
-/// The runs of a trial over one allocator. Run `n` refuses request `n`; the last run makes fewer
-/// requests than that, so none is refused.
+/// The runs of a trial over one allocator. Run `n` refuses request `n`, unless it makes fewer
+/// requests.
 ///
 /// `next` begins a run, and returns the number of the request to refuse. The last run is the first
 /// one without a refused request, or the 1000th.

@@ -8,8 +8,8 @@ use Rattle.std.proofs.lemmas.Nat.Gcd.{dvd-zero, dvd_of_mod-eq-zero, mod-eq-zero_
 use Rattle.std.specs.declared.ops.Range.{Range}
 use Rattle.vb_mem.specs.SharedBuffer.{SharedBuffer, ShowsPart}
 
--- a value can skip no bytes, and two consecutive steps are one step: the rest after both is the
--- rest after the sum of their bytes
+-- a value can skip 0 bytes, and two consecutive steps are one step: the rest after both is the rest
+-- after the sum of their bytes
 pub record AreSteps {S : Type 0} (is_step : S → ℕ → Type 0)
     (is_past : S → ℕ → S → Type 0) : Type 0 where
   pub none : (s : S) → is_step s 0

@@ -23,7 +23,7 @@ pub trait AlignedBuf {
     // Whether the second value is the first one after it skipped this number of bytes.
     ghost is_past: { Self → ℕ → Self → Type 0 };
 
-    // A value can skip no bytes, and consecutive steps are one step of their sum.
+    // A value can skip 0 bytes, and consecutive steps are one step of their sum.
     ghost steps: { AreSteps is_step is_past };
 
     /// Returns the number of bytes that are left.

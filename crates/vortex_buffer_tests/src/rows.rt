@@ -29,7 +29,7 @@ fn an_alignment_of_a_type_is_tested(rt: HostRuntime) {
     equal(&rt, none, Some(BufferError::NotPowerOfTwo { value: 0 }));
 }
 
-/// A fixed buffer of these items has as many, and gives them in turn.
+/// A fixed buffer of these items has the same length, and gives them in turn.
 fn gives_items<const N: usize>(rt: &impl Abort, alloc: Global, items: &[u32]) {
     let buffer = Buffer::copy_from(alloc, items).expect(rt, "memory");
     let fixed = ConstBuffer::<u32, N, _>::try_from_buffer(buffer).expect(rt, "its alignment");

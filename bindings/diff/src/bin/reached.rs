@@ -16,8 +16,8 @@ const NEVER: usize = usize::MAX;
 const MOST: usize = 600;
 static BYTES: [u8; 100] = [0xA7; 100];
 
-/// A call's name, the least number of bits, values or indices for which it runs proved code, and
-/// the call of a number of them.
+/// A call's name, the least number of bits, values or indices for which it runs proved code, and a
+/// function that makes the call with a given number of them.
 type Row = (&'static str, usize, fn(usize));
 
 const ROWS: &[Row] = &[

@@ -213,8 +213,8 @@ fn different(number: usize) -> Vec<Vec<u8>> {
     (0..number).map(|it| text(it).into_bytes()).collect()
 }
 
-/// The high part of a key belongs to no text of a set, to one or to several; the indices of texts
-/// fit in a byte or not.
+/// No text, one text or several texts of a set have the high end of a row's key. Some sets have
+/// more texts than a byte can index.
 #[test]
 fn rows_in_sets_of_any_size_are_those_of_a_loop() {
     let (mut maker, mut passed) = (Maker::new(26, false), 0);

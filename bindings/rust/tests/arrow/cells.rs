@@ -27,7 +27,7 @@ struct Of<'a> {
 pub unsafe fn cells(array: &Array, schema: &Schema) -> Vec<Cell> {
     let of = Of { array, schema };
     (0..count(array.length))
-        // SAFETY: as of this function.
+        // SAFETY: as for this function.
         .map(|row| unsafe { of.cell(row) })
         .collect()
 }
@@ -67,7 +67,7 @@ impl<'a> Of<'a> {
 
     /// A signed number of a buffer.
     unsafe fn number(self, buffer: usize, place: usize, width: usize) -> i64 {
-        // SAFETY: as of the caller.
+        // SAFETY: as for the caller.
         let bytes = unsafe { self.bytes(buffer, place * width, width) };
         match width {
             1 => i8::from_ne_bytes(bytes.try_into().unwrap()).into(),
@@ -91,7 +91,7 @@ impl<'a> Of<'a> {
     }
 
     unsafe fn many(self, child: usize, start: usize, len: usize) -> Cell {
-        // SAFETY: as of the caller.
+        // SAFETY: as for the caller.
         let cells = (start..start + len).map(|row| unsafe { self.child(child).cell(row) });
         Cell::Many(cells.collect())
     }
@@ -99,7 +99,7 @@ impl<'a> Of<'a> {
     /// A row.
     unsafe fn cell(self, row: usize) -> Cell {
         let (of, place) = (self.format(), count(self.array.offset) + row);
-        // SAFETY: as of the caller.
+        // SAFETY: as for the caller.
         unsafe {
             if self.is_null(&of, place) {
                 return Cell::Null;
@@ -156,7 +156,7 @@ impl<'a> Of<'a> {
 
     /// Returns the type id of a row, and the item of its child; null if the item is null.
     unsafe fn of_union(self, ids: &[i8], place: usize, item: usize) -> Cell {
-        // SAFETY: as of the caller.
+        // SAFETY: as for the caller.
         let (id, cell) = unsafe {
             let id = self.number(0, place, 1);
             let child = ids.iter().position(|it| i64::from(*it) == id).unwrap();
@@ -169,7 +169,7 @@ impl<'a> Of<'a> {
     }
 
     unsafe fn viewed(self, place: usize) -> Cell {
-        // SAFETY: as of the caller.
+        // SAFETY: as for the caller.
         unsafe {
             let view = self.bytes(1, 16 * place, 16);
             let at =
@@ -183,7 +183,7 @@ impl<'a> Of<'a> {
     }
 
     unsafe fn of_run(self, place: usize) -> Cell {
-        // SAFETY: as of the caller.
+        // SAFETY: as for the caller.
         unsafe {
             let ends = self.child(0);
             let Type::Fixed(width, _) = ends.format() else {

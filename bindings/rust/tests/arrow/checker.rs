@@ -13,7 +13,7 @@ use crate::strict::{Look, looked_at, parse};
 fn said((mut array, mut schema): Tree, look: Look) -> String {
     // SAFETY: it is as the interface asks for, except for what is wrong.
     let answer = unsafe { looked_at(&array, &schema, look) };
-    // SAFETY: they aren't released, or are so by the test.
+    // SAFETY: a struct that the test released has no `release`.
     unsafe {
         array.release.inspect(|release| release(&raw mut array));
         schema.release.inspect(|release| release(&raw mut schema));
@@ -226,7 +226,7 @@ fn numbers_that_lie_are_seen() {
     }
 }
 
-/// The checker refuses a randomly spoiled tree exactly if the crate does.
+/// The checker finds an error in a randomly spoiled tree exactly if the crate returns one.
 #[test]
 fn what_the_crate_refuses_is_wrong() {
     let mut maker = Maker::new(6, false);

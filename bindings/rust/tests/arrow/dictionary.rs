@@ -18,7 +18,7 @@ fn exported(items: &[Option<i64>]) -> Export {
     Export::values(values, Some(valid)).named("items")
 }
 
-/// Rows of which every third one is null, whose index is `lost`.
+/// Tests rows with an index of type `I`. Every third row is null, and its index is `lost`.
 fn of_each_index<I>(lost: I, of: impl Fn(u8) -> I)
 where
     I: Primitive + BitIndex,

@@ -1,5 +1,5 @@
-//! As which formats values can be exported, and which indices with which dictionary. What the crate
-//! can't verify is an error, since a consumer would read memory by it.
+//! The formats that exported values can have, and the dictionaries that indices can have. The crate
+//! returns an error for what it can't verify, since a consumer would read memory by it.
 use vortex_bits::arrow::{Array, Export, Primitive};
 use vortex_bits::{BitIndex, Bitmap};
 
@@ -164,7 +164,7 @@ fn binary_values_are_texts_where_each_valid_row_is_utf_8() {
 fn binary_values_keep_their_offsets_and_texts_are_such() {
     for (format, text) in [("z", "u"), ("Z", "U"), ("vz", "vu")] {
         let fine = [Some(&b"a"[..]), None, Some(b"a text of eighteen")];
-        // Two rows that are UTF-8 together aren't so each.
+        // The bytes of both rows together are UTF-8, but those of each row aren't.
         let halves = [Some(&b"\xC3"[..]), Some(b"\xA9")];
         assert!(said(binary(&halves, format), text).ends_with("row 0 isn't"));
         // Texts are bytes.

@@ -59,7 +59,7 @@ const FORMATS: [&str; 48] = [
     "+ud:127,5,0",
 ];
 
-/// Formats of which a consumer reads the same bytes in other ways.
+/// Groups of formats with the same layout, whose bytes a consumer reads in different ways.
 const ALIKE: [&[&str]; 10] = [
     &["c", "C", "w:1"],
     &["s", "S", "e", "w:2"],

@@ -207,8 +207,8 @@ impl Reader {
     }
 }
 
-/// Joins a part of the rows to the rows, and to the rows imported again, which share nothing with
-/// it.
+/// Joins a part of the rows to the rows, and to the rows imported again, which the crate takes for
+/// those of another array.
 fn joined(array: &Array) -> [Result<Export, ArrowError>; 2] {
     let part = array.slice(array.len() / 2..);
     let again = array.clone().try_into_export();

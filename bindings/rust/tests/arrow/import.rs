@@ -297,7 +297,7 @@ fn indices_and_their_dictionary_are_reached() {
     let (indices, items) = (rows.values::<i8>().unwrap(), rows.dictionary().unwrap());
     assert_eq!(indices, [2, -1, 0, 1, 2]);
     assert_eq!(items.values::<u8>(), Ok(&[10, 20, 30][..]));
-    // A row is valid where its index is, and the item that it names.
+    // A row is valid if both its index and the item that it names are valid.
     let valid = items.validity().unwrap();
     assert_eq!(valid.get(1), Some(false));
     let error = valid.try_take(indices).unwrap_err();
@@ -388,7 +388,7 @@ fn ranges_and_names_that_are_not_there_are_refused() {
     assert_eq!(rows.column("a").unwrap_err().to_string(), "no column \"a\"");
     assert!(format!("{rows:?}").contains("len: 4"));
     let released = ArrowError::from(Fault::Released("ArrowArray"));
-    // SAFETY: both are released.
+    // SAFETY: the array is null, and the schema is as the interface requires.
     let again = unsafe {
         let mut schema = Schema::new("", "C", &Count::default());
         Array::from_raw(std::ptr::null_mut(), (&raw mut schema).cast())

@@ -53,7 +53,7 @@ unsafe impl GlobalAlloc for Refusing {
 static ALLOCATOR: Refusing = Refusing;
 
 /// Runs `call` with each large request refused in turn, until none is. Returns the number of
-/// refusals. If a refused request has no error to return, the process ends.
+/// refusals. If the crate can't return an error for one, the process ends.
 fn refused(call: impl Fn() -> Result<Export, ArrowError>) -> usize {
     if call().is_err() {
         return 0;
@@ -124,7 +124,7 @@ fn selections_return_an_error_if_memory_runs_out() {
     for kind in 0..KINDS {
         let some: [Array; 3] = [(); 3].map(|()| array(kind));
         for one in &some {
-            // The same rows, which came once more: the two share nothing.
+            // The same rows imported again: the crate takes the two for different arrays.
             let both = [one.clone(), Export::from(one.clone()).into_array()];
             let filters = refused(|| one.filter(&mask));
             let takes = refused(|| one.take(&indices));

@@ -90,7 +90,7 @@ fn parts_are_read_up_to_the_last_offset_of_all() {
                 let all: Vec<usize> = (0..column.len()).collect();
                 assert_eq!(taken(&all).is_ok(), wanted.is_empty());
                 assert_eq!(taken(&[]), Ok(0));
-                // Slices of the column give the same.
+                // A slice of the column has the error of its own rows.
                 let wanted = fault(&part[..2], numbers[6]);
                 assert!(answers(&column.slice(..1)).iter().all(|it| *it == wanted));
                 let none = column.slice(1..1);

@@ -59,7 +59,7 @@ fn texts_lie_between_their_offsets() {
     );
 }
 
-/// Lists of five bytes from the second one on.
+/// Lists of five bytes, at offset 1.
 fn lists(numbers: &[i64], format: &str) -> Array {
     let none = Count::default();
     let buffers = vec![None, Some(offsets(numbers, format == "+L", 0))];

@@ -153,7 +153,7 @@ fn rows_of_several_arrays_are_those_of_a_plain_reader() {
     for _ in 0..rounds(1000) {
         maker.count = Count::default();
         let (array, _) = some(&mut maker, 2);
-        // Parts of one array, or of two that share nothing.
+        // Parts of one array, or also of the same array imported again, as if it were another one.
         let again = Export::from(array.clone()).into_array();
         let both = [&array, maker.one_of(&[&array, &again])];
         let arrays: Vec<Array> = (0..maker.below(5))

@@ -168,7 +168,7 @@ fn texts_that_no_memory_holds_are_refused() {
     );
 }
 
-/// A vector of values without a byte may have more of them than the interface can say.
+/// A vector of zero-sized values may have more values than the interface can count.
 #[test]
 #[should_panic(expected = "18446744073709551615 values")]
 #[cfg(target_pointer_width = "64")]

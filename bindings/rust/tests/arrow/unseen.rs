@@ -60,7 +60,7 @@ fn each_type(last: i8, items: i64) -> Vec<Array> {
 
 #[test]
 fn items_outside_of_the_slices_do_not_count() {
-    // Index 127 would pass 127 after the items of the others, and -1 is the index of no item.
+    // Joined, index 127 would become too large for 8 bits, and -1 is the index of no item.
     for last in [127, -1] {
         for (one, other) in each_type(0, 127).into_iter().zip(each_type(last, 128)) {
             let joined = Export::concat(one.field(), &[one.slice(..1), other.slice(..1)]);

@@ -7,7 +7,7 @@ use vortex_bits::arrow::{Field, Stream};
 use crate::library::Gdal;
 use crate::{Case, Missing};
 
-/// What is made of the stream of a CSV file, with batches of at most so many rows.
+/// Returns what `read` makes of the stream of a CSV file, with batches of at most `each` rows.
 fn read<T>(gdal: &Gdal, file: &Path, each: usize, read: impl FnOnce(Stream) -> T) -> T {
     let most = format!("MAX_FEATURES_IN_BATCH={each}");
     let layer = file.file_stem().unwrap().to_str().unwrap();

@@ -14,8 +14,8 @@ const AGES: &[u32] = &[31, 17, 0, 54, 18];
 /// Which of the ages aren't null.
 const VALID: &[bool] = &[true, true, false, true, true];
 
-/// A condition, the valid ages that meet it, for each age that meets it, valid or not, whether it
-/// is a member's, and the number of allocations.
+/// A condition; the valid ages that meet it; whether each age that meets it, null or not, is a
+/// member's; and the number of allocations.
 type Row = (Condition, &'static [u32], &'static [bool], u64);
 
 const ROWS: &[Row] = &[

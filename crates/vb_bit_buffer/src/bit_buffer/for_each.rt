@@ -68,7 +68,7 @@ impl<A: Allocator + Clone> BitBuffer<A> {
     }
 }
 
-/// Calls `f` with each index of the window of `len` bits from bit `offset` on whose bit is `value`.
+/// Calls `f` with each index whose bit is `value`, in the window of `len` bits from `offset` on.
 ///
 /// The first part ends at a byte boundary, so that the words begin with whole bytes.
 #[inline(always)]
@@ -92,8 +92,9 @@ fn for_each_place<F: FnMut(usize)>(bytes: &[u8], offset: usize, len: usize, valu
     );
 }
 
-/// Calls `f` with each index of `words` words from index `base` on whose bit is `value`. Index 0 is
-/// bit `offset`. The words begin at a byte boundary, and the loop skips words without such a bit.
+/// Calls `f` with each index whose bit is `value`, in the `words` words from index `base` on. Index
+/// 0 is bit `offset`. The words begin at a byte boundary, and the loop skips words without such a
+/// bit.
 #[inline(always)]
 fn places_in_words<F: FnMut(usize)>(
     bytes: &[u8],
@@ -118,8 +119,8 @@ fn places_in_words<F: FnMut(usize)>(
     }
 }
 
-/// Calls `f` with each of the `len` indices from `base` on whose bit is `value`. Index 0 is bit
-/// `offset`, and there are at most 64 indices.
+/// Calls `f` with each index whose bit is `value`, among the `len` indices from `base` on. Index 0
+/// is bit `offset`, and there are at most 64 indices.
 #[inline(always)]
 fn places_in_part<F: FnMut(usize)>(
     bytes: &[u8],
@@ -167,7 +168,7 @@ fn all<F: FnMut(usize)>(base: usize, f: &mut F)
     }
 }
 
-/// Calls `f` with the index of each one of a word. The lowest digit has index `base`.
+/// Calls `f` with the index of each set bit of a word. The lowest digit has index `base`.
 ///
 /// The loop counts down the number of ones, which is known before the first call. If many bits are
 /// set, this is faster than a test after each call whether one is left.

@@ -1,8 +1,8 @@
 // Written in part by tools/write-lists from tools/families/lanes.txt.
 //! The signed whole numbers, compared by vectors.
 //!
-//! `load` builds a vector from an array, value by value: contracts show that a value is in its type
-//! only if it was read alone. The compiler turns the reads into one load.
+//! `load` builds a vector from an array, value by value: only for the read of a single value
+//! do contracts show that it is in its type. The compiler turns the reads into one load.
 ghost use Rattle.std.specs.Prelude.{◌≡◌, All, length, FitsSigned};
 ghost use Rattle.std.specs.Int.{w8, w16, w32, w64};
 

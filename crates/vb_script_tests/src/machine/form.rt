@@ -21,9 +21,9 @@ pub enum Kind {
     Mode,
     /// Bytes in pairs of digits, or `-`.
     Hex,
-    /// Numbers with commas between two, or `-`.
+    /// Numbers separated by commas, or `-`.
     Numbers,
-    /// Numbers that may have a `-` before them, with commas between two, or `-`.
+    /// Numbers separated by commas, each with or without a `-` before it, or `-`.
     Indexes,
 }
 

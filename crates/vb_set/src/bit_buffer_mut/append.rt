@@ -121,8 +121,8 @@ impl<A: Allocator + Clone> BitBufferMut<A> {
     /// none has space for the bit.
     ///
     /// The call does not test the capacity at run time, since each caller has proved it. A caller
-    /// that needs more work than [`append`](Self::append) when the set is full can do it in a
-    /// separate function, and then append the bit here in both cases.
+    /// that has more to do than [`append`](Self::append) when the set is full can do that in a
+    /// separate function, and then append the bit here, whether the set was full or not.
     pub fn append_unchecked(&mut self, v: bool)
         requires { length self.old.bits + 1 ≤ self.old.room }
         ensures adds { AddsBits (v ∷ []) self.old self.new }

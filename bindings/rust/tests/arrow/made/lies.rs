@@ -63,7 +63,7 @@ pub fn spoil(maker: &mut Maker, (array, schema): &mut Tree) {
         6 => array.children = ptr::null_mut(),
         7 if array.n_buffers > 0 => {
             let place = maker.below(usize::try_from(array.n_buffers).unwrap());
-            // SAFETY: there are as many buffers.
+            // SAFETY: there are more than `place` buffers.
             unsafe { *array.buffers.add(place) = ptr::null() };
         }
         _ => schema.format = maker.one_of(&FORMATS).as_ptr(),

@@ -18,7 +18,7 @@ struct Node<'a> {
 ///
 /// # Safety
 ///
-/// The pointers are null or to what the structs say.
+/// The pointers are null or point to what the structs say.
 pub unsafe fn check(array: &raw::Array, tree: &Tree, look: Look) -> Checked<usize> {
     holds(array.release.is_some(), || "it is released".into())?;
     let [start, len] = [("offset", array.offset), ("length", array.length)]
@@ -32,7 +32,7 @@ pub unsafe fn check(array: &raw::Array, tree: &Tree, look: Look) -> Checked<usiz
         format!("null_count is {nulls} of {most}")
     })?;
     buffers_are_there(array, &tree.of, len)?;
-    // SAFETY: as of this function.
+    // SAFETY: as for this function.
     let children = unsafe { children(array, tree)? };
     let node = Node {
         tree,
@@ -44,10 +44,10 @@ pub unsafe fn check(array: &raw::Array, tree: &Tree, look: Look) -> Checked<usiz
     node.has_its_items()?;
     if look == Look::Items {
         node.has_its_nulls(array)?;
-        // SAFETY: as of this function.
+        // SAFETY: as for this function.
         unsafe { node.items(array)? };
     }
-    // SAFETY: as of this function.
+    // SAFETY: as for this function.
     unsafe { node.below(array, look) }.map(|below| 1 + below)
 }
 
@@ -99,7 +99,7 @@ unsafe fn children<'a>(array: &'a raw::Array, tree: &Tree) -> Checked<Vec<&'a ra
         // SAFETY: there is a pointer for each child.
         let child = unsafe { *array.children.add(place) };
         holds(!child.is_null(), || "a child is null".into())?;
-        // SAFETY: as of `check`.
+        // SAFETY: as for `check`.
         Ok(unsafe { &*child })
     };
     (0..wanted).map(child).collect()
@@ -110,7 +110,7 @@ impl Node<'_> {
     unsafe fn below(&self, array: &raw::Array, look: Look) -> Checked<usize> {
         let mut looked = 0;
         for (place, (child, tree)) in self.children.iter().zip(&self.tree.children).enumerate() {
-            // SAFETY: as of `check`.
+            // SAFETY: as for `check`.
             looked += under(unsafe { check(child, tree, look) }, place)?;
         }
         if let Some(tree) = &self.tree.dictionary {
@@ -125,7 +125,7 @@ impl Node<'_> {
         usize::try_from(self.children[child].length).unwrap_or(0)
     }
 
-    /// Tests the lengths of children that depend only on the type.
+    /// Tests the lengths of the children, as far as they don't depend on the items.
     fn has_its_items(&self) -> Checked<()> {
         let (end, has_rows) = (self.end, self.end > self.start);
         let wanted = match &self.tree.of {

@@ -42,8 +42,8 @@ pub fn holds(is_so: bool, what: impl FnOnce() -> String) -> Checked<()> {
 ///
 /// # Safety
 ///
-/// The pointers are null or to what the structs say.
+/// The pointers are null or point to what the structs say.
 pub unsafe fn looked_at(array: &raw::Array, schema: &raw::Schema, look: Look) -> Checked<usize> {
-    // SAFETY: as of this function.
+    // SAFETY: as for this function.
     unsafe { check(array, &Tree::read(schema, look)?, look) }
 }

@@ -27,14 +27,14 @@ impl Tree {
     /// The pointers are null or point to what the interface says.
     pub unsafe fn read(schema: &raw::Schema, look: Look) -> Checked<Tree> {
         holds(schema.release.is_some(), || "it is released".into())?;
-        // SAFETY: as of this function.
+        // SAFETY: as for this function.
         let (format, ()) = unsafe { (text(schema.format, "format")?, metadata(schema.metadata)?) };
         if !schema.name.is_null() {
-            // SAFETY: as of this function.
+            // SAFETY: as for this function.
             unsafe { text(schema.name, "name")? };
         }
         let of = parse(&format)?;
-        // SAFETY: as of this function.
+        // SAFETY: as for this function.
         let (children, dictionary) =
             unsafe { (children(schema, look)?, dictionary(schema, look)?) };
         let wanted = of.children().unwrap_or(children.len());
@@ -103,7 +103,7 @@ unsafe fn metadata(pointer: *const c_char) -> Checked<()> {
     let mut at = 4;
     for _ in 0..2 * number(0)? {
         let size = number(at)?;
-        // SAFETY: there are as many bytes.
+        // SAFETY: a text of `size` bytes follows its size.
         let text = unsafe { slice::from_raw_parts(pointer.add(at + 4).cast::<u8>(), size) };
         black_box(text.iter().fold(0u8, |all, byte| all ^ byte));
         at += 4 + size;
@@ -117,10 +117,10 @@ unsafe fn children(schema: &raw::Schema, look: Look) -> Checked<Vec<Tree>> {
         "children is null".into()
     })?;
     let child = |place| {
-        // SAFETY: there are as many pointers.
+        // SAFETY: there are `number` pointers.
         let child = unsafe { *schema.children.add(place) };
         holds(!child.is_null(), || "a child is null".into())?;
-        // SAFETY: as of `Tree::read`.
+        // SAFETY: as for `Tree::read`.
         under(unsafe { Tree::read(&*child, look) }, place)
     };
     (0..number).map(child).collect()
@@ -130,7 +130,7 @@ unsafe fn dictionary(schema: &raw::Schema, look: Look) -> Checked<Option<Tree>> 
     if schema.dictionary.is_null() {
         return Ok(None);
     }
-    // SAFETY: as of `Tree::read`.
+    // SAFETY: as for `Tree::read`.
     under(
         unsafe { Tree::read(&*schema.dictionary, look) },
         "dictionary",

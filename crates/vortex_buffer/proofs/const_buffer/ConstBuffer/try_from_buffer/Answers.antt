@@ -1,4 +1,4 @@
--- `N` bytes have one exponent, and it was compared.
+-- `N` bytes have one exponent, and it was compared with that of the buffer's alignment.
 use Rattle.std.proofs.Common.{ℕ, ◌≤◌, rules}
 use Rattle.vortex_buffer.proofs.Exponents.{of_bytes}
 use Rattle.vortex_buffer.proofs.const_buffer.ConstBuffer.try_from_buffer.Goals as goal
