@@ -219,7 +219,10 @@ template <class Offset> static void round()
             : std::string(all[below(all.size())]).substr(0, below(2) == 0 ? 3 : 100);
         compares(all, other);
         searches(all, other);
-        is_in(all, {other, text(), text()});
+        std::vector<std::string> wanted_texts = {other};
+        wanted_texts.resize(below(2) == 0 ? 3 : 40);
+        std::generate(wanted_texts.begin() + 1, wanted_texts.end(), text);
+        is_in(all, wanted_texts);
         appends(kept, wanted, all);
     }
 }
@@ -264,11 +267,11 @@ template <class Offset> static void nothing()
     const texts<Offset> all(nulls, view<const std::uint8_t>());
     check(none.empty() && empty.empty() && texts(one, std::string_view()).empty(), "no texts");
     check(none.slice(0, 0).empty() && texts_mut<Offset>().empty(), "no texts");
-    const bits_mut out(static_cast<std::uint8_t *>(nullptr), 0, 0, 0);
+    const bits_mut empty_mask(static_cast<std::uint8_t *>(nullptr), 0, 0, 0);
     for (const texts<Offset> &it : {none, empty}) {
-        it.compare(VB_EQUAL, "", out);
-        it.contains("a", out);
-        it.is_in(std::vector<std::string_view>(), out);
+        it.compare(VB_EQUAL, "", empty_mask);
+        it.contains("a", empty_mask);
+        it.is_in(std::vector<std::string_view>(), empty_mask);
     }
     writes(all, [&](bits_mut out) { all.compare(VB_EQUAL, {}, out); },
         [](auto row) { return row.empty(); }, "texts without bytes");
@@ -277,6 +280,11 @@ template <class Offset> static void nothing()
     texts_mut<Offset> kept;
     check(kept.append_kept(none, bits()) == 0 && !kept.append_taken(all, nulls), "empty texts");
     has(kept, {"", "", ""});
+    const texts_mut<Offset> moved = std::move(kept);
+    has(moved, {"", "", ""});
+    check(kept.empty() && kept.all().empty(), "texts that were moved from");
+    kept.append("a");
+    has(kept, {"a"});
 }
 
 /* The bytes of texts with offsets of 32 bits are at most the largest of these. */

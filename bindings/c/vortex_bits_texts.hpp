@@ -42,24 +42,12 @@ inline std::uint64_t low_bytes(std::size_t size)
     return size < 8 ? (std::uint64_t(1) << 8 * size) - 1 : UINT64_MAX;
 }
 
-/* A text to look for, and its first eight bytes: most rows differ from it in them. */
+/* A text to look for, with its first eight bytes. */
 struct wanted_text {
-    explicit wanted_text(std::string_view of)
-        : text(of), first(eight(of.data(), of.size())), mask(low_bytes(of.size()))
-    {
-    }
-
-    /* Returns whether eight bytes begin as the text does. */
-    bool begins(std::uint64_t word) const { return ((word ^ first) & mask) == 0; }
-
-    /* Returns whether these bytes, as many as the text has, are equal from the ninth one on. */
-    bool goes_on(const char *bytes) const
-    {
-        return text.size() <= 8 || std::memcmp(bytes + 8, text.data() + 8, text.size() - 8) == 0;
-    }
+    explicit wanted_text(std::string_view of) : text(of), first(eight(of.data(), of.size())) {}
 
     std::string_view text;
-    std::uint64_t first, mask;
+    std::uint64_t first;
 };
 
 /* The texts of is_in, in the order of their first eight bytes as a number, then of all bytes. */
@@ -83,12 +71,18 @@ public:
         return (lengths_ & bit_of_length(size) & -(hashes_ >> hash(first) & 1)) != 0;
     }
 
-    bool has(std::string_view text) const
+    bool has(std::string_view text, std::uint64_t first) const
     {
-        return std::binary_search(all_.begin(), all_.end(), wanted_text(text), is_before);
+        const auto is = [&](const wanted_text &it) { return it.first == first && it.text == text; };
+        return all_.size() <= FEW
+            ? std::any_of(all_.begin(), all_.end(), is)
+            : std::binary_search(all_.begin(), all_.end(), wanted_text(text), is_before);
     }
 
 private:
+    /* A loop over up to this number of texts is faster than a binary search. */
+    static constexpr std::size_t FEW = 16;
+
     static bool is_before(const wanted_text &one, const wanted_text &other)
     {
         return one.first != other.first ? one.first < other.first : one.text < other.text;
@@ -106,13 +100,26 @@ private:
 };
 
 /* Returns the bits of what `passes` returns for up to 64 rows from `row` on. */
-template <class Passes> std::uint64_t word_of(std::size_t row, std::size_t count, Passes &passes)
+template <class Passes>
+std::uint64_t word_of(std::size_t row, std::size_t count, const Passes &passes)
 {
     std::uint64_t word = 0;
-    for (std::size_t k = 0; k < count; k++) {
-        word |= std::uint64_t(passes(row + k)) << k;
+    for (std::size_t k = count; k > 0; k--) {
+        word = 2 * word + passes(row + k - 1);
     }
     return word;
+}
+
+/* Returns the bits of those rows for which `passes` returns true. Bit 0 is that of `row`. */
+template <class Passes>
+std::uint64_t those_that(std::uint64_t rows, std::size_t row, const Passes &passes)
+{
+    std::uint64_t passed = 0;
+    for (; rows != 0; rows &= rows - 1) {
+        const int k = __builtin_ctzll(rows);
+        passed |= std::uint64_t(passes(row + static_cast<std::size_t>(k))) << k;
+    }
+    return passed;
 }
 
 template <class Item> constexpr bool is_byte()
@@ -215,15 +222,26 @@ private:
     bool are_offsets() const
     {
         bool is_wrong = offsets_[0] < 0;
-        for (std::size_t row = 0; row < len_; row++) {
-            is_wrong |= offsets_[row + 1] < offsets_[row];
+        for (std::size_t row = 0; row < len_; row += BLOCK) {
+            const std::size_t count = std::min(BLOCK, len_ - row);
+            const view starts(offsets_ + row, count), ends(offsets_ + row + 1, count);
+            block words = {};
+            bits_mut falls(words, 0, count);
+            compare_with(ends, VB_LESS, starts, falls);
+            is_wrong |= falls.any();
         }
         return !is_wrong && from(len_) <= size_;
     }
 
     std::size_t from(std::size_t row) const { return static_cast<std::size_t>(offsets_[row]); }
     std::size_t length(std::size_t row) const { return from(row + 1) - from(row); }
-    std::string_view text(std::size_t row) const { return {bytes_ + from(row), length(row)}; }
+    std::string_view text(std::size_t row) const { return text(row, row + 1); }
+
+    /* Returns the bytes of the texts from row `start` to row `end`. */
+    std::string_view text(std::size_t start, std::size_t end) const
+    {
+        return {bytes_ + from(start), from(end) - from(start)};
+    }
 
     /* Returns eight bytes from an index on, also those after the end of a text. */
     std::uint64_t eight(std::size_t at) const { return detail::eight(bytes_ + at, size_ - at); }
@@ -240,14 +258,46 @@ private:
         }
     }
 
-    /* Writes what `passes` returns for each row. */
-    template <class Passes> void write(bits_mut out, Passes passes) const
+    /* Writes words. `word` gets the first row and the number of rows of each. */
+    template <class Word> void write_words(bits_mut out, Word word) const
     {
         write_blocks(out, [&](std::size_t row, std::size_t count, block &words) {
             for (std::size_t k = 0; k < count; k += 64) {
-                const std::size_t rows = std::min<std::size_t>(64, count - k);
-                words[k / 64] = detail::word_of(row + k, rows, passes);
+                words[k / 64] = word(row + k, std::min<std::size_t>(64, count - k));
             }
+        });
+    }
+
+    /* Writes what `passes` returns for each row. */
+    template <class Passes> void write(bits_mut out, Passes passes) const
+    {
+        write_words(out, [&](std::size_t row, std::size_t count) {
+            return detail::word_of(row, count, passes);
+        });
+    }
+
+    /*
+     * Writes what `passes` returns for each row, which is false unless the bytes from an index on
+     * begin as those of `wanted` do. `at` returns the index. Most rows fail this test of up to
+     * eight bytes, also of those after their end.
+     */
+    template <class At, class Passes>
+    void write_beginning(bits_mut out, std::string_view wanted, At at, Passes passes) const
+    {
+        const std::uint64_t first = detail::eight(wanted.data(), wanted.size());
+        const std::uint64_t mask = detail::low_bytes(wanted.size());
+        const auto begins = [&](std::size_t row) {
+            std::uint64_t word;
+            std::memcpy(&word, bytes_ + at(row), sizeof word);
+            return ((word ^ first) & mask) == 0;
+        };
+        write_words(out, [&](std::size_t row, std::size_t count) {
+            // Whether the indices of all these rows have eight bytes: they are between these two.
+            const std::size_t last = from(row + count);
+            const bool are_eight = from(row) >= wanted.size() && last + 8 <= size_;
+            const std::uint64_t all = UINT64_MAX >> (64 - count);
+            const std::uint64_t rows = are_eight ? detail::word_of(row, count, begins) : all;
+            return detail::those_that(rows, row, passes);
         });
     }
 
@@ -289,11 +339,8 @@ void texts<Offset>::compare(vb_comparison op, std::string_view other, bits_mut o
 
 template <class Offset> void texts<Offset>::equals(std::string_view other, bits_mut out) const
 {
-    const detail::wanted_text wanted(other);
-    write(out, [&](std::size_t row) {
-        const bool begins = (length(row) == other.size()) & wanted.begins(eight(from(row)));
-        return begins && wanted.goes_on(bytes_ + from(row));
-    });
+    write_beginning(out, other, [&](std::size_t row) { return from(row); },
+        [&](std::size_t row) { return text(row) == other; });
 }
 
 template <class Offset>
@@ -310,21 +357,17 @@ void texts<Offset>::is_less(std::string_view other, bool or_equal, bits_mut out)
 template <class Offset>
 void texts<Offset>::starts_with(std::string_view start, bits_mut out) const
 {
-    const detail::wanted_text wanted(start);
-    write(out, [&](std::size_t row) {
-        const bool begins = (length(row) >= start.size()) & wanted.begins(eight(from(row)));
-        return begins && wanted.goes_on(bytes_ + from(row));
-    });
+    write_beginning(out, start, [&](std::size_t row) { return from(row); },
+        [&](std::size_t row) { return text(row).substr(0, start.size()) == start; });
 }
 
 template <class Offset> void texts<Offset>::ends_with(std::string_view end, bits_mut out) const
 {
-    const detail::wanted_text wanted(end);
-    write(out, [&](std::size_t row) {
-        const bool is_long = length(row) >= end.size();
-        const std::size_t at = from(row + 1) - (is_long ? end.size() : 0);
-        return (is_long & wanted.begins(eight(at))) && wanted.goes_on(bytes_ + at);
-    });
+    write_beginning(out, end, [&](std::size_t row) { return from(row + 1) - end.size(); },
+        [&](std::size_t row) {
+            const bool is_long = length(row) >= end.size();
+            return is_long && text(row).substr(length(row) - end.size()) == end;
+        });
 }
 
 template <class Offset> void texts<Offset>::contains(std::string_view part, bits_mut out) const
@@ -360,7 +403,7 @@ void texts<Offset>::is_in(const Texts &wanted, bits_mut out) const
     const detail::wanted_texts all(wanted);
     write(out, [&](std::size_t row) {
         const std::uint64_t first = eight(from(row)) & detail::low_bytes(length(row));
-        return all.may_have(length(row), first) && all.has(text(row));
+        return all.may_have(length(row), first) && all.has(text(row), first);
     });
 }
 

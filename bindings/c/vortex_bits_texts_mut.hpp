@@ -13,6 +13,9 @@
 
 #if __cplusplus >= 201703L
 
+#include <cstring>
+#include <string>
+
 namespace vortex_bits {
 
 template <class Offset> class texts;
@@ -28,6 +31,24 @@ template <class Test> std::optional<std::size_t> first_that(std::size_t count, T
         }
     }
     return std::nullopt;
+}
+
+/*
+ * Copies a text, and returns the end of the copy. If both have 16 bytes up to their ends, it copies
+ * as many for a shorter text: a copy of a known size takes two instructions.
+ */
+inline char *copy_text(char *to, const char *to_end, std::string_view text, const char *from_end)
+{
+    constexpr std::ptrdiff_t SHORT = 16;
+    if (text.empty()) {
+        return to;
+    }
+    if (text.size() <= SHORT && to_end - to >= SHORT && from_end - text.data() >= SHORT) {
+        std::memcpy(to, text.data(), SHORT);
+    } else {
+        std::memcpy(to, text.data(), text.size());
+    }
+    return to + text.size();
 }
 
 /* Makes the capacity of a container suffice for more items. It at least doubles if it grows. */
@@ -48,7 +69,7 @@ template <class Container> void reserve(Container &of, std::size_t more)
  */
 template <class Offset> class texts_mut {
 public:
-    std::size_t size() const { return offsets_.size() - 1; }
+    std::size_t size() const { return std::max<std::size_t>(offsets_.size(), 1) - 1; }
     bool empty() const { return size() == 0; }
 
     /* The offsets, one more than texts, and the bytes, as Arrow's arrays have them. */
@@ -68,21 +89,30 @@ public:
 
     void append(std::string_view text)
     {
-        reserve(1, grown(0, text.size()));
-        push(text);
+        begin();
+        const space to = lengthen(1, grown(0, text.size()));
+        std::copy(text.begin(), text.end(), to.bytes);
+        *to.offsets = static_cast<Offset>(bytes_.size());
     }
 
     /* Appends the texts whose bit in `mask`, one per text, is set, and returns their number. */
     std::size_t append_kept(texts<Offset> from, bits mask)
     {
         detail::expect(mask.size() == from.size(), "not a bit for each text");
+        begin();
         std::size_t rows = 0, bytes = 0;
         mask.for_each_run([&](std::size_t start, std::size_t end) {
             rows += end - start;
             bytes = grown(bytes, from.from(end) - from.from(start));
         });
-        reserve(rows, bytes);
-        mask.for_each_run([&](std::size_t start, std::size_t end) { push(from, start, end); });
+        space to = lengthen(rows, bytes);
+        const char *end_of_bytes = from.bytes_ + from.size_;
+        mask.for_each_run([&](std::size_t start, std::size_t end) {
+            const auto moved = static_cast<Offset>(to.bytes - bytes_.data()) - from.offsets_[start];
+            to.offsets = std::transform(from.offsets_ + start + 1, from.offsets_ + end + 1,
+                to.offsets, [&](Offset offset) { return offset + moved; });
+            to.bytes = detail::copy_text(to.bytes, to.end, from.text(start, end), end_of_bytes);
+        });
         return rows;
     }
 
@@ -100,6 +130,7 @@ public:
             "append_taken takes indices of a whole number of 8, 16, 32 or 64 bits");
         const std::size_t count = detail::size(indices);
         detail::expect(!valid || valid->size() == count, "not a bit of validity for each index");
+        begin();
         // A negative index becomes greater than each row.
         const auto at = [&](std::size_t k) { return static_cast<std::size_t>(indices.data()[k]); };
         const auto counts = [&](std::size_t k) { return !valid || (*valid)[k]; };
@@ -112,9 +143,12 @@ public:
         if (const auto wrong = detail::first_that(count, is_wrong)) {
             return wrong;
         }
-        reserve(count, bytes);
+        space to = lengthen(count, bytes);
+        const char *end_of_bytes = from.bytes_ + from.size_;
         for (std::size_t k = 0; k < count; k++) {
-            push(counts(k) ? from.text(at(k)) : std::string_view());
+            const std::string_view text = counts(k) ? from.text(at(k)) : std::string_view();
+            to.bytes = detail::copy_text(to.bytes, to.end, text, end_of_bytes);
+            *to.offsets++ = static_cast<Offset>(to.bytes - bytes_.data());
         }
         return std::nullopt;
     }
@@ -128,27 +162,31 @@ private:
         return bytes + more;
     }
 
-    void reserve(std::size_t rows, std::size_t bytes)
+    /* The next offset and the next byte to write, and the end of the bytes. */
+    struct space {
+        Offset *offsets;
+        char *bytes;
+        const char *end;
+    };
+
+    /* Texts that were moved from have no offset. */
+    void begin()
+    {
+        if (offsets_.empty()) {
+            bytes_.clear();
+            offsets_.push_back(0);
+        }
+    }
+
+    /* Appends zeros for such numbers of texts and bytes. If memory runs out, appends nothing. */
+    space lengthen(std::size_t rows, std::size_t bytes)
     {
         detail::reserve(offsets_, rows);
         detail::reserve(bytes_, bytes);
-    }
-
-    /* Appends a text. The capacity suffices. */
-    void push(std::string_view text)
-    {
-        bytes_.append(text);
-        offsets_.push_back(static_cast<Offset>(bytes_.size()));
-    }
-
-    /* Appends the texts from row `start` to row `end`. The capacity suffices. */
-    void push(const texts<Offset> &from, std::size_t start, std::size_t end)
-    {
-        const Offset moved = static_cast<Offset>(bytes_.size()) - from.offsets_[start];
-        bytes_.append(from.bytes_ + from.from(start), from.from(end) - from.from(start));
-        for (std::size_t row = start; row < end; row++) {
-            offsets_.push_back(from.offsets_[row + 1] + moved);
-        }
+        offsets_.resize(offsets_.size() + rows);
+        bytes_.resize(bytes_.size() + bytes);
+        char *end = bytes_.data() + bytes_.size();
+        return {offsets_.data() + offsets_.size() - rows, end - bytes, end};
     }
 
     std::vector<Offset> offsets_ = {0};
