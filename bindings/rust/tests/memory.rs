@@ -76,8 +76,8 @@ fn calls_allocate_what_their_documents_say() {
     let few: Vec<u64> = (0..1600).map(|row| 100_000 + row).collect();
     let ((), requests, _) = counted(|| few.chunks(16).for_each(|it| best.append(it, None::<Bits>)));
     assert_eq!(requests, 0, "few values are inserted where they belong");
-    // Sixteen times the rows take some twenty times as long; if each row moved others, 256 times.
-    // On a busy machine single runs say little, so one of ten has to show it.
+    // Sixteen times the rows take about 20 times as long; if each row moved others, 256 times. On a
+    // busy machine single runs say little, so one of ten has to show it.
     let is_fast = |_| time_of_half(80_000) < 100 * time_of_half(5_000);
     assert!(
         (0..10).any(is_fast),

@@ -105,8 +105,8 @@ fn equality_is_that_of_bits(rt: HostRuntime) {
     }
 }
 
-/// A law of De Morgan: what an operator makes of two sets, negated, is what another one makes of
-/// the sets negated.
+/// A law of De Morgan: the negated result of an operator on two sets is the result of another one
+/// on the negated sets.
 fn law_holds<A: Allocator + Clone>(
     rt: &impl Abort,
     (operator, other): (Operator, Two),
@@ -120,7 +120,7 @@ fn law_holds<A: Allocator + Clone>(
     drop(negated);
 }
 
-/// Both laws of De Morgan, and that what is negated twice is as it was.
+/// Both laws of De Morgan, and that two negations of a set give the same set.
 fn laws_hold<A: Allocator + Clone>(
     rt: &impl Abort,
     one: Result<BitBuffer<A>>,

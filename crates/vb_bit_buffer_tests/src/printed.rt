@@ -16,8 +16,8 @@ fn prints(rt: &impl Abort, alloc: Global, made: Result<BitBuffer>, wanted: &str)
     drop(text);
 }
 
-/// The number of bytes 0x0F, the length of a window from bit 2 on, and its text: all of 64 bits,
-/// and the first 64 of 65.
+/// How many bytes there are, all of them 0x0F, the length of a window from bit 2 on, and its text:
+/// at most 64 bits.
 const PRINTED: &[(usize, usize, &str)] = &[
     (1, 0, "BitBuffer()"),
     (1, 3, "BitBuffer(110)"),

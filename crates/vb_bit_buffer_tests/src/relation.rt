@@ -50,8 +50,8 @@ fn plain(left: &[bool], right: &[bool]) -> Answers {
     (Ok(both == 0), Ok(first == 0), counts)
 }
 
-/// Three kinds of right bits, made of the left ones and noise: the noise alone, the noise without
-/// the left ones, and the noise with all of them.
+/// Three kinds of right bits, built from the left ones and noise: the noise alone, the noise
+/// without the left ones, and the noise with all of them.
 fn rights(left: &[bool], seed: usize) -> [[bool; LONGEST]; 3] {
     let mut lists = [list(seed); 3];
     for (i, bit) in left.iter().enumerate().take(LONGEST) {

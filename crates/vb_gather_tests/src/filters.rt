@@ -17,7 +17,7 @@ fn kept<F: Filter, A: Allocator + Clone>(values: &F, mask: Result<BitBuffer<A>>)
     kept
 }
 
-/// What the mask of a row keeps of values.
+/// The values that the mask of a row selects.
 pub(crate) fn filtered<F: Filter + Drop, A: Allocator + Clone>(
     alloc: A,
     values: Result<F>,

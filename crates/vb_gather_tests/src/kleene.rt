@@ -96,7 +96,7 @@ fn fits(validity: Option<BitBufferView<'_>>, len: usize) -> bool
     }
 }
 
-/// What `and`, or else `or`, makes of two columns.
+/// The result of `and_kleene` on two columns, or of `or_kleene` if `and` is false.
 fn made<A: Allocator + Clone>(
     alloc: A,
     and: bool,

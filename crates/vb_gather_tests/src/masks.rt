@@ -1,4 +1,4 @@
-//! Masks, each with how many values it is for.
+//! Masks, each with its number of bits.
 use std::alloc::Allocator;
 use vb_bit_buffer::BitBuffer;
 use vb_core::Result;
@@ -14,10 +14,10 @@ impl Row {
         self.2.has(self.1.saturating_add(place))
     }
 
-    /// How many requests a test makes with this row. `of_none` has the number for a row of 0, 1,
-    /// 64, at most 200 and 1,000 bits that selects nothing: for copies of the allocator, the growth
-    /// of the mask and of the values, and the owners of the result. If the row selects any value,
-    /// one more request is for the bytes of the result.
+    /// How many requests a test makes with this row. `of_none` has the numbers for rows that select
+    /// nothing, of 0 bits, 1, 64, 129 or 200, and 1,000. These requests are for copies of the
+    /// allocator, the growth of the mask and of the values, and the owners of the result. If the
+    /// row selects any value, one more request is for the bytes of the result.
     pub(crate) fn requests(&self, of_none: [u64; 5]) -> u64 {
         let requests = match self.0 {
             0 => of_none[0],

@@ -1,5 +1,5 @@
-//! Blocks of 64 indices compared with a plain loop. Clauses prove what they return; these tests
-//! cover the vector instructions that the compiler makes of them.
+//! Takes at blocks of 64 indices, compared with a plain loop. Clauses prove the results; these
+//! tests cover the vector instructions that the compiler generates.
 use crate::compared::{answers, equal, holds};
 use crate::made::taken;
 use std::alloc::{Allocator, Global};
@@ -57,7 +57,7 @@ fn first<T>(items: &[T], count: usize) -> &[T] {
     &items[..count.min(items.len())]
 }
 
-/// From 5000 bits, without validity and with it.
+/// Takes from 5000 bits at these indices, without a validity and with one.
 fn in_blocks<I: BitIndex>(rt: &impl Abort, alloc: Global, indices: &[I]) {
     let set = scattered(rt, alloc, 5000);
     let validity = scattered(rt, alloc, indices.len());

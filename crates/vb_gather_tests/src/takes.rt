@@ -145,7 +145,7 @@ fn loop_takes(out: &mut [u32], indices: &[u64], row: &Row) -> Option<usize> {
     None
 }
 
-/// A take into items that were 7, of which those from the refused position on still are.
+/// A take into items that were 7. Those from the refused position on stay 7.
 fn leaves_what_a_loop_leaves(rt: &impl Abort, alloc: Global, row: &Row, bad: usize) {
     let mut indices = [5u64; 130];
     for k in 0..bad.min(130) {

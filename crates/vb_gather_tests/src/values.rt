@@ -56,8 +56,8 @@ fn values_and_owners_are_one_request_each(rt: HostRuntime) {
     drop((values, mask));
 }
 
-/// Whether the values that a row's mask keeps are written to the front of a slice, and its other
-/// items stay, as values and as elements.
+/// Whether the call for values and the one for elements write the values that a row's mask keeps to
+/// the front of a slice, and leave its other items.
 fn writes_in_front(values: &[u32], mask: BitBufferView<'_>, row: &Row) -> bool {
     let mut out = [u32::MAX; 1001];
     let mut elements = [u32::MAX; 1001];
@@ -69,8 +69,8 @@ fn writes_in_front(values: &[u32], mask: BitBufferView<'_>, row: &Row) -> bool {
     same && is_plain(&out[..len], row) && out[len..].iter().all(|item| *item == u32::MAX)
 }
 
-/// Whether the values that a row's mask keeps are moved to the front of their slice, and the others
-/// from there on stay.
+/// Whether the values that a row's mask keeps are moved to the front of their slice, and the items
+/// after them are unchanged.
 fn moves_to_the_front(values: &[u32], mask: BitBufferView<'_>, row: &Row) -> bool {
     let mut items = [u32::MAX; 1001];
     let many = values.len();

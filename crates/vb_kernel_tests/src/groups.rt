@@ -23,7 +23,7 @@ struct Found {
     past: Option<usize>,
 }
 
-/// What counts and sums are before the calls: a count and two sums are about to wrap around.
+/// What counts and sums are before the calls: a count and two sums are at a limit of their type.
 const BEFORE: Found = Found {
     counts: [0, 1, 2, u64::MAX, 4, 5, 6],
     sums: [0, -1, i64::MAX, 3, -4, i64::MIN, 6],

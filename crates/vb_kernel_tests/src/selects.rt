@@ -48,7 +48,7 @@ fn selects_are_those_of_a_loop(rt: HostRuntime) {
     }
 }
 
-/// Windows of more than 64 chunks, which the adders of the wide selects pass over.
+/// A window of more than 64 chunks, whose bits the wide selects count with adders.
 #[test]
 fn wide_selects_are_those_by_words(rt: HostRuntime) {
     let mut bytes = [0; 8200];

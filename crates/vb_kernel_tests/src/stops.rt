@@ -11,8 +11,8 @@ use vb_kernel::{
 /// A window: its bytes, the bit at which it begins, and how many bits it has.
 type Window<'a> = (&'a [u8], usize, usize);
 
-/// How many of the `len` bits from bit `at` on a search reads, part by part: those up to the end of
-/// the part that contains `place`, or all if `place` is None.
+/// The number of bits that a search reads, part by part, of `len` bits from bit `at` on: those up
+/// to the end of the part that contains `place`, or all if `place` is None.
 fn bits_read(at: usize, len: usize, place: Option<usize>) -> usize {
     let head = len.min((8 - at % 8) % 8);
     let Some(place) = place else {

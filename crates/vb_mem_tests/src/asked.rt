@@ -163,7 +163,7 @@ fn by_bytes<A: Allocator + Clone>(rt: &impl Abort, buffer: ByteBuffer<A>) -> Mad
     opened(Buffer::from_bytes(alloc, bytes))
 }
 
-/// A buffer with capacity from the allocator of a buffer.
+/// A new growing buffer with capacity, allocated by the allocator of another buffer.
 fn room_of<A: Allocator>(alloc: Result<A, AllocError>) -> Made<A> {
     BufferMut::with_capacity(alloc?, 3)
 }

@@ -66,7 +66,7 @@ fn bytes_of_a_slice_are_read_once(rt: HostRuntime) {
     equal(&rt, heap.asked(), 0);
 }
 
-/// No list is so long that its bytes pass `usize`, so the counts alone are tried.
+/// No list has more bytes than a `usize` can count, so only the calls that count are tested.
 #[test]
 fn byte_counts_past_usize_are_refused(rt: HostRuntime) {
     equal(&rt, byte_count::<u32>(3), Ok(12));

@@ -148,8 +148,8 @@ fn clear_items<A: Allocator + Clone>(rt: &impl Abort, made: Result<Buffer<u32, A
     answer
 }
 
-/// The changes, and how many requests each makes with its buffer. A copy of the allocator is a
-/// request too.
+/// The changes, and how many requests each makes, including those for its buffer. A copy of the
+/// allocator is a request too.
 const TRIALS: &[(Trial, u64)] = &[
     (Trial::Full(Change::Reserve), 2),
     (Trial::Full(Change::ReserveExact), 2),

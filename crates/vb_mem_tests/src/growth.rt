@@ -104,7 +104,7 @@ fn has_counted<A: Allocator>(rt: &impl Abort, made: Result<BufferMut<usize, A>>,
     drop(buffer);
 }
 
-/// Ends an iterator that counts from 0 after `N` numbers.
+/// Whether a number is below `N`: so `take_while` ends `0..` after `N` numbers.
 fn is_below<const N: usize>(number: &usize) -> bool {
     *number < N
 }

@@ -6,7 +6,7 @@ use std::process::Abort;
 use vb_core::{Alignment, BufferError, Element, Result};
 use vb_mem::{Buffer, BufferMut};
 
-/// A part of a buffer that may begin at each item.
+/// A part of a buffer. It may begin at any item.
 pub fn part<T: Element, A: Allocator + Clone>(
     rt: &impl Abort,
     whole: &Buffer<T, A>,

@@ -6,8 +6,8 @@ use std::process::Abort;
 use vb_script::DriveError;
 
 /// Compares each answer with that of the plain machine. Returns how a session over the lines then
-/// ends: at its first line that can't be read, or with `Memory` at the first answer that is
-/// missing.
+/// ends: at its first line that can't be read, with `Memory` at the first answer that is missing,
+/// or else with `Ok`.
 fn answers_are_plain(
     rt: &impl Abort,
     plain: &mut Plain,

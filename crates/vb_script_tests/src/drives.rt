@@ -52,8 +52,8 @@ enum Memory {
     Refused,
 }
 
-/// Compares sessions over `most` random lines with the plain machine. Each session ends at a line
-/// that can't be read.
+/// Compares sessions over `most` random lines with the plain machine. Each session but the last
+/// ends at a line that can't be read.
 fn random_sessions_are_plain(
     rt: &impl Abort,
     global: Global,
@@ -78,7 +78,7 @@ fn random_sessions_are_plain(
     drop((random, heap));
 }
 
-/// How many random lines are answered, in sessions that each end at a line that can't be read.
+/// How many random lines the sessions have, apart from those of groups.
 const LINES: usize = 10_000;
 
 #[test]

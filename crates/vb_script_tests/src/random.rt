@@ -145,7 +145,7 @@ impl Random {
         most
     }
 
-    /// Adds a group of lines on three slots: lines before empty them, and lines after print two.
+    /// Adds lines that empty three slots, a group of lines on these, and lines that print two.
     fn add_group(&mut self) {
         let slots = SLOTS.get(self.below(SLOTS.len())).copied();
         let slots = slots.unwrap_or(('0', '1', '2'));

@@ -122,7 +122,7 @@ fn what_is_handed_in_is_asked(rt: HostRuntime) {
     }
 }
 
-/// A set made of a vector of nine true values, which has another allocator.
+/// A set built from a vector of nine true values, which has another allocator.
 fn of_vector<A: Allocator + Clone>(
     alloc: A,
     values: Vec<bool, A>,

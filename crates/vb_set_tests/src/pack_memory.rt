@@ -43,7 +43,7 @@ fn shared<A: Allocator + Clone>(made: Result<BitBufferMut<A>>) -> Result<BitBuff
     made?.freeze()
 }
 
-/// A set of a vector of bools, made to be shared or to be edited.
+/// A set built from a vector of bools, to be shared or to be edited.
 fn of_vec<A: Allocator + Clone>(alloc: A, is_shared: bool) -> Result<BitBuffer<A>> {
     let bools = BOOLS.to_vec(alloc.clone()?)?;
     if is_shared {

@@ -366,7 +366,7 @@ fn levels_have_one_limit() {
     }
 }
 
-/// Fields share their children, so a walk over all paths of these types doesn't end.
+/// Fields share their children: these types have up to 2^999 paths, too many to walk them all.
 #[test]
 fn levels_of_shared_children_are_counted_once() {
     let number = || Field::new("a", "i").unwrap();

@@ -63,7 +63,7 @@ fn nested_arrays_keep_their_format() {
     assert_eq!(wrong, "no type has the format \"+x\"");
 }
 
-/// A list has no keys that are sorted.
+/// A map that becomes a list loses the flag for sorted keys.
 #[test]
 fn maps_become_lists_without_the_flag_of_maps() {
     for (format, flags) in [("+l", 2), ("+m", 6)] {

@@ -85,7 +85,7 @@ impl Asker {
         self.maker.one_of(&[0, 1, 2, 7, 8, 9, 20, 65])
     }
 
-    /// A random format. Every second time it has the same layout as `format`.
+    /// A random format: in half of the calls from the group of `format`, if it is in one.
     fn format(&mut self, format: &str) -> &'static str {
         let alike = ALIKE.iter().find(|group| group.contains(&format));
         match alike {

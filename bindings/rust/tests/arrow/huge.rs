@@ -9,7 +9,7 @@ const MOST: i64 = i64::MAX;
 const TWICE: &str = "18446744073709551614 rows, and numbers up to 9223372036854775807";
 const NO_MEMORY: &str = "no memory for rows of 18446744073709551615 bytes";
 
-/// An array of nulls, which take no memory.
+/// An array of nulls, which needs no buffer.
 fn nulls(len: i64) -> raw::Array {
     raw::Array::new(len, vec![], &Count::default())
 }

@@ -19,7 +19,7 @@ struct Refusing;
 const LARGE: usize = 2048;
 
 thread_local! {
-    /// The number of large requests before the one that is refused.
+    /// The number of large requests before the first one that is refused, as all after it are.
     static LEFT: Cell<usize> = const { Cell::new(usize::MAX) };
     /// A request of more bytes is refused.
     static MOST: Cell<usize> = const { Cell::new(usize::MAX) };

@@ -147,7 +147,7 @@ fn children_of_a_schema_are_as_many_as_some_memory_has() {
 #[test]
 #[cfg(all(target_pointer_width = "64", not(miri)))]
 fn texts_that_no_memory_holds_are_refused() {
-    // No byte of it is looked at, so that it takes no memory.
+    // No byte of it is read or written, so it uses no physical memory.
     let bytes = vec![0u8; 1 << 31];
     let long = || {
         let buffers = vec![None, Some(offsets(&[0, 1 << 31], true, 0)), None];

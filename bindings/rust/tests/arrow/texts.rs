@@ -299,7 +299,7 @@ fn texts_are_narrowed() {
 #[cfg(all(target_pointer_width = "64", not(miri)))]
 #[test]
 fn long_texts_are_not_narrowed() {
-    // No byte of it is looked at, so that it takes no memory.
+    // No byte of it is read or written, so it uses no physical memory.
     let bytes = vec![0u8; (1 << 31) + 5];
     let most = i64::from(i32::MAX);
     for (ends, len) in [

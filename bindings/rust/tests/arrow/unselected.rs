@@ -130,7 +130,7 @@ fn errors_name_the_selected_row() {
     let ends = [0, 1, 6, 2, 5, 4];
     let rows = import(texts_of("u", &ends), Schema::new("", "u", &none)).unwrap();
     let said = |made: Result<Export, ArrowError>| made.map(|it| it.len()).unwrap_err().to_string();
-    // Rows 2 and 4 go back. Row 1 ends after the last row.
+    // The offsets of rows 2 and 4 decrease. Row 1 ends after the last row.
     assert_eq!(rows.filter(Bits::new(&[0b00001], 0, 5)).unwrap().len(), 1);
     assert_eq!(
         said(rows.filter(Bits::new(&[0b10001], 0, 5))),
@@ -149,7 +149,7 @@ fn errors_name_the_selected_row() {
 #[test]
 fn texts_kept_have_no_bytes_of_null_rows() {
     let none = Count::default();
-    // Row 2, which isn't selected, goes back.
+    // The offsets of row 2, which isn't selected, decrease.
     let buffers = vec![
         Some(Buffer::new(&[0b1101], 0)),
         Some(ints(&[0, 1, 4, 2, 5])),

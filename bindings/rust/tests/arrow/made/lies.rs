@@ -45,7 +45,7 @@ impl Maker {
     }
 }
 
-/// Spoils a number or a pointer of one array of a tree, or the format. Nothing may be read then.
+/// Spoils a number or a pointer of one array of a tree, or the format. Some trees stay valid.
 pub fn spoil(maker: &mut Maker, (array, schema): &mut Tree) {
     let mut all = Vec::new();
     collect(&raw mut *array, &mut all);
