@@ -36,10 +36,12 @@ inline std::uint64_t eight(const char *bytes, std::size_t size)
     return word;
 }
 
-/* Returns the mask of the first `size` bytes of such a number. */
+/* Returns the mask of the first `size` bytes of such a number, by a table instead of a branch. */
 inline std::uint64_t low_bytes(std::size_t size)
 {
-    return size < 8 ? (std::uint64_t(1) << 8 * size) - 1 : UINT64_MAX;
+    static constexpr std::uint64_t masks[] = {0, 0xFF, 0xFFFF, 0xFFFFFF, UINT32_MAX, 0xFFFFFFFFFF,
+        0xFFFFFFFFFFFF, 0xFFFFFFFFFFFFFF, UINT64_MAX};
+    return masks[std::min<std::size_t>(size, 8)];
 }
 
 /* A text to look for, with its first eight bytes. */
