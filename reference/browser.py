@@ -105,7 +105,7 @@ class Browser:
         return given["result"].get("value")
 
     def try_run(self, script: str) -> Any:
-        """The value of an expression; `None` where the page is left before it answers."""
+        """The value of an expression; `None` if the page is left before it returns."""
         try:
             return self.run(script)
         except BrowserError as error:

@@ -147,7 +147,7 @@ class Languages:
         return [Named(it.name, it.url) for it in found[:1]]
 
     def of_rattle(self, name: str, _: str) -> list[Named]:
-        """The function of this name that the facade or the crate before it gives, or a method."""
+        """The function of this name in the facade or in the crate that it names, or a method."""
         crate, _, last = name.rpartition("::")
         reach = self.library.reached.get(crate or FACADE, {}).get(last)
         item = reach.item if reach else self.members.get(name)

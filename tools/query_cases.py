@@ -356,7 +356,7 @@ def counted(file: bytes, width: int) -> bytes:
 
 
 def of_input() -> list[Query]:
-    """Cases of standard input: a file is read, and a pipe is refused."""
+    """Cases of standard input: a file is read, and a pipe is an error."""
     file = b"a,b\n1,x\n2,y\n"
     files = {"t.csv": file}
     refused = "/dev/stdin: not a regular file; it is read twice, so save the data to a file first\n"

@@ -13,8 +13,8 @@ use crate::times::{Placed, Times};
 /// The sizes of a growth row, as multiples of the first one.
 const GROWTH: [usize; 4] = [1, 10, 100, 1_000];
 
-/// The greatest cost of an item, over its cost at the first size. The growth of the cost of a copy
-/// of the item is subtracted first.
+/// The limit of the cost of an item over its cost at the first size. The growth of the cost of a
+/// copy of the item is subtracted first.
 const GROWN: f64 = 1.1;
 
 const GROWTH_HEAD: &str = "| call | first size | ns an item at 1, 10, 100, 1,000 times it | a copy of \
@@ -103,8 +103,9 @@ impl Bench {
         writeln!(self.lines, "{line}").expect("the file of lines can be written");
     }
 
-    /// Measures a call at 1, 10, 100 and 1,000 times its first size, in turn, and copies of as many
-    /// bytes. The growth of a copy's cost, which comes from caches and memory, is subtracted.
+    /// Measures a call at 1, 10, 100 and 1,000 times its first size, in turn, and copies of the
+    /// same number of bytes. The growth of a copy's cost, which comes from caches and memory, is
+    /// subtracted.
     pub fn growth<'a>(
         &mut self,
         call: &str,
@@ -181,7 +182,7 @@ fn copy_of<'a>(size: usize) -> Contender<'a> {
     })
 }
 
-/// The time of a call on so many items, for each item.
+/// The time per item of a call on `items` items.
 fn each((time, items): (&Placed, &usize)) -> f64 {
     time.median() / *items as f64
 }

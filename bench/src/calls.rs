@@ -1,4 +1,4 @@
-//! The calls that are measured, as C functions: the kernels' of crates/vb_c and its like, and those
+//! The calls that are measured, as C functions: those of crates/vb_c and crates/vb_c_*, and those
 //! of the benchmarks' own library, `library/`, which says what each does.
 
 mod values;
@@ -73,7 +73,7 @@ pub type Select = unsafe extern "C" fn(Bytes, usize, usize, usize, usize) -> Pla
 /// bit `s` on.
 pub type Write = unsafe extern "C" fn(*mut u8, usize, usize, Bytes, usize, usize, usize);
 
-/// An operator on two windows of one length: which one, and in how many rounds.
+/// An operator on two windows of one length. The last numbers are the operator and the rounds.
 pub type Operator =
     unsafe extern "C" fn(Bytes, usize, usize, Bytes, usize, usize, usize, usize, usize) -> usize;
 

@@ -17,7 +17,7 @@ impl Random {
         ((self.number() as u128 * limit as u128) >> 64) as usize
     }
 
-    /// So many numbers below the limit.
+    /// `many` numbers below the limit.
     pub fn list(&mut self, many: usize, limit: usize) -> Vec<usize> {
         (0..many).map(|_| self.below(limit)).collect()
     }
@@ -27,7 +27,7 @@ impl Random {
 #[repr(C, align(64))]
 struct Line([u64; 8]);
 
-/// Bytes that begin at a cache line, with a line more behind them.
+/// Bytes that begin at a cache line, followed by one more line.
 pub struct Input(Vec<Line>);
 
 impl Input {
@@ -120,8 +120,8 @@ impl Input {
         unsafe { std::slice::from_raw_parts(self.0.as_ptr().cast(), 8 * self.0.len()) }
     }
 
-    /// A window of bits in the first `size` bytes, which begins and ends within a byte where
-    /// `offset` isn't 0.
+    /// A window of bits in the first `size` bytes, which begins and ends within a byte if `offset`
+    /// isn't 0.
     pub fn window(&self, size: usize, offset: usize) -> Window<'_> {
         let len = if offset == 0 { 8 * size } else { 8 * size - 8 };
         Window {

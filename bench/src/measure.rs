@@ -5,7 +5,7 @@
 use std::hint::black_box;
 use std::time::{Duration, Instant};
 
-/// A row has at least one round per such part of its budget, however long a round takes.
+/// A row has at least one round for each such time in its budget, however long a round takes.
 const ROUND: Duration = Duration::from_millis(25);
 
 /// The least time of a contender's turn in a round: the clock is fine enough for it.

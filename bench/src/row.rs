@@ -23,7 +23,7 @@ pub const NOISE: f64 = 1.02;
 enum Over {
     /// The time of another contender.
     Other(&'static str),
-    /// One nanosecond: per call, and below per item.
+    /// One nanosecond per call. The next one is per item.
     Nanosecond,
     NanosecondAnItem,
 }

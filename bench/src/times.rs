@@ -46,7 +46,7 @@ impl Placed {
         median(self.0.clone())
     }
 
-    /// The median of these times over those of another contender.
+    /// The median of the ratios of these times to those of another contender.
     pub fn over(&self, other: &Placed) -> f64 {
         median(self.0.iter().zip(&other.0).map(|(a, b)| a / b).collect())
     }

@@ -4,7 +4,7 @@
 
 use crate::input::Window;
 
-/// The 64 bits starting at bit `at` of a window that has as many there.
+/// The 64 bits starting at bit `at` of a window. All of them must be in the window.
 #[inline(always)]
 fn word(w: Window, at: usize) -> u64 {
     let (byte, shift) = ((w.offset + at) / 8, (w.offset + at) % 8);
@@ -334,14 +334,14 @@ pub fn filter_bits(out: &mut [u8], to: usize, from: Window, mask: Window) -> usi
     kept
 }
 
-/// A bit at each one of a mask, and false elsewhere.
+/// A bit at each set bit of a mask, and false elsewhere.
 #[inline(never)]
 pub fn deposit(out: &mut [u8], to: usize, from: Window, mask: Window) {
     let (mut out, mut taken) = (Writer::new(out.as_mut_ptr(), to), 0);
     by_words(mask.len, |at, many| {
         let word = load(mask, at, many);
         let ones = word.count_ones() as usize;
-        // Bits beyond those for the ones are ignored.
+        // Bits beyond the number of set bits are ignored.
         let bits = match from.len - taken {
             0 => 0,
             left if left >= 64 => self::word(from, taken),

@@ -226,7 +226,7 @@ fn files_that_cannot_be_used() {
     assert!(error(&file, &["--out", out.to_str().unwrap()]).contains("out.csv: No such file"));
 }
 
-/// Paths that look different, before there is a file and when there is one.
+/// Different paths of one file, before it exists and once it does.
 #[test]
 #[cfg(unix)]
 fn two_outputs_to_one_file() {
@@ -261,7 +261,7 @@ fn two_outputs_to_one_file() {
     assert!(error(&file, &["--out", loops.to_str().unwrap()]).contains("loop: Too many"));
 }
 
-/// Standard output that is appended to the CSV file is refused: its rows would be read too.
+/// Standard output appended to the CSV file is an error: its rows would be read too.
 #[test]
 #[cfg(unix)]
 fn standard_output_at_the_end_of_another_file() {

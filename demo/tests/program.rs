@@ -228,7 +228,7 @@ fn a_file_as_standard_input() {
     assert_eq!(output.stdout, b"count(*)\n120\n");
 }
 
-/// The file has more bytes than the program may have of memory.
+/// The file is larger than the memory that the program may use.
 #[test]
 #[cfg(target_os = "linux")]
 fn memory_does_not_grow_with_the_file() {
@@ -378,7 +378,7 @@ fn help() {
     assert!(output.status.success() && text.starts_with("Answers a query over a CSV file"));
 }
 
-/// Texts of any length are inside the picture, and cells at whole units beside one another.
+/// Texts of any length fit in the picture. Cells begin at whole units, next to one another.
 #[test]
 fn a_picture_of_long_texts() {
     let folder = Folder::new("long");

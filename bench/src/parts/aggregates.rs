@@ -109,7 +109,7 @@ fn number(least: Option<i32>) -> usize {
     least.map_or(usize::MAX, |it| it as usize)
 }
 
-/// A call: its name, itself, and what makes a number of its answer.
+/// A call: its name, the function, and the conversion of its result to a number.
 type Call<T, A> = (&'static str, Masked<T, A>, fn(A) -> usize);
 
 /// The call over values and a mask.

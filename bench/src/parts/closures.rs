@@ -30,7 +30,7 @@ fn row<'a>(call: &str, ours: InRounds, w: Window<'a>, share: f64) -> Row<'a> {
         .set(share)
 }
 
-/// The target is over the loop; if `share` is less than a tenth, over upstream.
+/// The target is relative to the loop; if `share` is less than a tenth, to upstream.
 fn held(row: Row<'_>, share: f64) -> Row<'_> {
     if share < 0.1 {
         row.at_most(1.0, UPSTREAM)

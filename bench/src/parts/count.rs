@@ -38,8 +38,8 @@ pub fn measure(bench: &mut Bench) {
     }
 }
 
-/// What a count may take over the loop, for each size. At x86-64-v2 the loop's instruction counts a
-/// word a cycle, which vectors of 16 bytes don't outdo.
+/// The greatest allowed ratio of a count to the loop, for each size. At x86-64-v2 the loop's
+/// instruction counts a word a cycle, which vectors of 16 bytes don't outdo.
 fn most(level: &str, offset: usize) -> [f64; 6] {
     match (level, offset) {
         ("x86-64-v2", 0) => [1.5, 1.05, 1.05, 1.05, 1.05, 1.05],

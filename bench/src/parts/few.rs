@@ -22,7 +22,7 @@ const SIZES: [usize; 4] = [8, 64, 512, 1_000];
 /// are written.
 const OFFSETS: [[usize; 3]; 2] = [[0, 0, 0], [3, 5, 1]];
 
-/// Calls whose loops use instructions from x86-64-v3 on that Rattle has no operation for.
+/// Calls whose loops, from x86-64-v3 on, use instructions that Rattle has no operation for.
 const PACKED: [&str; 2] = ["`vb_filter_bits`", "`vb_deposit_bits`"];
 
 /// What the calls of a size are given.
@@ -110,7 +110,7 @@ pub fn measure(bench: &mut Bench) {
     }
 }
 
-/// A window as C is passed it.
+/// The arguments of C for a window.
 fn raw(w: Window) -> (Bytes, usize, usize) {
     (w.bytes.as_ptr(), w.bytes.len(), w.offset)
 }
@@ -239,7 +239,7 @@ fn written<'a>(c: &'a Case) -> Vec<Row<'a>> {
     let ((l, ls, lo), (r, rs, ro)) = (raw(c.left), raw(c.right));
     let ((lv, lvs, _), (rv, rvs, _)) = (raw(c.left_valid), raw(c.right_valid));
     let kept = bits(c.right).count_ones();
-    // As many bits as the mask has ones.
+    // One bit per set bit of the mask.
     let packed = Window {
         bytes: &c.left.bytes[..(lo + kept).div_ceil(8)],
         len: kept,

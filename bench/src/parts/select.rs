@@ -74,7 +74,7 @@ fn last(w: Window<'_>, offset: usize, set: f64) -> Row<'_> {
     }
 }
 
-/// What a select within a cache line may take over the loop.
+/// The greatest allowed ratio of a select within a cache line to the loop.
 fn most(level: &str, offset: usize) -> f64 {
     match (level, offset) {
         (_, 0) => 12.0 / 7.0,

@@ -38,7 +38,7 @@ fn walk<'a>(call: &str, ours: OnWindow, w: Window<'a>) -> Row<'a> {
         .offsets(&[w.offset])
 }
 
-/// The target is over the loop; if less than a tenth of the bits is set, over upstream too.
+/// A target is relative to the loop; if less than a tenth of the bits is set, one to upstream too.
 fn places<'a>(input: &'a Input, w: Window<'a>, share: f64) -> Row<'a> {
     let row = walk("`set_indices`, summed", calls::bench_set_indices, w)
         .set(share)
