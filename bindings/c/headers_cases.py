@@ -134,6 +134,7 @@ ACCEPTED = [
     "std::int64_t at[1] = {}; (void)texts(vortex_bits::view(at, 1), fixed).slice(0, 0).empty();",
     "column<int> at{{0, 1}}; column<char> it{{'a'}}; texts(at, it).is_in({\"a\"}, {bytes, 0, 1});",
     "std::vector<std::string> all; texts<std::int64_t>().is_in(all, bits_mut(bytes, 0, 0));",
+    "bits_mut all = four; all = four.slice(0, 2); rows = all; (void)(all.size() + rows.size());",
     "texts_mut<int> all; all.append(\"a\"); texts it = all.all(); (void)(it[0] == all[0]);",
     "texts_mut<int> all; (void)(all.append_kept({}, {}) + all.append_taken({}, fixed).value());",
     "static_assert(!can_be<bits, std::string &> && !can_be<bits, std::uint8_t *>);",
@@ -195,6 +196,7 @@ REFUSED = [
     ("masked_max(fixed, rows);", UNUSED),
     ("texts_mut<int>().append_taken({}, fixed);", UNUSED),
     ("(void)texts_mut<int>().all();", DELETED),
+    ("four.slice(0, 2) = four.slice(1, 2);", "discards|expects an lvalue|no viable"),
 ]
 
 

@@ -143,8 +143,8 @@ static const struct {
 };
 
 /*
- * Writes three-valued logic into windows, and checks that other bits are unchanged. A side has no
- * validity if that is null.
+ * Writes three-valued logic into windows, and checks that other bits are unchanged. A null pointer
+ * is a missing validity.
  */
 static void three_valued(const uint8_t *left, size_t l, const uint8_t *left_valid,
     const uint8_t *right, size_t r, const uint8_t *right_valid, size_t len)

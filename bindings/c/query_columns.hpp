@@ -52,13 +52,8 @@ public:
     /* The texts of a column of the format u. */
     vortex_bits::texts<std::int32_t> texts() const
     {
-        if (len_ == 0) {
-            return {};
-        }
-        const view<const std::int32_t> offsets(
-            static_cast<const std::int32_t *>(child_.buffers[1]) + offset_, len_ + 1);
-        const auto size = static_cast<std::size_t>(offsets[len_]);
-        return {offsets, view(static_cast<const char *>(child_.buffers[2]), size)};
+        return vortex_bits::texts_of<std::int32_t>(child_.buffers[1], child_.buffers[2], offset_,
+            len_);
     }
 
 private:

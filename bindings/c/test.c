@@ -128,7 +128,7 @@ typedef void (*into)(uint8_t *, size_t, size_t, const uint8_t *, size_t, size_t,
 typedef bool (*try_into)(uint8_t *, size_t, size_t, const uint8_t *, size_t, size_t,
     const uint8_t *, size_t, size_t, size_t);
 
-/* The result of each operator for two bits: digit 2 * left + right. */
+/* The operators. Bit 2 * left + right of `table` is the result for two bits. */
 static const struct {
     const char *name;
     combine plain;

@@ -1,6 +1,6 @@
 /*
  * Compares the predicates and the appends of vortex_bits_texts.hpp and vortex_bits_texts_mut.hpp
- * with loops over single texts, on columns next to pages that can't be read, and tests their errors.
+ * with loops over single texts, on columns next to inaccessible pages, and tests their errors.
  */
 #include "vortex_bits.hpp"
 
@@ -259,6 +259,23 @@ template <class Offset> static void refusals()
     check(some == buffer(1), "a refused call left all as it was");
 }
 
+/* Texts from pointers, as an array of Arrow has them. */
+template <class Offset> static void of_pointers()
+{
+    const std::vector<Offset> offsets = {0, 4, 8, 8}, wrong = {0, 4, -1}, none = {0, 0};
+    const std::string bytes = "OsloRome";
+    const auto all = vortex_bits::texts_of<Offset>(offsets.data(), bytes.data(), 1, 2);
+    check(all.size() == 2 && all[0] == "Rome" && all[1].empty(), "texts from row 1 on");
+    check(vortex_bits::texts_of<Offset>(nullptr, nullptr, 0, 0).empty(), "no texts");
+    check(vortex_bits::texts_of<Offset>(none.data(), nullptr, 0, 1)[0].empty(), "no bytes");
+    const auto refuses = [&](const Offset *starts, const char *texts, std::size_t len) {
+        refused([&] { (void)vortex_bits::texts_of<Offset>(starts, texts, 0, len); }, "pointers");
+    };
+    refuses(nullptr, bytes.data(), 1);
+    refuses(offsets.data(), nullptr, 1);
+    refuses(wrong.data(), bytes.data(), 2);
+}
+
 /* Texts without offsets, without bytes, and at null pointers. */
 template <class Offset> static void nothing()
 {
@@ -315,6 +332,8 @@ int main()
     }
     refusals<std::int32_t>();
     refusals<std::int64_t>();
+    of_pointers<std::int32_t>();
+    of_pointers<std::int64_t>();
     nothing<std::int32_t>();
     nothing<std::int64_t>();
     too_many_bytes();

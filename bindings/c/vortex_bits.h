@@ -47,10 +47,11 @@
  * a pointer.
  *
  * For an Arrow array, `offset` is the array's plus those of the structs that it is a column of, and
- * `size` is (offset + len + 7) / 8. A missing validity, a null pointer, means that all are valid:
- * takes, vb_and_kleene and vb_or_kleene have an argument for it. vb_and_validity,
- * vb_and_validities, vb_count_valid and vb_filter_validity accept NULL, 0, 0 in place of a window
- * for it; other functions don't. A macro can write the three arguments of a window:
+ * `size` is (offset + len + 7) / 8; its values begin at `values + offset`. A missing validity, a
+ * null pointer, means that all are valid: takes, vb_and_kleene and vb_or_kleene have an argument
+ * for it. In place of a window, vb_and_validity, vb_and_validities, vb_count_valid and
+ * vb_filter_validity accept NULL, 0, 0 for it; other functions don't. A macro can write the three
+ * arguments of a window:
  *
  *     struct { const uint8_t *bytes; size_t size, offset; } a = {(const uint8_t[]){0xE8}, 1, 3};
  *     #define WINDOW(it) (it).bytes, (it).size, (it).offset

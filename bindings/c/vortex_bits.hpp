@@ -339,32 +339,28 @@ public:
 
     template <class Bytes, detail::lender<Bytes, std::uint8_t> = 0>
     bits_mut(Bytes &bytes, std::size_t offset, std::size_t len)
-        : bits_mut(bytes.data(), detail::size(bytes), offset, len)
-    {
-    }
+        : bits_mut(bytes.data(), detail::size(bytes), offset, len) {}
 
     /* Over a temporary container too, if it refers to another's bytes, as a std::span does. */
     template <class Bytes, detail::borrower<Bytes, std::uint8_t> = 0>
     bits_mut(const Bytes &&bytes, std::size_t offset, std::size_t len)
-        : bits_mut(bytes.data(), detail::size(bytes), offset, len)
-    {
-    }
+        : bits_mut(bytes.data(), detail::size(bytes), offset, len) {}
     template <class Bytes, detail::owner<Bytes, std::uint8_t> = 0>
     bits_mut(const Bytes &&bytes, std::size_t offset, std::size_t len) = delete;
 
     /* Over words of 64 bits, as in bits. */
     template <class Words, detail::lender<Words, std::uint64_t> = 0>
     bits_mut(Words &words, std::size_t offset, std::size_t len)
-        : bits_mut(detail::bytes_of(words), 8 * detail::size(words), offset, len)
-    {
-    }
+        : bits_mut(detail::bytes_of(words), 8 * detail::size(words), offset, len) {}
     template <class Words, detail::borrower<Words, std::uint64_t> = 0>
     bits_mut(const Words &&words, std::size_t offset, std::size_t len)
-        : bits_mut(detail::bytes_of(words), 8 * detail::size(words), offset, len)
-    {
-    }
+        : bits_mut(detail::bytes_of(words), 8 * detail::size(words), offset, len) {}
     template <class Words, detail::owner<Words, std::uint64_t> = 0>
     bits_mut(const Words &&words, std::size_t offset, std::size_t len) = delete;
+
+    /* Makes this the other window; it writes no bit, as copy_from does. A slice has no `=`. */
+    bits_mut &operator=(const bits_mut &) & = default;
+    bits_mut(const bits_mut &) = default;
 
     /* Deleted, as in bits; and const bytes can only be read. */
     template <class Item>
@@ -412,7 +408,7 @@ public:
     void xor_of(bits left, bits right) { by_two(vb_xor_into, left, right); }
     void and_not_of(bits left, bits right) { by_two(vb_and_not_into, left, right); }
 
-    /* Writes which rows are true on both sides, validities or masks; `nullopt` is all true. */
+    /* Writes the rows true on both sides, each a validity or a mask; `nullopt` is all true. */
     void and_validities_of(std::optional<bits> left, std::optional<bits> right);
 
     /*
@@ -436,7 +432,8 @@ public:
 
     /*
      * Takes bits of `values`, as bits::take_into writes them, where `valid`, if there is one, is
-     * true; writes false at other positions. With the codes of rows this is a whole semi-join:
+     * true; writes false at other positions. With the codes of rows this is a whole semi-join; with
+     * other numbers, if `valid` leaves out those that index no bit:
      *
      *     bad = rows.take_of(selected_keys, codes, valid);    // the rows of these keys
      */
@@ -448,7 +445,8 @@ public:
      * Writes which of `left and right`, or of `left or right`, are true, by three-valued logic:
      * `and` is false if one is false, `or` is true if one is true, even if the other one is null;
      * else it is null if one is: this window and `valid` then both get false. A side without a
-     * validity has no null. For `not`, negate the values; `&=` them with `valid` to select rows.
+     * validity has no null; a value at a null may be any. For `not`, negate the values, also before
+     * another such call; `&=` them with `valid` to select rows.
      */
     void and_kleene_of(bits left, std::optional<bits> left_valid, bits right,
         std::optional<bits> right_valid, bits_mut valid);

@@ -3,8 +3,8 @@
  * vortex_bits.h includes this file; its first comment states what the caller must ensure for every
  * call.
  *
- * Value k is selected if bit `mask_offset + k` of `mask` is set; the mask must have one bit for each
- * of the `values_count` values. Each call processes 64 values at a time, skips them if none is
+ * Value k is selected if bit `mask_offset + k` of `mask` is set; the mask must have one bit for
+ * each of the `values_count` values. Each call processes 64 values at a time, skips them if none is
  * selected, and doesn't look at single bits if all are.
  */
 #ifndef VORTEX_BITS_AGGREGATE_H
@@ -19,7 +19,8 @@ extern "C" {
 /*
  * A signed number of 128 bits: low + high * 2^64. If `high` is 0, the number is `low`; if `high` is
  * negative, so is the number. As an __int128 the number of `it` is
- * (__int128)((unsigned __int128)it.high << 64 | it.low).
+ * (__int128)((unsigned __int128)it.high << 64 | it.low), with __extension__ before each type if
+ * -Wpedantic is set.
  */
 typedef struct {
     uint64_t low;
@@ -249,9 +250,9 @@ VB_CHECKED bool vb_try_masked_max_i64(const int64_t *values, size_t values_count
 
 /*
  * Returns the sum of the selected floats, 0.0 if there are none. It starts from 0.0 and adds one
- * float after the other, in the order of the rows, each rounded as IEEE 754 says: the result is that
- * of a plain loop, bit by bit, unless it is NaN. The sums of several batches, added, may differ from
- * that of one loop over all.
+ * float after the other, in the order of the rows, each rounded as IEEE 754 says: the result is
+ * that of a plain loop, bit by bit, unless it is NaN. The sums of several batches, added, may
+ * differ from that of one loop over all.
  *
  *     const double weights[] = {1e16, 7.0, 1.0, -1e16};
  *     const uint8_t mask[] = {0x0D};

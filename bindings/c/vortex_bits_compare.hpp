@@ -125,6 +125,7 @@ template <class Value, class Number> bound<Value> bound_of(Number number)
  * or `op` is none of these. Values are whole numbers of 8 to 64 bits, floats or doubles. `number`
  * is of any type of numbers, and a whole number if the values are. The comparison is exact, even if
  * their type can't represent `number`: all values of 8 bits are below 300, and no float equals 0.1.
+ * With a NaN only VB_NOT_EQUAL is true: `compare_with(values, VB_EQUAL, values, out)` finds others.
  */
 template <class Values, class Number>
 void compare(const Values &values, vb_comparison op, Number number, bits_mut out)

@@ -6,8 +6,8 @@
  * every call.
  *
  * The calls write to any window of `out` and leave its other bits unchanged, so the results of
- * batches can be written one after the other. Those that end in _padded write whole bytes, and those
- * that unpack write bools or bytes.
+ * batches can be written one after the other. Those that end in _padded write whole bytes, and
+ * those that unpack write bools or bytes.
  */
 #ifndef VORTEX_BITS_GATHER_H
 #define VORTEX_BITS_GATHER_H

@@ -67,7 +67,7 @@ public:
         }
     }
 
-    /* Returns false if none of them has this number of bytes and these first eight. */
+    /* Returns false only if none of them has this number of bytes and these first eight. */
     bool may_have(std::size_t size, std::uint64_t first) const
     {
         return (lengths_ & bit_of_length(size) & -(hashes_ >> hash(first) & 1)) != 0;
@@ -280,8 +280,8 @@ private:
 
     /*
      * Writes what `passes` returns for each row, which is false unless the bytes from an index on
-     * begin as those of `wanted` do. `at` returns the index. Most rows fail this test of up to
-     * eight bytes, also of those after their end.
+     * begin as those of `wanted` do. `at` returns the index. It compares up to eight bytes first,
+     * even past the end of the row: most rows fail this test.
      */
     template <class At, class Passes>
     void write_beginning(bits_mut out, std::string_view wanted, At at, Passes passes) const
@@ -294,7 +294,8 @@ private:
             return ((word ^ first) & mask) == 0;
         };
         write_words(out, [&](std::size_t row, std::size_t count) {
-            // Whether the indices of all these rows have eight bytes: they are between these two.
+            // Whether eight bytes begin at the index of each row. An index is at most `last`, and
+            // at least the start of the first row less the size of `wanted`.
             const std::size_t last = from(row + count);
             const bool are_eight = from(row) >= wanted.size() && last + 8 <= size_;
             const std::uint64_t all = UINT64_MAX >> (64 - count);
@@ -324,6 +325,25 @@ private:
 
 template <class Offsets, class Bytes>
 texts(Offsets &&, Bytes &&) -> texts<std::remove_cv_t<detail::lent_of<Offsets>>>;
+
+/*
+ * Returns the `len` texts from row `offset` on of an array of Arrow, whose buffers 1 and 2 are the
+ * offsets and the bytes. Without rows both may be null. It throws as the constructor of texts does.
+ * The caller ensures that the buffers have offset + len + 1 offsets, and the bytes up to the last
+ * one of these:
+ *
+ *     auto names = texts_of<std::int32_t>(array.buffers[1], array.buffers[2], offset, len);
+ */
+template <class Offset>
+texts<Offset> texts_of(const void *offsets, const void *bytes, std::size_t offset, std::size_t len)
+{
+    if (len == 0) {
+        return {};
+    }
+    detail::expect(offsets != nullptr, "texts have no offsets");
+    const view rows(static_cast<const Offset *>(offsets) + offset, len + 1);
+    return {rows, view(static_cast<const char *>(bytes), static_cast<std::size_t>(rows[len]))};
+}
 
 template <class Offset>
 void texts<Offset>::compare(vb_comparison op, std::string_view other, bits_mut out) const

@@ -34,8 +34,8 @@ template <class Test> std::optional<std::size_t> first_that(std::size_t count, T
 }
 
 /*
- * Copies a text, and returns the end of the copy. If both have 16 bytes up to their ends, it copies
- * as many for a shorter text: a copy of a known size takes two instructions.
+ * Copies a text, and returns the end of the copy. For 1 to 16 bytes it copies 16 if both sides have
+ * 16 bytes up to their ends: a copy of a known size takes two instructions.
  */
 inline char *copy_text(char *to, const char *to_end, std::string_view text, const char *from_end)
 {
@@ -62,10 +62,10 @@ template <class Container> void reserve(Container &of, std::size_t more)
 } // namespace detail
 
 /*
- * Texts in their own memory, which grows at its end by single texts or by those of batches. Only
- * its calls that append allocate memory. An append throws std::out_of_range, before it changes
- * anything, if the lengths of its arguments differ, or the bytes become more than the largest
- * `Offset`. Texts to append must not be its own.
+ * Texts in their own memory, which grows at its end by single texts or by those of batches. Its
+ * constructor, copies and appends allocate memory. An append throws std::out_of_range, before it
+ * changes anything, if the lengths of its arguments differ, or the bytes become more than the
+ * largest `Offset`. Texts to append must not be its own.
  */
 template <class Offset> class texts_mut {
 public:

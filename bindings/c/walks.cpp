@@ -1,6 +1,6 @@
 /*
- * Tests walks of vortex_bits.hpp that end before their window, windows over temporary views,
- * windows over words, and moves within a window or a column.
+ * Tests walks of vortex_bits.hpp that stop early, windows over temporary views, windows over words,
+ * and moves within a window or a column.
  */
 #include "vortex_bits.hpp"
 

@@ -117,8 +117,7 @@ void vb_and_validity(uint8_t *dst, size_t dst_size, size_t dst_offset, const uin
 }
 
 /*
- * If the validity is missing, tests only the window of `dst`, by a search before index 0, which
- * reads no bits.
+ * If the validity is missing, tests only the window of `dst`, by `fits`, which reads no bits.
  */
 bool vb_try_and_validity(uint8_t *dst, size_t dst_size, size_t dst_offset, const uint8_t *validity,
     size_t validity_size, size_t validity_offset, size_t len)

@@ -17,7 +17,7 @@
 
 /* The object that replaces a null pointer to no items. No function reads or writes it. */
 static max_align_t nothing;
-/* A pointer, which may be null if the number after it is 0, and that number. */
+/* Two arguments: a pointer, which may be null if the number is 0, and the number. */
 #define ANY(items, number) ((items) != NULL || (number) != 0 ? (items) : (void *)&nothing), number
 /* Returns whether a pointer may point to this number of items: a null pointer points to none. */
 #define MAY_HAVE(items, number) ((items) != NULL || (number) == 0)
