@@ -136,6 +136,9 @@ ACCEPTED = [
     "std::vector<std::string> all; texts<std::int64_t>().is_in(all, bits_mut(bytes, 0, 0));",
     "bits_mut all = four; all = four.slice(0, 2); rows = all; (void)(all.size() + rows.size());",
     "texts_mut<int> all; all.append(\"a\"); texts it = all.all(); (void)(it[0] == all[0]);",
+    "bitmaps_by_code all(2); (void)all.append(fixed, rows); (void)(all[1].any() + all.codes());",
+    "auto all = top_k<int>::least(2); all.append(std::vector<int>(8), rows); (void)all.items();",
+    "std::vector<double> all(2); (void)group_sums(all, fixed, std::vector<float>(4), rows);",
     "texts_mut<int> all; (void)(all.append_kept({}, {}) + all.append_taken({}, fixed).value());",
     "static_assert(!can_be<bits, std::string &> && !can_be<bits, std::uint8_t *>);",
     "static_assert(!can_be<bits_mut, std::string &> && !can_be<bits_mut, std::uint8_t *>);",
@@ -156,7 +159,7 @@ ACCEPTED_SINCE_20 = [
 # Code that must not compile: windows over bytes that are freed before them, writable windows over
 # const bytes, and windows over other items; a number in place of a comparison; and results that are
 # ignored. Both compilers have these words in their errors.
-DELETED = "deleted (function|constructor|member function)"
+DELETED = "deleted (function|constructor|member function|operator)"
 NONE, UNUSED = "no matching", "ignoring return value"
 REFUSED = [
     ("bits it(buffer(4), 0, 8); (void)it;", DELETED),
@@ -196,6 +199,8 @@ REFUSED = [
     ("masked_max(fixed, rows);", UNUSED),
     ("texts_mut<int>().append_taken({}, fixed);", UNUSED),
     ("(void)texts_mut<int>().all();", DELETED),
+    ("bitmaps_by_code(2).append(fixed);", UNUSED),
+    ("(void)bitmaps_by_code(2)[1];", DELETED),
     ("four.slice(0, 2) = four.slice(1, 2);", "discards|expects an lvalue|no viable"),
 ]
 

@@ -489,8 +489,10 @@ private:
 #include "vortex_bits_aggregate.hpp"
 #include "vortex_bits_compare.hpp"
 #include "vortex_bits_gather.hpp"
+#include "vortex_bits_groups.hpp"
 #include "vortex_bits_ranks.hpp"
 #include "vortex_bits_texts_mut.hpp"
+#include "vortex_bits_top.hpp"
 #include "vortex_bits_values.hpp"
 
 #endif

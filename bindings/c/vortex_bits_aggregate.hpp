@@ -103,18 +103,6 @@ VB_SUMMED_BY(4, 8, true, i64_u32)
 /* To here. */
 #undef VB_SUMMED_BY
 
-template <class Code> constexpr bool is_code()
-{
-    return is_index<Code>() && sizeof(Code) <= 4;
-}
-
-template <class Values> using item_t = std::remove_cv_t<lent_t<const Values>>;
-
-template <class Value> constexpr bool is_float()
-{
-    return std::is_same_v<Value, float> || std::is_same_v<Value, double>;
-}
-
 /* Calls `call` with the C functions for the type of the values, and with their arguments. */
 struct aggregate {
     template <class Values, class Call>
@@ -249,10 +237,26 @@ template <class Counts, class Codes>
     return std::nullopt;
 }
 
+namespace detail {
+
+/* The sums of floats, in vortex_bits_groups.hpp. */
+template <class Codes, class Values>
+std::optional<std::size_t> float_group_sums(view<double> sums, const Codes &codes,
+    const Values &values, std::optional<bits> mask);
+
+/* The type of the sums by group of such values. */
+template <class Value>
+using group_sum = std::conditional_t<is_float<Value>(), double,
+    std::conditional_t<std::is_signed_v<Value>, std::int64_t, std::uint64_t>>;
+
+} // namespace detail
+
 /*
- * Adds each selected value to the sum at the index that is the code of its row: a std::int64_t for
- * signed values, else a std::uint64_t, which wraps around. Values are whole numbers of 8 to 64
- * bits, one for each code; the rest is as in group_counts.
+ * Adds each selected value to the sum at the index that is the code of its row. Values are whole
+ * numbers of 8 to 64 bits or floats, one for each code. A sum is a std::int64_t for signed values
+ * and a std::uint64_t for unsigned ones, both of which wrap around. It is a double for floats,
+ * which are added in the order of the rows, each rounded as IEEE 754 says; this code is tested, not
+ * proved. The rest is as in group_counts.
  */
 template <class Sums, class Codes, class Values>
 [[nodiscard]] std::optional<std::size_t> group_sums(Sums &&sums, const Codes &codes,
@@ -261,12 +265,16 @@ template <class Sums, class Codes, class Values>
     using code = detail::item_t<Codes>;
     using value = detail::item_t<Values>;
     static_assert(detail::is_code<code>(), "codes are whole numbers of 8, 16 or 32 bits");
-    static_assert(detail::is_index<value>(), "values are whole numbers of 8, 16, 32 or 64 bits");
-    using total = std::conditional_t<std::is_signed_v<value>, std::int64_t, std::uint64_t>;
-    static_assert(!detail::is_index<value>() || std::is_same_v<detail::lent_of<Sums>, total>,
-        "sums are of std::int64_t for signed values, else of std::uint64_t");
+    constexpr bool is_value = detail::is_index<value>() || detail::is_float<value>();
+    static_assert(is_value, "values are whole numbers of 8, 16, 32 or 64 bits, float or double");
+    constexpr bool is_sum = std::is_same_v<detail::lent_of<Sums>, detail::group_sum<value>>;
+    static_assert(!is_value || is_sum,
+        "sums are of std::int64_t for signed values, std::uint64_t for unsigned ones, and double "
+        "for floats");
     detail::expect(detail::size(values) == detail::size(codes), "not a value for each code");
-    if constexpr (detail::is_code<code>() && detail::is_index<value>()) {
+    if constexpr (detail::is_code<code>() && detail::is_float<value>() && is_sum) {
+        return detail::float_group_sums(view(sums.data(), detail::size(sums)), codes, values, mask);
+    } else if constexpr (detail::is_code<code>() && detail::is_index<value>()) {
         using by = detail::summed_by<sizeof(code), sizeof(value), std::is_signed_v<value>>;
         using as = typename detail::aggregated_by<sizeof(value), std::is_signed_v<value>>::type;
         const auto *terms = reinterpret_cast<const as *>(values.data());

@@ -171,6 +171,18 @@ template <class Item> constexpr bool is_index()
     return false;
 }
 
+template <class Code> constexpr bool is_code()
+{
+    return is_index<Code>() && sizeof(Code) <= 4;
+}
+
+template <class Value> constexpr bool is_float()
+{
+    return std::is_same_v<Value, float> || std::is_same_v<Value, double>;
+}
+
+template <class Values> using item_t = std::remove_cv_t<lent_t<const Values>>;
+
 template <class Out> constexpr bool is_bytes()
 {
     return std::is_same_v<lent_t<std::remove_reference_t<Out>>, std::uint8_t>;

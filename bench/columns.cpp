@@ -1,9 +1,9 @@
 /*
- * Times the predicates, filters and takes of vortex_bits_texts.hpp and plain loops over
- * std::string_view, in turn:
+ * Times the calls of C++ that no C function has, and plain loops, in turn: predicates, filters and
+ * takes of texts, sums of floats by group, bitmaps by code, and the ten greatest values.
  *
- *     c++ -std=c++17 -O2 -I bindings/c bench/texts.cpp bindings/out/libvortex_bits.a -o texts
- *     ./texts
+ *     c++ -std=c++17 -O2 -I bindings/c bench/columns.cpp bindings/out/libvortex_bits.a -o columns
+ *     ./columns
  *
  * It prints a line for each call and each size of a batch: the least time of both in 21 turns over
  * a million rows, in nanoseconds a row, and the ratio; below 1 the call is faster. It stops if two
@@ -15,6 +15,7 @@
 #include <cstdio>
 #include <cstdlib>
 #include <functional>
+#include <numeric>
 #include <random>
 #include <unordered_set>
 
@@ -27,7 +28,9 @@ using buffer = std::vector<std::uint8_t>;
 
 static const std::size_t ROWS = 1000000, TURNS = 21;
 
-/* A batch of names, one in ten of which is null. */
+static const std::size_t CODES = 100;
+
+/* A batch of rows: names, one in ten of which is null, codes and prices. */
 struct batch {
     std::size_t size() const { return offsets.size() - 1; }
     bool is_valid(std::size_t row) const { return (valid[row / 8] >> (row % 8) & 1) != 0; }
@@ -43,6 +46,8 @@ struct batch {
     std::vector<std::int32_t> offsets = {0};
     std::string bytes;
     buffer valid;
+    std::vector<std::int32_t> codes;
+    std::vector<double> prices;
 };
 
 static batch random_batch(std::size_t rows, std::mt19937 &random)
@@ -56,6 +61,8 @@ static batch random_batch(std::size_t rows, std::mt19937 &random)
         made.bytes += random() % 2 == 0 ? std::to_string(random() % 1000) : "";
         made.offsets.push_back(static_cast<std::int32_t>(made.bytes.size()));
         bits_mut(made.valid, row, 1).fill(random() % 10 != 0);
+        made.codes.push_back(static_cast<std::int32_t>(random() % CODES));
+        made.prices.push_back(static_cast<double>(random()) / 1000);
     }
     return made;
 }
@@ -187,6 +194,91 @@ static void takes(const batches &all, const std::vector<std::uint32_t> &indices)
     });
 }
 
+static std::size_t hash(const std::vector<double> &sums)
+{
+    const auto add = [](std::size_t all, double it) { return 31 * all + std::size_t(it); };
+    return std::accumulate(sums.begin(), sums.end(), std::size_t(0), add);
+}
+
+/* Sums the prices of the valid rows by code. */
+static void groups(const batches &all)
+{
+    const call ours = [](const batches &of) {
+        std::vector<double> sums(CODES);
+        for (const batch &it : of) {
+            if (vortex_bits::group_sums(sums, it.codes, it.prices, bits(it.valid, 0, it.size()))) {
+                std::abort(); // each code is one of a group
+            }
+        }
+        return hash(sums);
+    };
+    time("sum by group", all, ours, [](const batches &of) {
+        std::vector<double> sums(CODES);
+        for (const batch &it : of) {
+            for (std::size_t row = 0; row < it.size(); row++) {
+                if (it.is_valid(row)) {
+                    sums[static_cast<std::size_t>(it.codes[row])] += it.prices[row];
+                }
+            }
+        }
+        return hash(sums);
+    });
+}
+
+/* Builds a bitmap of the valid rows for each code, and counts the rows of one. */
+static void bitmaps(const batches &all)
+{
+    const call ours = [](const batches &of) {
+        vortex_bits::bitmaps_by_code made(CODES);
+        for (const batch &it : of) {
+            if (made.append(it.codes, bits(it.valid, 0, it.size()))) {
+                std::abort(); // each code is one of a bitmap
+            }
+        }
+        return made[7].count_ones();
+    };
+    time("bitmaps by code", all, ours, [](const batches &of) {
+        std::vector<buffer> made(CODES, buffer((ROWS + 7) / 8));
+        std::size_t rows = 0;
+        for (const batch &it : of) {
+            for (std::size_t row = 0; row < it.size(); row++, rows++) {
+                if (it.is_valid(row)) {
+                    std::uint8_t &byte = made[static_cast<std::size_t>(it.codes[row])][rows / 8];
+                    byte = static_cast<std::uint8_t>(byte | 1u << (rows % 8));
+                }
+            }
+        }
+        return bits(made[7], 0, rows).count_ones();
+    });
+}
+
+static void greatest(const batches &all)
+{
+    const call ours = [](const batches &of) {
+        auto best = vortex_bits::top_k<double>::greatest(10);
+        for (const batch &it : of) {
+            best.append(it.prices, bits(it.valid, 0, it.size()));
+        }
+        return best.items().back().row;
+    };
+    time("top 10", all, ours, [](const batches &of) {
+        std::vector<std::pair<double, std::size_t>> best(10, {-1.0, 0});
+        std::size_t rows = 0;
+        for (const batch &it : of) {
+            for (std::size_t row = 0; row < it.size(); row++, rows++) {
+                const double price = it.prices[row];
+                if (it.is_valid(row) && price > best.back().first) {
+                    const auto is_less = [=](const auto &one) { return one.first < price; };
+                    const auto at = std::find_if(best.begin(), best.end(), is_less);
+                    std::move_backward(at, best.end() - 1, best.end());
+                    *at = {price, rows};
+                }
+            }
+        }
+        return best.back().second;
+    });
+}
+
 static void run(std::size_t rows)
 {
     std::mt19937 random(1);
@@ -207,6 +299,9 @@ static void run(std::size_t rows)
         it = static_cast<std::uint32_t>(random() % indices.size());
     }
     takes(all, indices);
+    groups(all);
+    bitmaps(all);
+    greatest(all);
 }
 
 int main()

@@ -1,0 +1,134 @@
+/*
+ * Groups that no C function computes, a part of vortex_bits.hpp, which includes this file: a bitmap
+ * for each code, and the sums of floats of group_sums. This code is tested, not proved.
+ *
+ *     vortex_bits::bitmaps_by_code cities(3);
+ *     std::vector<std::uint8_t> codes = {2, 0, 2};
+ *     if (cities.append(codes)) { .. }             // no code is out of range
+ *     cities[2].set_indices();                     // 0, 2
+ */
+#ifndef VORTEX_BITS_GROUPS_HPP
+#define VORTEX_BITS_GROUPS_HPP
+
+#include "vortex_bits.hpp"
+
+#if __cplusplus >= 201703L
+
+namespace vortex_bits {
+
+namespace detail {
+
+/* Calls `f` with each row that the mask selects, with each of `rows` rows if there is no mask. */
+template <class F> void for_each_selected(std::size_t rows, std::optional<bits> mask, F f)
+{
+    if (mask) {
+        mask->for_each_set(f);
+        return;
+    }
+    for (std::size_t row = 0; row < rows; row++) {
+        f(row);
+    }
+}
+
+/* Returns the first selected row whose code isn't the index of one of `groups` groups. */
+template <class Codes>
+std::optional<std::size_t> wrong_code(const Codes &codes, std::optional<bits> mask,
+    std::size_t groups)
+{
+    using code = item_t<Codes>;
+    using laid = std::make_unsigned_t<code>;
+    constexpr std::size_t BLOCK = 4096;
+    const auto *first = reinterpret_cast<const laid *>(codes.data());
+    for (std::size_t row = 0; row < size(codes); row += BLOCK) {
+        const std::size_t rows = std::min(BLOCK, size(codes) - row);
+        std::array<std::uint64_t, BLOCK / 64> words = {};
+        bits_mut wrong(words, 0, rows);
+        compare(view(first + row, rows), VB_GREATER_OR_EQUAL, reached<code>(groups), wrong);
+        wrong.and_validity(mask ? std::optional<bits>(mask->slice(row, rows)) : std::nullopt);
+        if (const auto place = wrong.next_set(0)) {
+            return row + *place;
+        }
+    }
+    return std::nullopt;
+}
+
+/* Adds the selected floats, of one length with the codes, to the sums of their codes. */
+template <class Codes, class Values>
+std::optional<std::size_t> float_group_sums(view<double> sums, const Codes &codes,
+    const Values &values, std::optional<bits> mask)
+{
+    expect(!mask || mask->size() == size(codes), "not a bit of the mask for each code");
+    const auto wrong = wrong_code(codes, mask, sums.size());
+    if (!wrong) {
+        for_each_selected(size(codes), mask,
+            [sums = sums.data(), codes = codes.data(), values = values.data()](std::size_t row) {
+                sums[static_cast<std::size_t>(codes[row])] += static_cast<double>(values[row]);
+            });
+    }
+    return wrong;
+}
+
+} // namespace detail
+
+/*
+ * A bitmap for each code of a column that comes in batches: bit `row` of bitmap `code` is whether
+ * the row has the code. It owns the bitmaps.
+ */
+class bitmaps_by_code {
+public:
+    /* Bitmaps of no rows for the codes from 0 on. */
+    explicit bitmaps_by_code(std::size_t codes) : bitmaps_(codes) {}
+
+    /* Returns the number of codes, and that of rows. */
+    std::size_t codes() const { return bitmaps_.size(); }
+    std::size_t size() const { return rows_; }
+
+    /* Returns the bitmap of a code, until the next append. */
+    bits operator[](std::size_t code) const &
+    {
+        detail::expect(code < codes(), "a code is not one of the bitmaps");
+        return bits(bitmaps_[code], 0, rows_);
+    }
+    bits operator[](std::size_t code) const && = delete;
+
+    /*
+     * Appends a row for each code, a whole number of 8 to 32 bits. Rows that the mask doesn't
+     * select, such as nulls, are in no bitmap. Returns the first selected row whose code is out of
+     * range, if there is one; then it appends nothing.
+     */
+    template <class Codes>
+    [[nodiscard]] std::optional<std::size_t> append(const Codes &codes,
+        std::optional<bits> mask = std::nullopt)
+    {
+        static_assert(detail::is_code<detail::item_t<Codes>>(),
+            "codes are whole numbers of 8, 16 or 32 bits");
+        const std::size_t rows = detail::size(codes);
+        detail::expect(!mask || mask->size() == rows, "not a bit for each code");
+        if (const auto wrong = detail::wrong_code(codes, mask, bitmaps_.size())) {
+            return wrong;
+        }
+        for (buffer &bitmap : bitmaps_) {
+            bitmap.resize((rows_ + rows + 7) / 8);
+        }
+        const auto *first = codes.data();
+        detail::for_each_selected(rows, mask, [&](std::size_t row) {
+            const std::size_t bit = rows_ + row;
+            std::uint8_t &byte = bitmaps_[static_cast<std::size_t>(first[row])][bit / 8];
+            byte = static_cast<std::uint8_t>(byte | 1u << (bit % 8));
+        });
+        rows_ += rows;
+        return std::nullopt;
+    }
+
+private:
+    using buffer = std::vector<std::uint8_t>;
+
+    std::vector<buffer> bitmaps_;
+    std::size_t rows_ = 0;
+};
+
+} // namespace vortex_bits
+
+#endif
+
+#endif

@@ -1,0 +1,124 @@
+/*
+ * The greatest or the least values of a column, a part of vortex_bits.hpp, which includes this
+ * file. This code is tested, not proved.
+ *
+ *     std::vector<double> prices = {0.5, 7.5, 2.0};
+ *     auto best = vortex_bits::top_k<double>::greatest(2);
+ *     best.append(prices);
+ *     best.items();                                // 7.5 of row 1, 2.0 of row 2
+ */
+#ifndef VORTEX_BITS_TOP_HPP
+#define VORTEX_BITS_TOP_HPP
+
+#include "vortex_bits.hpp"
+
+#if __cplusplus >= 201703L
+
+namespace vortex_bits {
+
+/*
+ * The greatest or the least `k` values of a column that comes in batches, with their rows: an order
+ * by with a limit. Of equal values, such as 0.0 and -0.0, it keeps those of the first rows. It
+ * never keeps a NaN. Values are whole numbers of 8 to 64 bits, floats or doubles.
+ */
+template <class Value> class top_k {
+public:
+    struct item {
+        Value value;
+        std::size_t row;
+    };
+
+    static top_k greatest(std::size_t k) { return top_k(k, VB_GREATER); }
+    static top_k least(std::size_t k) { return top_k(k, VB_LESS); }
+
+    /* Returns at most `k` values with their rows, the best first. */
+    const std::vector<item> &items() const { return best_; }
+
+    /*
+     * Adds the values of a batch that `mask` selects, all without a mask. The first row of the next
+     * batch is the one after the last value of this one. It allocates memory for the values that it
+     * keeps, and for as many others.
+     */
+    template <class Values>
+    void append(const Values &values, std::optional<bits> mask = std::nullopt)
+    {
+        static_assert(std::is_same_v<detail::item_t<Values>, Value>,
+            "append adds values of the type of the others");
+        const std::size_t count = detail::size(values);
+        detail::expect(!mask || mask->size() == count, "not a bit for each value");
+        for (std::size_t at = 0; at < count; at += BLOCK) {
+            const std::size_t rows = std::min(BLOCK, count - at);
+            append_block(view<const Value>(values.data() + at, rows),
+                mask ? std::optional<bits>(mask->slice(at, rows)) : std::nullopt);
+        }
+    }
+
+private:
+    /* The number of rows that are compared with the last of the best at once. */
+    static constexpr std::size_t BLOCK = 4096;
+    /* The best are sorted whenever there are this number of others, or `k` if that is more. */
+    static constexpr std::size_t MORE = 64;
+
+    top_k(std::size_t k, vb_comparison order) : k_(k), order_(order) {}
+
+    bool is_before(const Value &one, const Value &other) const
+    {
+        return order_ == VB_GREATER ? one > other : one < other;
+    }
+
+    bool is_full() const { return best_.size() >= k_; }
+
+    /* The sorted ones are the first `k`, so that the last of these is the limit of new ones. */
+    void append_block(view<const Value> values, std::optional<bits> mask)
+    {
+        std::array<std::uint64_t, BLOCK / 64> words = {};
+        bits_mut rows(words, 0, values.size());
+        rows.fill(true);
+        if (k_ != 0 && is_full()) {
+            compare(values, order_, best_[k_ - 1].value, rows);
+        }
+        rows.and_validity(mask);
+        rows.for_each_set([&](std::size_t row) { add(values.data()[row], rows_ + row); });
+        rows_ += values.size();
+        keep_best();
+    }
+
+    void add(Value value, std::size_t row)
+    {
+        const bool is_better = !is_full() || (k_ != 0 && is_before(value, best_[k_ - 1].value));
+        if (!is_better || value != value) {
+            return;
+        }
+        best_.push_back({value, row});
+        if (best_.size() - std::min(best_.size(), k_) >= std::max(k_, MORE) || best_.size() == k_) {
+            keep_best();
+        }
+    }
+
+    /* Sorts the values, and drops all but the best. */
+    void keep_best()
+    {
+        if (best_.size() == sorted_) {
+            return;
+        }
+        std::sort(best_.begin(), best_.end(), [&](const item &one, const item &other) {
+            return is_before(one.value, other.value)
+                || (!is_before(other.value, one.value) && one.row < other.row);
+        });
+        best_.resize(std::min(best_.size(), k_));
+        sorted_ = best_.size();
+    }
+
+    std::size_t k_;
+    vb_comparison order_;
+    std::size_t rows_ = 0;
+    /* The first `sorted_` ones are sorted. */
+    std::vector<item> best_;
+    std::size_t sorted_ = 0;
+};
+
+} // namespace vortex_bits
+
+#endif
+
+#endif
