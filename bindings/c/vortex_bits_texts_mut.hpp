@@ -51,6 +51,13 @@ inline char *copy_text(char *to, const char *to_end, std::string_view text, cons
     return to + text.size();
 }
 
+/* Where to append texts: the next offset and the next byte, and the end of the bytes. */
+template <class Offset> struct text_space {
+    Offset *offsets;
+    char *bytes;
+    const char *end;
+};
+
 /* Makes the capacity of a container suffice for more items. It at least doubles if it grows. */
 template <class Container> void reserve(Container &of, std::size_t more)
 {
@@ -154,6 +161,8 @@ public:
     }
 
 private:
+    using space = detail::text_space<Offset>;
+
     /* Returns the sum of two numbers of bytes to append, if an offset can have that value. */
     std::size_t grown(std::size_t bytes, std::size_t more) const
     {
@@ -161,13 +170,6 @@ private:
         detail::expect(more <= most - bytes_.size() - bytes, "more bytes than an offset can have");
         return bytes + more;
     }
-
-    /* The next offset and the next byte to write, and the end of the bytes. */
-    struct space {
-        Offset *offsets;
-        char *bytes;
-        const char *end;
-    };
 
     /* Texts that were moved from have no offset. */
     void begin()
