@@ -192,6 +192,23 @@ template <class Value> static void ends_of_order(bool is_greatest)
     }
 }
 
+/* What was moved from is empty, and can be used again. */
+static void moves()
+{
+    auto best = top_k<double>::greatest(2);
+    best.append(std::vector<double>{1, 2, 3});
+    auto moved = std::move(best);
+    check(moved.items().size() == 2 && best.items().empty(), "values that were moved from");
+    best.append(std::vector<double>{5, 9, 7});
+    check(best.items().size() == 2 && best.items()[0].row == 1, "values after a move");
+    moved = best;
+    check(moved.items()[1].value == 7, "a copy");
+    bitmaps_by_code bitmaps(3);
+    check(!bitmaps.append(buffer{2, 0}), "codes in range");
+    const bitmaps_by_code others = std::move(bitmaps);
+    check(others[2][0] && bitmaps.codes() == 0 && bitmaps.size() == 0, "bitmaps that were moved");
+}
+
 static void refusals()
 {
     const buffer codes = {1, 0}, one = {1};
@@ -230,6 +247,7 @@ int main()
         ends_of_order<std::int64_t>(round % 2 == 0);
         ends_of_order<std::uint8_t>(round % 2 == 0);
     }
+    moves();
     refusals();
     return failures == 0 ? 0 : 1;
 }

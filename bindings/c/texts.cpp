@@ -144,10 +144,10 @@ template <class Offset>
 static void has(const texts_mut<Offset> &all, const std::vector<std::string> &wanted)
 {
     bool is = all.size() == wanted.size() && all.offsets().size() == wanted.size() + 1
-        && all.empty() == wanted.empty() && all.all().size() == wanted.size();
+        && all.empty() == wanted.empty() && all.as_texts().size() == wanted.size();
     std::string joined;
     for (std::size_t row = 0; is && row < wanted.size(); row++) {
-        is = all[row] == wanted[row] && all.all()[row] == wanted[row]
+        is = all[row] == wanted[row] && all.as_texts()[row] == wanted[row]
             && static_cast<std::size_t>(all.offsets()[row]) == joined.size();
         joined += wanted[row];
     }
@@ -255,7 +255,8 @@ template <class Offset> static void refusals()
     refused([&] { (void)all[2]; }, "a row");
     refused([&] { (void)all.slice(1, 2); }, "a slice");
     refused([&] { (void)all.slice(3, 0); }, "a slice");
-    refused([&] { (void)texts_mut<Offset>()[0]; }, "a row");
+    const texts_mut<Offset> none;
+    refused([&] { (void)none[0]; }, "a row");
     check(some == buffer(1), "a refused call left all as it was");
 }
 
@@ -299,7 +300,7 @@ template <class Offset> static void nothing()
     has(kept, {"", "", ""});
     const texts_mut<Offset> moved = std::move(kept);
     has(moved, {"", "", ""});
-    check(kept.empty() && kept.all().empty(), "texts that were moved from");
+    check(kept.empty() && kept.as_texts().empty(), "texts that were moved from");
     kept.append("a");
     has(kept, {"a"});
 }

@@ -358,7 +358,7 @@ public:
     template <class Words, detail::owner<Words, std::uint64_t> = 0>
     bits_mut(const Words &&words, std::size_t offset, std::size_t len) = delete;
 
-    /* Makes this the other window; it writes no bit, as copy_from does. A slice has no `=`. */
+    /* Makes this the other window. Unlike copy_from it writes no bit. A slice has no `=`. */
     bits_mut &operator=(const bits_mut &) & = default;
     bits_mut(const bits_mut &) = default;
 
@@ -432,8 +432,8 @@ public:
 
     /*
      * Takes bits of `values`, as bits::take_into writes them, where `valid`, if there is one, is
-     * true; writes false at other positions. With the codes of rows this is a whole semi-join; with
-     * other numbers, if `valid` leaves out those that index no bit:
+     * true; writes false at other positions. With the codes of rows this is a whole semi-join. With
+     * other numbers it is one too, if `valid` is false at those that index no bit:
      *
      *     bad = rows.take_of(selected_keys, codes, valid);    // the rows of these keys
      */
@@ -445,8 +445,8 @@ public:
      * Writes which of `left and right`, or of `left or right`, are true, by three-valued logic:
      * `and` is false if one is false, `or` is true if one is true, even if the other one is null;
      * else it is null if one is: this window and `valid` then both get false. A side without a
-     * validity has no null; a value at a null may be any. For `not`, negate the values, also before
-     * another such call; `&=` them with `valid` to select rows.
+     * validity has no null; a value at a null may be any. So negated values are the values of a
+     * `not`, also for another such call. To select rows, `&=` the values with `valid`.
      */
     void and_kleene_of(bits left, std::optional<bits> left_valid, bits right,
         std::optional<bits> right_valid, bits_mut valid);

@@ -37,6 +37,13 @@
 
 namespace vortex_bits {
 
+/* Declared here for the other parts, which may come before vortex_bits_compare.hpp. */
+class bits_mut;
+template <class Values, class Number>
+void compare(const Values &values, vb_comparison op, Number number, bits_mut out);
+template <class Values, class Others>
+void compare_with(const Values &values, vb_comparison op, const Others &others, bits_mut out);
+
 namespace detail {
 
 [[noreturn]] inline void refuse(const char *why)
@@ -186,6 +193,14 @@ template <class Values> using item_t = std::remove_cv_t<lent_t<const Values>>;
 template <class Out> constexpr bool is_bytes()
 {
     return std::is_same_v<lent_t<std::remove_reference_t<Out>>, std::uint8_t>;
+}
+
+/* Makes the capacity of a container suffice for more items. It at least doubles if it grows. */
+template <class Container> void reserve(Container &of, std::size_t more)
+{
+    if (of.capacity() - of.size() < more) {
+        of.reserve(std::max(of.size() + more, 2 * of.capacity()));
+    }
 }
 
 /* Calls the functions of vortex_bits_aggregate.h with a window as their mask. */

@@ -4,8 +4,8 @@
  *
  *     vortex_bits::bitmaps_by_code cities(3);
  *     std::vector<std::uint8_t> codes = {2, 0, 2};
- *     if (cities.append(codes)) { .. }             // no code is out of range
- *     cities[2].set_indices();                     // 0, 2
+ *     if (const auto row = cities.append(codes)) { .. }    // the first row with no such bitmap
+ *     cities[2].set_indices();                             // 0, 2
  */
 #ifndef VORTEX_BITS_GROUPS_HPP
 #define VORTEX_BITS_GROUPS_HPP
@@ -21,12 +21,15 @@ namespace detail {
 /* Calls `f` with each row that the mask selects, with each of `rows` rows if there is no mask. */
 template <class F> void for_each_selected(std::size_t rows, std::optional<bits> mask, F f)
 {
+    const auto each = [&](std::size_t start, std::size_t end) {
+        for (std::size_t row = start; row < end; row++) {
+            f(row);
+        }
+    };
     if (mask) {
-        mask->for_each_set(f);
-        return;
-    }
-    for (std::size_t row = 0; row < rows; row++) {
-        f(row);
+        mask->for_each_run(each);
+    } else {
+        each(0, rows);
     }
 }
 
@@ -39,11 +42,12 @@ std::optional<std::size_t> wrong_code(const Codes &codes, std::optional<bits> ma
     using laid = std::make_unsigned_t<code>;
     constexpr std::size_t BLOCK = 4096;
     const auto *first = reinterpret_cast<const laid *>(codes.data());
-    for (std::size_t row = 0; row < size(codes); row += BLOCK) {
-        const std::size_t rows = std::min(BLOCK, size(codes) - row);
+    for (std::size_t row = 0; row < detail::size(codes); row += BLOCK) {
+        const std::size_t rows = std::min(BLOCK, detail::size(codes) - row);
         std::array<std::uint64_t, BLOCK / 64> words = {};
         bits_mut wrong(words, 0, rows);
-        compare(view(first + row, rows), VB_GREATER_OR_EQUAL, reached<code>(groups), wrong);
+        vortex_bits::compare(view(first + row, rows), VB_GREATER_OR_EQUAL, reached<code>(groups),
+            wrong);
         wrong.and_validity(mask ? std::optional<bits>(mask->slice(row, rows)) : std::nullopt);
         if (const auto place = wrong.next_set(0)) {
             return row + *place;
@@ -57,10 +61,10 @@ template <class Codes, class Values>
 std::optional<std::size_t> float_group_sums(view<double> sums, const Codes &codes,
     const Values &values, std::optional<bits> mask)
 {
-    expect(!mask || mask->size() == size(codes), "not a bit of the mask for each code");
+    expect(!mask || mask->size() == detail::size(codes), "not a bit of the mask for each code");
     const auto wrong = wrong_code(codes, mask, sums.size());
     if (!wrong) {
-        for_each_selected(size(codes), mask,
+        for_each_selected(detail::size(codes), mask,
             [sums = sums.data(), codes = codes.data(), values = values.data()](std::size_t row) {
                 sums[static_cast<std::size_t>(codes[row])] += static_cast<double>(values[row]);
             });
@@ -72,12 +76,22 @@ std::optional<std::size_t> float_group_sums(view<double> sums, const Codes &code
 
 /*
  * A bitmap for each code of a column that comes in batches: bit `row` of bitmap `code` is whether
- * the row has the code. It owns the bitmaps.
+ * the row has the code. It owns the bitmaps, which have one bit per row each, so an append writes
+ * to all of them. If memory runs out, an append changes nothing.
  */
 class bitmaps_by_code {
 public:
     /* Bitmaps of no rows for the codes from 0 on. */
     explicit bitmaps_by_code(std::size_t codes) : bitmaps_(codes) {}
+
+    /* Leaves no codes and no rows. */
+    bitmaps_by_code(bitmaps_by_code &&from) noexcept : bitmaps_by_code(0) { swap(from); }
+    bitmaps_by_code(const bitmaps_by_code &) = default;
+    bitmaps_by_code &operator=(bitmaps_by_code from) noexcept
+    {
+        swap(from);
+        return *this;
+    }
 
     /* Returns the number of codes, and that of rows. */
     std::size_t codes() const { return bitmaps_.size(); }
@@ -122,6 +136,12 @@ public:
 
 private:
     using buffer = std::vector<std::uint8_t>;
+
+    void swap(bitmaps_by_code &with) noexcept
+    {
+        bitmaps_.swap(with.bitmaps_);
+        std::swap(rows_, with.rows_);
+    }
 
     std::vector<buffer> bitmaps_;
     std::size_t rows_ = 0;

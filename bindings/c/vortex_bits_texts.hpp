@@ -57,6 +57,9 @@ class wanted_texts {
 public:
     template <class Texts> explicit wanted_texts(const Texts &texts)
     {
+        using item = decltype(*std::begin(texts));
+        static_assert(std::is_lvalue_reference_v<item> || std::is_same_v<item, std::string_view>,
+            "the wanted texts are those of a container, not temporary ones");
         for (const auto &text : texts) {
             all_.emplace_back(std::string_view(text));
         }
@@ -194,7 +197,8 @@ public:
     /*
      * Each predicate writes to `out`, which has one bit per text, which texts pass. It throws
      * std::out_of_range, before it writes, if the lengths differ. Here a text passes if it compares
-     * with another one by `op`: VB_EQUAL, VB_LESS, .. of vortex_bits_compare.h.
+     * with another one by `op`: VB_EQUAL, VB_LESS, .. of vortex_bits_compare.h; if `op` is none of
+     * these, the call throws too.
      */
     void compare(vb_comparison op, std::string_view other, bits_mut out) const;
 
@@ -217,6 +221,12 @@ public:
 private:
     friend class texts_mut<Offset>;
 
+    /* Offsets that texts_mut has written need no test. */
+    texts(const std::vector<Offset> &offsets, const std::string &bytes, std::size_t len)
+        : offsets_(offsets.data()), len_(len), bytes_(bytes.data()), size_(bytes.size())
+    {
+    }
+
     /* The number of texts whose bits are computed before they are copied to the output. */
     static constexpr std::size_t BLOCK = 512;
     using block = std::array<std::uint64_t, BLOCK / 64>;
@@ -229,7 +239,7 @@ private:
             const view starts(offsets_ + row, count), ends(offsets_ + row + 1, count);
             block words = {};
             bits_mut falls(words, 0, count);
-            compare_with(ends, VB_LESS, starts, falls);
+            vortex_bits::compare_with(ends, VB_LESS, starts, falls);
             is_wrong |= falls.any();
         }
         return !is_wrong && from(len_) <= size_;

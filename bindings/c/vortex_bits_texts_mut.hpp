@@ -58,41 +58,36 @@ template <class Offset> struct text_space {
     const char *end;
 };
 
-/* Makes the capacity of a container suffice for more items. It at least doubles if it grows. */
-template <class Container> void reserve(Container &of, std::size_t more)
-{
-    if (of.capacity() - of.size() < more) {
-        of.reserve(std::max(of.size() + more, 2 * of.capacity()));
-    }
-}
-
 } // namespace detail
 
 /*
  * Texts in their own memory, which grows at its end by single texts or by those of batches. Its
  * constructor, copies and appends allocate memory. An append throws std::out_of_range, before it
  * changes anything, if the lengths of its arguments differ, or the bytes become more than the
- * largest `Offset`. Texts to append must not be its own.
+ * largest `Offset`; it appends nothing either if memory runs out. Texts to append must not be its
+ * own. `Offset` is that of texts.
  */
 template <class Offset> class texts_mut {
+    static_assert(std::is_same_v<Offset, std::int32_t> || std::is_same_v<Offset, std::int64_t>,
+        "offsets of texts are of std::int32_t or std::int64_t");
+
 public:
     std::size_t size() const { return std::max<std::size_t>(offsets_.size(), 1) - 1; }
     bool empty() const { return size() == 0; }
 
     /* The offsets, one more than texts, and the bytes, as Arrow's arrays have them. */
-    const std::vector<Offset> &offsets() const { return offsets_; }
-    const std::string &bytes() const { return bytes_; }
+    const std::vector<Offset> &offsets() const & { return offsets_; }
+    const std::string &bytes() const & { return bytes_; }
 
-    /* Returns all texts, until the next append. */
-    texts<Offset> all() const & { return texts<Offset>(offsets_, bytes_); }
-    texts<Offset> all() const && = delete;
+    /* Returns all texts, or one of them. They are valid until the next append. */
+    texts<Offset> as_texts() const & { return texts<Offset>(offsets_, bytes_, size()); }
+    std::string_view operator[](std::size_t row) const & { return as_texts()[row]; }
 
-    std::string_view operator[](std::size_t row) const
-    {
-        detail::expect(row < size(), "a row is not one of the texts");
-        const auto from = static_cast<std::size_t>(offsets_[row]);
-        return {bytes_.data() + from, static_cast<std::size_t>(offsets_[row + 1]) - from};
-    }
+    /* Deleted: temporary texts die before the result. */
+    const std::vector<Offset> &offsets() const && = delete;
+    const std::string &bytes() const && = delete;
+    texts<Offset> as_texts() const && = delete;
+    std::string_view operator[](std::size_t row) const && = delete;
 
     void append(std::string_view text)
     {
@@ -126,7 +121,8 @@ public:
     /*
      * Appends the texts at the indices, whole numbers of 8 to 64 bits, one each; where `valid` is
      * false, an empty one, whatever the index. Returns the first position that counts and whose
-     * index is out of range, if there is one; then it appends nothing.
+     * index is out of range, if there is one, and appends nothing; but if the texts before it have
+     * too many bytes, it throws.
      */
     template <class Indices>
     [[nodiscard]] std::optional<std::size_t> append_taken(texts<Offset> from,

@@ -31,13 +31,23 @@ public:
     static top_k greatest(std::size_t k) { return top_k(k, VB_GREATER); }
     static top_k least(std::size_t k) { return top_k(k, VB_LESS); }
 
+    /* Leaves no values and no rows. */
+    top_k(top_k &&from) noexcept : top_k(from.k_, from.order_) { swap(from); }
+    top_k(const top_k &) = default;
+    top_k &operator=(top_k from) noexcept
+    {
+        swap(from);
+        return *this;
+    }
+
     /* Returns at most `k` values with their rows, the best first. */
-    const std::vector<item> &items() const { return best_; }
+    const std::vector<item> &items() const & { return best_; }
+    const std::vector<item> &items() const && = delete;
 
     /*
      * Adds the values of a batch that `mask` selects, all without a mask. The first row of the next
-     * batch is the one after the last value of this one. It allocates memory for the values that it
-     * keeps, and for as many others.
+     * batch is the one after the last value of this one. It allocates memory for at most 2 * k
+     * values and 64 more, at least twice as much as before. If memory runs out, it adds nothing.
      */
     template <class Values>
     void append(const Values &values, std::optional<bits> mask = std::nullopt)
@@ -46,11 +56,14 @@ public:
             "append adds values of the type of the others");
         const std::size_t count = detail::size(values);
         detail::expect(!mask || mask->size() == count, "not a bit for each value");
+        const std::size_t most = k_ < SIZE_MAX / 2 - MORE ? k_ + extra() : SIZE_MAX;
+        detail::reserve(best_, std::min(count, most - std::min(best_.size(), most)));
         for (std::size_t at = 0; at < count; at += BLOCK) {
             const std::size_t rows = std::min(BLOCK, count - at);
             append_block(view<const Value>(values.data() + at, rows),
                 mask ? std::optional<bits>(mask->slice(at, rows)) : std::nullopt);
         }
+        keep_best();
     }
 
 private:
@@ -61,36 +74,45 @@ private:
 
     top_k(std::size_t k, vb_comparison order) : k_(k), order_(order) {}
 
+    void swap(top_k &with) noexcept
+    {
+        std::swap(k_, with.k_);
+        std::swap(order_, with.order_);
+        std::swap(rows_, with.rows_);
+        best_.swap(with.best_);
+        std::swap(sorted_, with.sorted_);
+    }
+
+    std::size_t extra() const { return std::max(k_, MORE); }
+
     bool is_before(const Value &one, const Value &other) const
     {
         return order_ == VB_GREATER ? one > other : one < other;
     }
 
-    bool is_full() const { return best_.size() >= k_; }
-
-    /* The sorted ones are the first `k`, so that the last of these is the limit of new ones. */
+    /* If there are `k` values, these are sorted, so that the last one is the limit of new ones. */
     void append_block(view<const Value> values, std::optional<bits> mask)
     {
         std::array<std::uint64_t, BLOCK / 64> words = {};
         bits_mut rows(words, 0, values.size());
-        rows.fill(true);
-        if (k_ != 0 && is_full()) {
-            compare(values, order_, best_[k_ - 1].value, rows);
+        if (k_ != 0 && sorted_ == k_) {
+            vortex_bits::compare(values, order_, best_[k_ - 1].value, rows);
+        } else if (k_ != 0) {
+            // Only a NaN isn't equal to itself.
+            vortex_bits::compare_with(values, VB_EQUAL, values, rows);
         }
         rows.and_validity(mask);
         rows.for_each_set([&](std::size_t row) { add(values.data()[row], rows_ + row); });
         rows_ += values.size();
-        keep_best();
     }
 
     void add(Value value, std::size_t row)
     {
-        const bool is_better = !is_full() || (k_ != 0 && is_before(value, best_[k_ - 1].value));
-        if (!is_better || value != value) {
+        if (sorted_ == k_ && !is_before(value, best_[k_ - 1].value)) {
             return;
         }
         best_.push_back({value, row});
-        if (best_.size() - std::min(best_.size(), k_) >= std::max(k_, MORE) || best_.size() == k_) {
+        if (best_.size() - sorted_ >= (sorted_ == k_ ? extra() : k_ - sorted_)) {
             keep_best();
         }
     }
@@ -98,13 +120,13 @@ private:
     /* Sorts the values, and drops all but the best. */
     void keep_best()
     {
-        if (best_.size() == sorted_) {
-            return;
-        }
-        std::sort(best_.begin(), best_.end(), [&](const item &one, const item &other) {
+        const auto is_first = [&](const item &one, const item &other) {
             return is_before(one.value, other.value)
                 || (!is_before(other.value, one.value) && one.row < other.row);
-        });
+        };
+        const auto added = best_.begin() + static_cast<std::ptrdiff_t>(sorted_);
+        std::sort(added, best_.end(), is_first);
+        std::inplace_merge(best_.begin(), added, best_.end(), is_first);
         best_.resize(std::min(best_.size(), k_));
         sorted_ = best_.size();
     }
