@@ -1,13 +1,13 @@
 /*
- * Times the calls of C++ that no C function has, and plain loops, in turn: predicates, filters and
- * takes of texts, sums of floats by group, bitmaps by code, and the ten greatest values.
+ * Times the C++ calls without a C function, and plain loops, in turn: predicates, filters and takes
+ * of texts, sums of floats by group, bitmaps by code, and the ten greatest values.
  *
  *     c++ -std=c++17 -O2 -I bindings/c bench/columns.cpp bindings/out/libvortex_bits.a -o columns
  *     ./columns
  *
- * It prints a line for each call and each size of a batch: the least time of both in 21 turns over
- * up to a million rows, in nanoseconds a row, and the ratio; below 1 the call is faster. It stops
- * if two results differ.
+ * It prints a line for each call and each size of a batch: the least time of the call and that of
+ * the loop in 21 turns over up to a million rows, in nanoseconds a row, and their ratio; below 1
+ * the call is faster. It stops if two results differ.
  */
 #include "vortex_bits.hpp"
 
@@ -30,7 +30,7 @@ static const std::size_t ROWS = 1000000, TURNS = 21;
 
 static const std::size_t CODES = 100;
 
-/* A batch of rows: names, one in ten of which is null, codes and prices. */
+/* A batch of rows, about one in ten of which is null: names, codes and prices. */
 struct batch {
     std::size_t size() const { return offsets.size() - 1; }
     bool is_valid(std::size_t row) const { return (valid[row / 8] >> (row % 8) & 1) != 0; }
@@ -146,7 +146,7 @@ static void predicates(const batches &all, std::string_view equal, std::string_v
         [&](auto row) { return set.count(row) != 0; });
 }
 
-/* Joins the rows of all batches that a mask selects, or that are at indices. */
+/* Joins the texts that a mask selects from each batch. */
 static void joins(const char *name, const batches &all, const buffer &mask)
 {
     const call ours = [&](const batches &of) {

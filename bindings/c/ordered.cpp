@@ -40,7 +40,7 @@ static std::size_t below(std::size_t n)
     return any() % n;
 }
 
-/* A mask of some rows, or none. */
+/* A random mask, or no mask, which selects each row. */
 struct mask {
     explicit mask(std::size_t rows) : bytes(rows / 8 + 3), offset(below(9))
     {
@@ -75,7 +75,7 @@ static std::vector<Code> random_codes(std::size_t rows, std::size_t groups, cons
     return codes;
 }
 
-/* Sets the code of a selected row, if there is one, to one out of range, and returns that row. */
+/* Sets a selected row's code to one out of range, and returns the row, if both exist. */
 template <class Code>
 static position spoiled(std::vector<Code> &codes, std::size_t groups, const mask &of)
 {
@@ -192,7 +192,7 @@ template <class Value> static void ends_of_order(bool is_greatest)
     }
 }
 
-/* What was moved from is empty, and can be used again. */
+/* An object that was moved from is empty, and can be used again. */
 static void moves()
 {
     auto best = top_k<double>::greatest(2);

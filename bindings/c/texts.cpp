@@ -20,7 +20,7 @@ using predicate = std::function<bool(std::string_view)>;
 
 static int failures = 0;
 static std::mt19937 any(1);
-/* Indices of each type are below this number. */
+/* Right indices are below this number, so that they fit each type of index. */
 static const std::size_t LOW = 100;
 
 static void check(bool holds, const char *what)
@@ -73,7 +73,7 @@ private:
     std::size_t count_, size_;
 };
 
-/* Returns a text of a few letters: texts often share beginnings and ends, and are often equal. */
+/* Returns a text over four bytes: texts often share beginnings and ends, and are often equal. */
 static std::string text()
 {
     const std::size_t kinds[] = {1, 4, 9, 12, 20, 70};
@@ -139,7 +139,7 @@ static void is_in(const texts<Offset> &all, const std::vector<std::string> &want
         [&](auto row) { return row == "a" || row == "b" || row == "ab"; }, "is_in a list");
 }
 
-/* Compares texts with those of a list, as Arrow's buffers too. */
+/* Compares texts, and their offsets and bytes, with those of a list. */
 template <class Offset>
 static void has(const texts_mut<Offset> &all, const std::vector<std::string> &wanted)
 {
@@ -305,7 +305,7 @@ template <class Offset> static void nothing()
     has(kept, {"a"});
 }
 
-/* The bytes of texts with offsets of 32 bits are at most the largest of these. */
+/* Texts with offsets of 32 bits have at most 2^31 - 1 bytes. */
 static void too_many_bytes()
 {
     const std::size_t most = std::size_t(INT32_MAX), size = most / 2 + 1;

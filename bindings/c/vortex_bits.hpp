@@ -13,9 +13,9 @@
  * does not compile. Calls test lengths, single indices and capacity, and throw std::out_of_range
  * before a write, or abort without exceptions. Takes and calls by group instead return the position
  * of the first index or code out of range; set_indices_into and set_slices_into write items up to
- * the capacity of their output. No output may overlap an input or another output. A call may read
- * all bytes of its windows' containers: vortex_bits.h says what threads may do. All parts of a
- * program need one version of C++, and exceptions in all or in none.
+ * the size of their output. No output may overlap an input or another output. A call may read all
+ * bytes of its windows' containers: vortex_bits.h says what threads may do. All parts of a program
+ * need one version of C++, and exceptions in all or in none.
  */
 #ifndef VORTEX_BITS_HPP
 #define VORTEX_BITS_HPP
@@ -83,7 +83,7 @@ public:
 
     bool operator[](std::size_t place) const
     {
-        detail::expect(place < len_, "a place is not one of the window");
+        detail::expect(place < len_, "an index is not one of the window");
         const std::size_t bit = offset_ + place;
         return (bytes_[bit / 8] >> (bit % 8) & 1) != 0;
     }
@@ -205,7 +205,7 @@ public:
         return runs;
     }
 
-    /* Writes indices or runs to the front of `out`, up to its capacity; returns their number. */
+    /* Writes indices or runs to the front of `out`, up to its size; returns their number. */
     template <class Out> std::size_t set_indices_into(Out &&out) const
     {
         using index = detail::lent_t<std::remove_reference_t<Out>>;
@@ -358,7 +358,7 @@ public:
     template <class Words, detail::owner<Words, std::uint64_t> = 0>
     bits_mut(const Words &&words, std::size_t offset, std::size_t len) = delete;
 
-    /* Makes this the other window. Unlike copy_from it writes no bit. A slice has no `=`. */
+    /* Makes this the other window. Unlike copy_from it writes no bit. A temporary has no `=`. */
     bits_mut &operator=(const bits_mut &) & = default;
     bits_mut(const bits_mut &) = default;
 
@@ -445,8 +445,8 @@ public:
      * Writes which of `left and right`, or of `left or right`, are true, by three-valued logic:
      * `and` is false if one is false, `or` is true if one is true, even if the other one is null;
      * else it is null if one is: this window and `valid` then both get false. A side without a
-     * validity has no null; a value at a null may be any. So negated values are the values of a
-     * `not`, also for another such call. To select rows, `&=` the values with `valid`.
+     * validity has no null; a value at a null may be any. So for a `not`, negate the values and
+     * keep `valid`. To select rows, `&=` the values with `valid`.
      */
     void and_kleene_of(bits left, std::optional<bits> left_valid, bits right,
         std::optional<bits> right_valid, bits_mut valid);

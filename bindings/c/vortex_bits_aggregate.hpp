@@ -146,8 +146,8 @@ struct aggregate {
 
     /*
      * Calls `call` with the totals, the codes and the mask; without a mask each row is selected.
-     * The C function reads a negative code as a large one. So it gets no more totals than the codes
-     * from 0 on can index, and a negative code is out of range.
+     * The C function reads a negative code as a large one. So it gets no more totals than the
+     * non-negative codes can index, and a negative code is out of range.
      */
     template <class Totals, class Codes, class Call>
     static std::optional<std::size_t> by_group(Totals &totals, const Codes &codes,
@@ -255,8 +255,8 @@ using group_sum = std::conditional_t<is_float<Value>(), double,
  * Adds each selected value to the sum at the index that is the code of its row. Values are whole
  * numbers of 8 to 64 bits or floats, one for each code. A sum is a std::int64_t for signed values
  * and a std::uint64_t for unsigned ones, both of which wrap around. It is a double for floats,
- * which are added in the order of the rows, each rounded as IEEE 754 says (except by -ffast-math);
- * this code is tested, not proved. The rest is as in group_counts.
+ * which are added in the order of the rows, each sum rounded as IEEE 754 says, unless you compile
+ * with -ffast-math; this code is tested, not proved. The rest is as in group_counts.
  */
 template <class Sums, class Codes, class Values>
 [[nodiscard]] std::optional<std::size_t> group_sums(Sums &&sums, const Codes &codes,

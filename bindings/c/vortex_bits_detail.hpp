@@ -206,7 +206,10 @@ template <class Container> void reserve(Container &of, std::size_t more)
 /* Calls the functions of vortex_bits_aggregate.h with a window as their mask. */
 struct aggregate;
 
-/* Returns how many of `count` items an `Index` can name: a negative one is read as too large. */
+/*
+ * Returns `count`, and for a signed `Index` at most its greatest value plus 1: a negative index,
+ * read as an unsigned number, is not below that.
+ */
 template <class Index> std::size_t reached(std::size_t count)
 {
     if constexpr (std::is_signed_v<Index>) {

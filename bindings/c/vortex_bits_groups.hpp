@@ -4,7 +4,7 @@
  *
  *     vortex_bits::bitmaps_by_code cities(3);
  *     std::vector<std::uint8_t> codes = {2, 0, 2};
- *     if (const auto row = cities.append(codes)) { .. }    // the first row with no such bitmap
+ *     if (const auto row = cities.append(codes)) { .. }    // the first row whose code is 3 or more
  *     cities[2].set_indices();                             // 0, 2
  */
 #ifndef VORTEX_BITS_GROUPS_HPP
@@ -56,7 +56,7 @@ std::optional<std::size_t> wrong_code(const Codes &codes, std::optional<bits> ma
     return std::nullopt;
 }
 
-/* Adds the selected floats, of one length with the codes, to the sums of their codes. */
+/* Adds the selected floats, one per code, to the sums of their codes, if no code is wrong. */
 template <class Codes, class Values>
 std::optional<std::size_t> float_group_sums(view<double> sums, const Codes &codes,
     const Values &values, std::optional<bits> mask)
@@ -81,7 +81,7 @@ std::optional<std::size_t> float_group_sums(view<double> sums, const Codes &code
  */
 class bitmaps_by_code {
 public:
-    /* Bitmaps of no rows for the codes from 0 on. */
+    /* Bitmaps of no rows, one for each code below `codes`. */
     explicit bitmaps_by_code(std::size_t codes) : bitmaps_(codes) {}
 
     /* Leaves no codes and no rows. */
@@ -107,8 +107,8 @@ public:
 
     /*
      * Appends a row for each code, a whole number of 8 to 32 bits. Rows that the mask doesn't
-     * select, such as nulls, are in no bitmap. Returns the first selected row whose code is out of
-     * range, if there is one; then it appends nothing.
+     * select, such as nulls, are in no bitmap. Returns the first selected row of this batch whose
+     * code is out of range, if there is one; then it appends nothing.
      */
     template <class Codes>
     [[nodiscard]] std::optional<std::size_t> append(const Codes &codes,

@@ -115,7 +115,7 @@ std::uint64_t word_of(std::size_t row, std::size_t count, const Passes &passes)
     return word;
 }
 
-/* Returns the bits of those rows for which `passes` returns true. Bit 0 is that of `row`. */
+/* Returns the bits of `rows` for which `passes` returns true. Bit 0 is that of row `row`. */
 template <class Passes>
 std::uint64_t those_that(std::uint64_t rows, std::size_t row, const Passes &passes)
 {
@@ -172,7 +172,7 @@ public:
         bytes_ = reinterpret_cast<const char *>(bytes.data());
         size_ = detail::size(bytes);
         detail::expect(detail::size(offsets) == 0 || are_offsets(),
-            "an offset of a text is less than the last one, or past the bytes");
+            "an offset of a text is negative, less than the one before it, or past the bytes");
     }
 
     std::size_t size() const { return len_; }
@@ -195,7 +195,7 @@ public:
     }
 
     /*
-     * Each predicate writes to `out`, which has one bit per text, which texts pass. It throws
+     * Each predicate writes which texts pass to `out`, which has one bit per text. It throws
      * std::out_of_range, before it writes, if the lengths differ. Here a text passes if it compares
      * with another one by `op`: VB_EQUAL, VB_LESS, .. of vortex_bits_compare.h; if `op` is none of
      * these, the call throws too.
@@ -289,9 +289,9 @@ private:
     }
 
     /*
-     * Writes what `passes` returns for each row, which is false unless the bytes from an index on
-     * begin as those of `wanted` do. `at` returns the index. It compares up to eight bytes first,
-     * even past the end of the row: most rows fail this test.
+     * Writes what `passes` returns for each row. This must be false unless `wanted` is at the index
+     * that `at` returns for the row. So up to eight bytes from there on are compared first, even
+     * outside of the row: most rows fail this test.
      */
     template <class At, class Passes>
     void write_beginning(bits_mut out, std::string_view wanted, At at, Passes passes) const
@@ -304,7 +304,7 @@ private:
             return ((word ^ first) & mask) == 0;
         };
         write_words(out, [&](std::size_t row, std::size_t count) {
-            // Whether eight bytes begin at the index of each row. An index is at most `last`, and
+            // Whether eight bytes can be read at each row's index. An index is at most `last`, and
             // at least the start of the first row less the size of `wanted`.
             const std::size_t last = from(row + count);
             const bool are_eight = from(row) >= wanted.size() && last + 8 <= size_;

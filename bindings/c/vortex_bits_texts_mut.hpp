@@ -1,5 +1,5 @@
 /*
- * Texts that grow by the ones that masks and indices select, a part of vortex_bits.hpp, which
+ * A column that grows by the texts that masks and indices select, a part of vortex_bits.hpp, which
  * includes this file. This code is tested, not proved.
  *
  *     vortex_bits::texts_mut<std::int32_t> kept;
@@ -51,7 +51,7 @@ inline char *copy_text(char *to, const char *to_end, std::string_view text, cons
     return to + text.size();
 }
 
-/* Where to append texts: the next offset and the next byte, and the end of the bytes. */
+/* Space for texts to append: the next offset, the next byte, and the end of the bytes. */
 template <class Offset> struct text_space {
     Offset *offsets;
     char *bytes;
@@ -61,11 +61,11 @@ template <class Offset> struct text_space {
 } // namespace detail
 
 /*
- * Texts in their own memory, which grows at its end by single texts or by those of batches. Its
+ * A column that owns its texts, and grows at its end by single texts or by those of batches. Its
  * constructor, copies and appends allocate memory. An append throws std::out_of_range, before it
  * changes anything, if the lengths of its arguments differ, or the bytes become more than the
- * largest `Offset`; it appends nothing either if memory runs out. Texts to append must not be its
- * own. `Offset` is that of texts.
+ * largest `Offset`; if memory runs out, it appends nothing. Texts to append must not be its own.
+ * `Offset` is that of texts.
  */
 template <class Offset> class texts_mut {
     static_assert(std::is_same_v<Offset, std::int32_t> || std::is_same_v<Offset, std::int64_t>,
@@ -75,7 +75,7 @@ public:
     std::size_t size() const { return std::max<std::size_t>(offsets_.size(), 1) - 1; }
     bool empty() const { return size() == 0; }
 
-    /* The offsets, one more than texts, and the bytes, as Arrow's arrays have them. */
+    /* The offsets, one more than texts (none after a move), and the bytes, as Arrow has them. */
     const std::vector<Offset> &offsets() const & { return offsets_; }
     const std::string &bytes() const & { return bytes_; }
 
@@ -159,7 +159,7 @@ public:
 private:
     using space = detail::text_space<Offset>;
 
-    /* Returns the sum of two numbers of bytes to append, if an offset can have that value. */
+    /* Returns the sum of two numbers of bytes to append. Throws if no offset can be their end. */
     std::size_t grown(std::size_t bytes, std::size_t more) const
     {
         const auto most = static_cast<std::size_t>(std::numeric_limits<Offset>::max());

@@ -17,9 +17,9 @@
 namespace vortex_bits {
 
 /*
- * The greatest or the least `k` values of a column that comes in batches, with their rows: an order
- * by with a limit. Of equal values, such as 0.0 and -0.0, it keeps those of the first rows. It
- * never keeps a NaN. Values are whole numbers of 8 to 64 bits, floats or doubles.
+ * The greatest or the least `k` values of a column that comes in batches, with their rows, as
+ * `order by .. limit k` of SQL. Of equal values, such as 0.0 and -0.0, it keeps those of the first
+ * rows. It never keeps a NaN. Values are whole numbers of 8 to 64 bits, floats or doubles.
  */
 template <class Value> class top_k {
 public:
@@ -46,8 +46,8 @@ public:
 
     /*
      * Adds the values of a batch that `mask` selects, all without a mask. The first row of the next
-     * batch is the one after the last value of this one. It allocates memory for at most 2 * k
-     * values and 64 more, at least twice as much as before. If memory runs out, it adds nothing.
+     * batch is the one after the last value of this one. It has memory for at most 4 * k + 128
+     * values, which at least doubles if it grows. If memory runs out, it adds nothing.
      */
     template <class Values>
     void append(const Values &values, std::optional<bits> mask = std::nullopt)
@@ -69,7 +69,7 @@ public:
 private:
     /* The number of rows that are compared with the last of the best at once. */
     static constexpr std::size_t BLOCK = 4096;
-    /* The best are sorted whenever there are this number of others, or `k` if that is more. */
+    /* The number of values, or `k` if more, that are added to `k` sorted ones before a sort. */
     static constexpr std::size_t MORE = 64;
 
     top_k(std::size_t k, vb_comparison order) : k_(k), order_(order) {}
@@ -90,7 +90,7 @@ private:
         return order_ == VB_GREATER ? one > other : one < other;
     }
 
-    /* If there are `k` values, these are sorted, so that the last one is the limit of new ones. */
+    /* From `k` values on the first `k` are sorted: a new one must be before the last of these. */
     void append_block(view<const Value> values, std::optional<bits> mask)
     {
         std::array<std::uint64_t, BLOCK / 64> words = {};
