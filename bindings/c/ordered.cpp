@@ -5,7 +5,9 @@
 #include "vortex_bits.hpp"
 
 #include <cstdio>
+#include <cstdlib>
 #include <limits>
+#include <new>
 #include <random>
 
 using vortex_bits::bits;
@@ -209,6 +211,80 @@ static void moves()
     check(others[2][0] && bitmaps.codes() == 0 && bitmaps.size() == 0, "bitmaps that were moved");
 }
 
+/* The number of requests for memory until one is refused; none is at 0. */
+static std::size_t until_refused = 0;
+
+void *operator new(std::size_t size, const std::nothrow_t &) noexcept
+{
+    void *const made = until_refused != 1 ? std::malloc(size) : nullptr;
+    until_refused -= until_refused > 1;
+    return made;
+}
+
+void *operator new(std::size_t size)
+{
+    void *const made = operator new(size, std::nothrow);
+    return made != nullptr ? made : throw std::bad_alloc();
+}
+
+#if defined(__GNUC__) && !defined(__clang__)
+// gcc inlines only one of `new` and `delete`, and then takes them for a wrong pair.
+#pragma GCC diagnostic ignored "-Wmismatched-new-delete"
+#endif
+
+void operator delete(void *made) noexcept
+{
+    std::free(made);
+}
+
+void operator delete(void *made, std::size_t) noexcept
+{
+    std::free(made);
+}
+
+/* Makes the call with each request refused in turn, until it makes no more. Returns how many. */
+template <class Call, class Unchanged> static std::size_t in_turn(Call call, Unchanged unchanged)
+{
+    for (std::size_t n = 1;; n++) {
+        until_refused = n;
+        try {
+            call();
+            until_refused = 0;
+            return n - 1;
+        } catch (const std::bad_alloc &) {
+            until_refused = 0;
+            check(unchanged(), "an append without memory changes nothing");
+        }
+    }
+}
+
+static void refused_memory()
+{
+    const std::vector<double> first = {1, 9}, more(5000, 5);
+    const buffer codes(100, 1);
+    auto best = top_k<double>::greatest(4);
+    best.append(first);
+    const auto is_first = [&] { return best.items().size() == 2 && best.items()[0].value == 9; };
+    check(in_turn([&] { best.append(more); }, is_first) == 1, "the requests of top_k");
+    check(best.items().size() == 4 && best.items()[1].row == 2, "an append after refusals");
+    bitmaps_by_code bitmaps(3);
+    const auto is_empty = [&] { return bitmaps.size() == 0 && bitmaps[1].empty(); };
+    const auto append = [&] { check(!bitmaps.append(codes), "codes in range"); };
+    // Each of three bitmaps makes a request. What one has got before a refusal, it keeps.
+    check(in_turn(append, is_empty) == 2, "the requests of bitmaps");
+    check(bitmaps[1].all() && bitmaps[1].size() == 100 && !bitmaps[2].any(), "all bitmaps");
+    const std::vector<std::int32_t> offsets = {0, 40, 80};
+    const std::string bytes(80, 'a');
+    vortex_bits::texts_mut<std::int32_t> kept;
+    const auto no_text = [&] { return kept.empty() && kept.bytes().empty(); };
+    const auto keep = [&] { kept.append_kept({offsets, bytes}, bits(codes, 0, 1).slice(0, 0)); };
+    refused(keep, "two lengths");
+    const buffer both = {3};
+    const auto keep_both = [&] { kept.append_kept({offsets, bytes}, bits(both, 0, 2)); };
+    check(in_turn(keep_both, no_text) == 2, "the requests of texts");
+    check(kept.size() == 2 && kept.bytes() == bytes, "texts after refusals");
+}
+
 static void refusals()
 {
     const buffer codes = {1, 0}, one = {1};
@@ -248,6 +324,7 @@ int main()
         ends_of_order<std::uint8_t>(round % 2 == 0);
     }
     moves();
+    refused_memory();
     refusals();
     return failures == 0 ? 0 : 1;
 }

@@ -46,8 +46,7 @@ public:
 
     /*
      * Adds the values of a batch that `mask` selects, all without a mask. The first row of the next
-     * batch is the one after the last value of this one. It has memory for at most 4 * k + 128
-     * values, which at least doubles if it grows. If memory runs out, it adds nothing.
+     * batch is the one after the last value of this one. If memory runs out, it adds nothing.
      */
     template <class Values>
     void append(const Values &values, std::optional<bits> mask = std::nullopt)
