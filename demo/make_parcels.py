@@ -36,7 +36,7 @@ def quoted(text: str) -> str:
 
 
 def main() -> int:
-    # isdigit() also holds for digits that int() doesn't read, as a superscript.
+    # isdigit() also holds for digits that int() doesn't read, such as a superscript.
     if len(sys.argv) > 2 or not all(re.fullmatch("[0-9]{1,18}", it) for it in sys.argv[1:]):
         print(__doc__)
         return 2

@@ -143,7 +143,7 @@ class Browser:
         self.ask("Input.insertText", text=text)
 
     def look(self, width: int, height: int, scheme: str, media: str = "") -> None:
-        """The size of the window, and whether the reader wants it light or dark."""
+        """Sets the size of the window, and whether the reader wants it light or dark."""
         self.ask("Emulation.setDeviceMetricsOverride", width=width, height=height,
                  deviceScaleFactor=1, mobile=width < 600)
         self.ask("Emulation.setEmulatedMedia", media=media,

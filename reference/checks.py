@@ -28,7 +28,7 @@ def declared_lines(path: Path) -> list[tuple[int, str]]:
 
 
 class Checks:
-    """What is wrong with the pages, each with its file and line."""
+    """What is wrong with the pages, and where."""
 
     def __init__(self, site: Site) -> None:
         self.site, self.library = site, site.library
@@ -46,7 +46,7 @@ class Checks:
 
     # ---- nothing is missing
     def missing(self) -> None:
-        """Each line that declares something public has an entry; what no user reaches has none."""
+        """Each line that declares something public has an entry, unless no user reaches it."""
         for crate in self.library.shown:
             for module in crate.modules.values():
                 path = self.site.root / module.file.source.path
@@ -91,7 +91,7 @@ class Checks:
             calls = [it.name for it in cited if id(it) in reached]
             names = (self.library.declared(it, declared.name) for it in given)
             if calls and not any(it is declared for it in names):
-                told = f"`{declared.name}`, which `{calls[0]}` cites, isn't given by {FACADE}"
+                told = f"`{declared.name}`, which `{calls[0]}` cites, isn't re-exported by {FACADE}"
                 self.found.append(f"{declared.place}: {told}")
 
     # ---- docstrings

@@ -14,7 +14,7 @@ NAME = re.compile(r"(operator(?:\[\]|[^\w\s(]+| \w+)|\w+(?:::\w+)*)\(")
 VARIABLE = re.compile(r"(\w+) =")
 # The list of what a constructor initializes, with all that follows.
 INITIALIZED = re.compile(r"(\)(?: const| noexcept)*)\s*:[^:].*", re.DOTALL)
-# What ends a declaration or is around a part of it; also comments and texts, which may have these.
+# Signs that end a declaration or enclose its parts; comments and strings, whose signs don't count.
 SIGN = re.compile(
     r"/\*.*?\*/|//[^\n]*|\"(?:\\.|[^\"\\])*\"|'(?:\\.|[^'\\])+'|[()\[\]{};]", re.DOTALL
 )

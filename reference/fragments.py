@@ -49,7 +49,7 @@ class Fragments:
         def found(path: str) -> str | None:
             other = self.doc_links.find(item, path)
             if other is None:
-                self.errors.append(f"{item.place}: `{path}` of its docstring isn't there")
+                self.errors.append(f"{item.place}: `{path}` in the docstring doesn't exist")
                 return None
             return page.href(self.urls.of(other))
 
@@ -190,7 +190,7 @@ class Fragments:
 
     # ---- examples
     def example(self, page: Page, item: Item, is_open: bool) -> str:
-        """The shortest function of the tests that calls an item, whole or in part."""
+        """The shortest example that calls an item, whole or in part."""
         call = self.examples.best.get(id(item))
         if call is None:
             return ""

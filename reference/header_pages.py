@@ -26,7 +26,7 @@ class HeaderPages:
         def found(name: str) -> str | None:
             url = self.languages.urls.get(name)
             if url is None:
-                self.fragments.errors.append(f"{place}: `{name}` of its comment isn't there")
+                self.fragments.errors.append(f"{place}: `{name}` in the comment doesn't exist")
                 return None
             return page.href(url)
 

@@ -200,7 +200,7 @@ class ItemPages:
         self.calls(page, item)
         found = self.library.impls_for_trait(item)
         if found:
-            page.add(tag("h2", "Who has it", id="implementations"))
+            page.add(tag("h2", "Implementations", id="implementations"))
         for impl, _ in found:
             self.implementation(page, impl)
 
@@ -209,7 +209,7 @@ class ItemPages:
         others = self.library.re_exported_by(item)
         if others:
             names = ", ".join(page.link(f"{it}/index.html", tag("code", it)) for it in others)
-            page.add(tag("p", f"Also given by {names}.", class_="given"))
+            page.add(tag("p", f"Also re-exported by {names}.", class_="given"))
 
     def nav(self, page: Page, item: Item) -> None:
         crate = page.link(f"{item.crate}/index.html", escape(item.crate))

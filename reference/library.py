@@ -10,7 +10,7 @@ from reference.rust_heads import base_name, impl_parts, use_names
 from reference.rust_items import File, Item, parse
 from reference.rust_text import Source
 
-FOR_TESTS = ("vb_testing",)  # the library on which tests alone stand
+FOR_TESTS = ("vb_testing",)  # the library for tests
 NAMED = {"fn", "struct", "enum", "trait", "type", "const", "static"}
 Path_ = tuple[str, ...]
 

@@ -7,7 +7,7 @@ from reference.antt_text import Word, words_of
 from reference.library import Library
 from reference.scopes import BUILTINS, LOCAL, PRELUDE, Scope, Scopes, Shape, Target
 
-PASSED = {"now", "old", "new", "entry", "exit"}  # of what a reference lends, and of a parameter
+PASSED = {"now", "old", "new", "entry", "exit"}  # states of a lent value, and of a parameter
 
 
 @dataclass

@@ -1,5 +1,5 @@
 // The search: names.js has what can be found, as [name, kind, address, sentence, crate or header,
-// users, words, language]: `users` where users have it, and other words of the field that find it.
+// users, words, language]: users is "users" if users have it, words are others that find it.
 (() => {
   "use strict";
   const MOST = 40;

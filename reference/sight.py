@@ -12,7 +12,7 @@ from reference.scopes import Scope
 
 SAYS = {
     "Value": "its value is a",
-    "view": "made of its parts",
+    "view": "built from its parts",
     "invariant": "always holds",
     "inverse": "and back",
     "also_owns": "also owns",
@@ -66,7 +66,7 @@ class Sight:
             folded = tag("details", summary + table, class_="glossary")
             page.add(folded if is_folded else table)
         else:
-            page.add(tag("p", "That there is one."))
+            page.add(tag("p", "A clause sees that a value exists."))
 
     def part(self, page: Page, field: Item) -> str:
         """A field with its type. A clause sees it even if it is private."""
@@ -85,7 +85,7 @@ class Sight:
             rows.append(self.fragments.row(page, SAYS.get(it.name, it.name), "", linked))
             if it.name == "Value":
                 self.value(page, linked)
-        summary = tag("summary", "How its value is made of its parts")
+        summary = tag("summary", "How its value is built from its parts")
         table = tag("table", "".join(rows), class_="contract")
         page.add(tag("details", summary + table, class_="glossary"))
 

@@ -1,4 +1,4 @@
-"""All pages: made, checked, and written into a folder."""
+"""All pages: made, and written into a folder."""
 import json
 import re
 import shutil

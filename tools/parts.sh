@@ -1,8 +1,9 @@
 # Shared by the commands that run for long; source it. A command calls `begin`, then `part` for each
 # of its parts, then `try` for each test. This file prints the number of the part that runs, each
-# crate when it is proved, and about how long the rest takes. It writes all output to a file, whose
-# name it prints first and last. Its last lines, also after an interrupt, are the failures, each
-# with the end of its output, and 'N passed, M failed'. The exit status is 0 only if nothing failed.
+# crate when it is proved, and about how long the rest takes. It writes all output to a file, and
+# prints the file's name at the start and in the summary. The summary comes last, also after an
+# interrupt: the failures, the first five with the end of their output, and 'N passed, M failed'.
+# The exit status is 0 only if nothing failed.
 # shellcheck shell=bash
 
 # The repository whose crates are proved.
@@ -234,7 +235,7 @@ try() {
     trying=
 }
 
-# Runs the command as `try` does, and exits if it failed.
+# Runs the command as `try` does, and exits if it or an earlier one failed.
 must() {
     try "$@"
     [ "$failed" -eq 0 ] || exit 1

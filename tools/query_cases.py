@@ -1,7 +1,8 @@
 """Command lines for `run_query`, with the output that SQLite and demo/'s program give for them.
 
-`of_query` returns the cases for tools/check-program. Rows, counts, sums and ends come from SQLite,
-which Python has; reports and pictures from demo/'s program, if `demo/query` has built it.
+`of_query` returns the cases for tools/check-program. Rows, counts and extremes come from SQLite,
+which Python has, and sums from its rows; reports and pictures come from demo/'s program, if
+`demo/query` has built it.
 """
 import csv
 import io
@@ -404,6 +405,7 @@ def of_query() -> list[Query]:
     """Returns the cases. A line on standard error names those that are left out without demo/'s
     program."""
     if not DEMO.is_file():
-        print(f"not compared: {SEEDS} reports and pictures of run_query, since there is no "
+        left_out = SEEDS + len(PICTURES)
+        print(f"not compared: {left_out} reports and pictures of run_query, since there is no "
               "demo/target/release/query; demo/query builds it", file=sys.stderr)
     return [*fixed(), *more(), *(case for seed in range(SEEDS) for case in of_seed(seed))]

@@ -25,7 +25,7 @@ pub struct Bench {
     pub level: String,
     /// How long the rounds of a row go on.
     budget: Duration,
-    /// The run measures only rows that have this word.
+    /// The run measures only the rows and parts that have this word.
     word: String,
     /// Where rows go as lines of JSON.
     lines: BufWriter<File>,
@@ -70,8 +70,8 @@ impl Bench {
         self.times.with_those_before(&best(contenders, self.budget))
     }
 
-    /// Measures a row, after a test that all of its `equals` return the same. At x86-64-v4 only
-    /// rows of counts have targets.
+    /// Measures a row, after a test that all of its `equals` return the same. At x86-64-v4 it
+    /// ignores the targets, except those of counts.
     pub fn row(&mut self, row: Row) {
         let has_targets = self.level != "x86-64-v4" || self.part == "Counts";
         let row = if has_targets {

@@ -330,7 +330,7 @@ pub fn take<I: Copy>(bytes: &[u8], indices: &[I], place: impl Fn(I) -> usize) ->
     collect(indices.len(), |i| bit(place(indices[i])))
 }
 
-/// The bits at indices, false where a validity is.
+/// The bits at indices; false where the validity is false.
 #[inline(never)]
 pub fn take_valid<I: Copy>(
     bytes: &[u8],

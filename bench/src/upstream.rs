@@ -368,8 +368,8 @@ pub fn filter_bits(bits: &BitBuffer, mask: &BitBuffer) -> usize {
     used(kept.freeze())
 }
 
-/// Sets a bit at each index that a mask selects and that gets a true bit. Returns the number of
-/// selected indices.
+/// Sets the bit at each index that a mask selects if the bit deposited there is true. Returns the
+/// number of selected indices.
 #[inline(never)]
 pub fn deposit(bits: &BitBuffer, mask: &BitBuffer) -> usize {
     let (mut made, mut at) = (BitBufferMut::new_unset(mask.len()), 0);

@@ -63,7 +63,7 @@ fn by_ones(mut word: u64, mut call: impl FnMut(usize)) {
 }
 
 /// Calls a closure with each value that a mask selects: a word of the mask whose bits are all set
-/// selects 64 values in a row, any other one those at its ones.
+/// selects 64 values in a row, any other word the values at its set bits.
 #[inline(always)]
 fn by_selected<T: Copy>(values: &[T], mask: Window, mut call: impl FnMut(usize, T)) {
     by_words(mask.len, |at, many| {
@@ -436,7 +436,7 @@ pub fn masked_min<T: Copy + Ord>(values: &[T], mask: Window) -> Option<T> {
     least
 }
 
-/// Adds the number of selected rows to the count of each code. Returns whether all codes have one.
+/// Adds each selected row to the count of its code. Returns whether each such code has a count.
 #[inline(never)]
 pub fn group_counts(counts: &mut [u64], codes: &[u32], mask: Window) -> bool {
     let mut good = true;
@@ -447,7 +447,7 @@ pub fn group_counts(counts: &mut [u64], codes: &[u32], mask: Window) -> bool {
     good
 }
 
-/// Adds each selected value to the sum of its code. Returns whether all codes have one.
+/// Adds each selected value to the sum of its code. Returns whether each such code has a sum.
 #[inline(never)]
 pub fn group_sums(sums: &mut [i64], codes: &[u32], values: &[i64], mask: Window) -> bool {
     let mut good = true;

@@ -75,7 +75,7 @@ enum { VALUES = 300, BYTES = VALUES / 8 + 3, ROUNDS = 200, COMPARISONS = 6 };
                 && !vb_try_compare_with_##T(got[3], BYTES, SIZE_MAX, values, n, op, others, n),   \
             "a bad number of a comparison of " #T);                                               \
         check(memcmp(got[2], wanted[0], BYTES) == 0 && memcmp(got[3], wanted[1], BYTES) == 0,     \
-            "what stands after a refusal");                                                       \
+            "what a refusal leaves");                                                             \
     }
 
 /*

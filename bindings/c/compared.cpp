@@ -114,7 +114,7 @@ template <class Value, class... Number> static void compare_with_types()
     compare<Value, fruit>({apple, pear});
 }
 
-/* Whole numbers with whole ones, and floats with numbers of each type. */
+/* Compares values of each type with whole numbers of each type. */
 template <class... Value> static void compare_whole_with_types()
 {
     (compare_with_types<Value, std::int8_t, std::uint8_t, std::int16_t, std::uint16_t, std::int32_t,
@@ -137,7 +137,7 @@ static void known()
     vortex_bits::compare(days, VB_GREATER_OR_EQUAL, std::uint64_t{1} << 32, window);
     check(out[0] == 0xF0, "one whose low bits are 0");
     vortex_bits::compare(std::vector<std::int8_t>{5, -1, 100, -128}, VB_LESS, 300, window);
-    check(out[0] == 0xFF, "a number of 16 bits beside values of 8");
+    check(out[0] == 0xFF, "a number of 16 bits with values of 8");
     vortex_bits::compare(std::vector<unsigned>{5, 6, 7, 8}, VB_EQUAL, -1, window);
     check(out[0] == 0xF0, "-1 is no unsigned number");
     vortex_bits::compare(std::vector<double>{0x1p53, 0x1p53 + 2, 0.0, 1.0}, VB_EQUAL,

@@ -48,7 +48,7 @@ static void walk(const uint8_t *bytes, size_t offset, size_t len, size_t room)
     check(vb_set_indices_u32(narrow, room, bytes, BYTES, offset, len) == found,
         "vb_set_indices_u32");
     for (size_t k = 0; k < found; k++) {
-        check(narrow[k] == places[k], "a place of 32 bits");
+        check(narrow[k] == places[k], "an index of 32 bits");
     }
     const size_t slices = vb_set_slices(runs, room, bytes, BYTES, offset, len);
     check(vb_try_set_slices(runs, room, bytes, BYTES, offset, len, &count) && count == slices,
@@ -101,13 +101,13 @@ static void stops(uint8_t *bytes, size_t behind)
     bytes[1] = 0x15;
     bytes[BYTES - 1] = 0x20;
     check(vb_set_indices(places, 4, bytes, size, 0, 8 * size) == 4 && places[3] == BITS - 3,
-        "the last place before memory ends");
+        "the last index before memory ends");
     check(vb_set_slices(runs, 4, bytes, size, 3, 8 * size - 3) == 4 && runs[3].start == BITS - 6
             && runs[3].end == BITS - 5, "the last run before memory ends");
     check(vb_set_slices_u32(narrow_runs[0], 4, bytes, size, 3, 8 * size - 3) == 4
             && narrow_runs[0][3].start == BITS - 6, "the last run of 32 bits before memory ends");
     check(vb_set_slices_u32(narrow_runs[0], 0, bytes, size, BITS, 8 * behind) == 0, "no room");
-    check(vb_set_indices(places, 0, bytes, size, 8 * size, 0) == 0, "no room and no bits");
+    check(vb_set_indices(places, 0, bytes, size, 8 * size, 0) == 0, "no space and no bits");
     check(vb_set_slices(runs, 0, bytes, size, BITS, 8 * behind) == 0, "no room");
 }
 
@@ -119,9 +119,9 @@ static void fits(uint8_t *bytes, size_t behind)
     for (size_t len = 1; len < 200; len++) {
         const size_t from = BITS - len;
         check(vb_set_indices(places, len, bytes, size, from, len) == len
-                && places[len - 1] == len - 1, "places up to the end of a page");
+                && places[len - 1] == len - 1, "indices up to the end of a page");
         check(vb_set_indices_u32(narrow, len, bytes, size, from, len) == len
-                && narrow[len - 1] == len - 1, "places of 32 bits up to the end of a page");
+                && narrow[len - 1] == len - 1, "indices of 32 bits up to the end of a page");
         check(vb_set_slices(runs, len, bytes, size, from, len) == 1 && runs[0].end == len,
             "a run up to the end of a page");
         check(vb_set_slices_u32(narrow_runs[0], len, bytes, size, from, len) == 1
@@ -147,16 +147,16 @@ static void longest(void)
     bytes[all / 8] = 0x0F;
     check(vb_try_set_indices_u32(narrow, 6, bytes, size, 4, all, &count) && count == 5
             && narrow[0] == 1 && narrow[1] == UINT32_MAX - 3 && narrow[4] == UINT32_MAX,
-        "the last places of 32 bits");
+        "the last indices of 32 bits");
     check(!vb_try_set_indices_u32(narrow, 6, bytes, size, 3, all + 1, &count) && count == 5,
-        "a window of more bits than 32 bits count");
+        "a window too long for indices of 32 bits");
     check(vb_try_set_indices(places, 1, bytes, size, 5, all + 1, &count) && count == 1
-            && places[0] == 0, "the same window of other places");
+            && places[0] == 0, "a window as long, with indices of size_t");
     check(vb_try_set_slices_u32(narrow_runs[0], 6, bytes, size, 5, all - 1, &count) && count == 2
             && narrow_runs[0][0].end == 1 && narrow_runs[0][1].start == UINT32_MAX - 4
             && narrow_runs[0][1].end == UINT32_MAX, "the last run of 32 bits");
     check(!vb_try_set_slices_u32(narrow_runs[0], 6, bytes, size, 5, all, &count) && count == 2,
-        "a window whose end 32 bits don't count");
+        "a window whose end doesn't fit 32 bits");
     munmap(zeros, size);
 }
 

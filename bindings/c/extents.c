@@ -97,7 +97,7 @@ static bool holds(const struct writer *it, size_t at, size_t bit, size_t count)
 }
 
 /*
- * Makes its calls for `count` bits, or items, from each bit of a byte on, at both ends of the
+ * Calls a function for `count` bits, or items, from each bit of a byte on, at both ends of the
  * writable pages.
  */
 static bool holds_of(const struct writer *it, size_t count)

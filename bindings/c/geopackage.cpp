@@ -23,7 +23,7 @@
 #include <gdal.h>
 #include <ogr_api.h>
 
-/* A mask of a batch, in bytes of its own. */
+/* A mask of a batch, with its own bytes. */
 struct mask {
     explicit mask(std::size_t len) : bytes((len + 7) / 8), len(len) {}
 
@@ -116,7 +116,7 @@ template <class T> struct kept {
         taken.valid.resize((at.size() + 7) / 8);
         const bool fails = vortex_bits::take_values(values, at, taken.values)
             || bits_mut(taken.valid, 0, at.size()).take_of(bits(valid, 0, values.size()), at);
-        must(!fails, "an index is not one of a row");
+        must(!fails, "an index is past the rows");
         return taken;
     }
 

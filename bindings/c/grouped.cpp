@@ -44,7 +44,7 @@ static void floats()
     const std::array<float, 2> zeros = {0.0f, -0.0f};
     check(std::signbit(*masked_min(zeros, bits(mask, 1, 2))), "-0.0 is less than 0.0");
     check(!std::signbit(*masked_max(zeros, bits(mask, 1, 2))), "0.0 is greater than -0.0");
-    check(!masked_max(std::vector<double>(3, nan), bits(mask, 1, 3)), "of no numbers");
+    check(!masked_max(std::vector<double>(3, nan), bits(mask, 1, 3)), "the greatest of no numbers");
     refused([&] { (void)masked_sum(weights, bits(mask, 0, 5)); }, "too few bits of a mask");
 }
 

@@ -67,15 +67,15 @@ static void filters(void)
     memcpy(wanted, before, BYTES);
     begin();
     check(!vb_try_filter_bits(got, BYTES, BITS + 1 - kept, left, BYTES, v, right, BYTES, m, len,
-        &written), "a filter without room");
+        &written), "a filter without space");
     check(!vb_try_filter_bits(got, BYTES, 0, left, BYTES, BITS + 1 - len, right, BYTES, m, len,
         &written), "a filter of bits that don't exist");
     check(!vb_try_filter_bits(got, BYTES, 0, left, BYTES, v, right, BYTES, SIZE_MAX, len + 1,
-        &written), "a filter by a mask past every place");
+        &written), "a filter by a mask past every index");
     check(!vb_try_filter_bits(got, BYTES, SIZE_MAX, left, BYTES, v, right, BYTES, m, len,
-        &written) || kept == 0, "a filter to a place past every one");
-    check(written == 77, "what a refused filter answers");
-    wrote("what stands after a refused filter");
+        &written) || kept == 0, "a filter to an index past every one");
+    check(written == 77, "what a refused filter returns");
+    wrote("what a refused filter leaves");
 }
 
 static void packs(void)
@@ -104,8 +104,8 @@ static void packs(void)
     check(!vb_try_pack_bools(got, BYTES, BITS + 1 - n, bools, n)
             && !vb_try_pack_truthy(got, BYTES, BITS + 1 - n, left, n)
             && !vb_try_pack_bools(got, BYTES, SIZE_MAX, bools, n + 1)
-            && !vb_try_pack_truthy(got, BYTES, SIZE_MAX, left, n + 1), "a pack without room");
-    wrote("what stands after a refused pack");
+            && !vb_try_pack_truthy(got, BYTES, SIZE_MAX, left, n + 1), "a pack without space");
+    wrote("what a refused pack leaves");
 }
 
 /* Moves bits within one bitmap, mostly with overlap. */
@@ -131,7 +131,7 @@ static void moves(void)
             && !vb_try_move_bits(got, BYTES, to, BITS + 1 - len, len)
             && !vb_try_move_bits(got, BYTES, SIZE_MAX, from, len + 1)
             && !vb_try_move_bits(got, BYTES, to, SIZE_MAX, len + 1), "a move past the bits");
-    wrote("what stands after a refused move");
+    wrote("what a refused move leaves");
 }
 
 /* A validity, or none: a null pointer of no bytes, with any offset. */
@@ -215,8 +215,8 @@ static void filters_of_validities(void)
     check(!vb_try_filter_validity(got, BYTES, BITS + 1 - kept, OF(one), right, BYTES, m, len,
             &written)
         && !vb_try_filter_validity(got, BYTES, 0, OF(one), right, BYTES, BITS + 1 - len, len,
-            &written) && written == 77, "a filter of a validity without room, or without a mask");
-    wrote("what stands after a refused filter");
+            &written) && written == 77, "a filter of a validity without space, or without a mask");
+    wrote("what a refused filter leaves");
 }
 
 /*
@@ -246,7 +246,7 @@ static void no_validities(void)
             && !vb_try_filter_validity(got, BYTES, 0, left, 0, 0, right, BYTES, 0, 8, &number)
             && !vb_try_filter_validity(got, BYTES, 0, NULL, 0, 0, NULL, 1, 0, 8, &number)
             && number == 77, "what is no missing validity");
-    wrote("what stands after a refused validity");
+    wrote("what a refused validity leaves");
 }
 
 /* Compares the outputs of vb_take_bits_I and its checked form with a loop. */
@@ -281,7 +281,7 @@ static void no_validities(void)
                     all, all ? NULL : right, all ? 0 : BYTES, v);                                 \
             }                                                                                     \
             check(taken.out_of_range == (past < n) && (past == n || taken.position == past),      \
-                "the position that vb_take_bits_" #I " answers");                                 \
+                "the position that vb_take_bits_" #I " returns");                                 \
             for (size_t i = 0; past < n && i < n; i++) {                                          \
                 put(got, o + i, bit(wanted, o + i));                                              \
             }                                                                                     \
@@ -298,8 +298,8 @@ static void no_validities(void)
                 n, true, NULL, 0, 0, &kept)                                                       \
             && !vb_try_take_bits_##I(got, BYTES, 0, left, BYTES, offset, len, indices, n,         \
                 false, right, BYTES, BITS + 1 - n, &kept), "bad numbers of a take");              \
-        check(kept.out_of_range && kept.position == 77, "what a refused take answers");           \
-        wrote("what stands after a refused take");                                                \
+        check(kept.out_of_range && kept.position == 77, "what a refused take returns");           \
+        wrote("what a refused take leaves");                                                      \
     }
 
 TAKES(u8, uint8_t)

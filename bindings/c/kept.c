@@ -113,10 +113,10 @@ static void deposits(const uint8_t *bytes, size_t v, const uint8_t *mask, size_t
     check(vb_try_deposit_bits(got[1], BYTES, o, bytes, BYTES, v, mask, BYTES, m, len),
         "the checked deposit");
     check(memcmp(got[0], wanted, BYTES) == 0 && memcmp(got[1], wanted, BYTES) == 0,
-        "bits that go back");
+        "bits that are deposited");
     check(ones == 0 || !vb_try_deposit_bits(got[1], BYTES, o, bytes, (v + ones - 1) / 8, v, mask,
             BYTES, m, len), "a deposit of too few bits");
-    check(memcmp(got[1], wanted, BYTES) == 0, "what stands after a refusal");
+    check(memcmp(got[1], wanted, BYTES) == 0, "what a refusal leaves");
 }
 
 /* Returns the truth value of a row of a column; 2 if it is null. */
@@ -208,11 +208,11 @@ static void three_valued(const uint8_t *left, size_t l, const uint8_t *left_vali
         }                                                                                         \
         const size_t room = ones + random_below(len - ones + 1);                                  \
         check(vb_scatter_values_##V(got[0], len, values, room, mask, BYTES, m) == ones,           \
-            "how many values of " #V " go back");                                                 \
+            "how many values of " #V " are scattered");                                           \
         check(vb_try_scatter_values_##V(got[1], len, values, ones, mask, BYTES, m, &written)      \
-                && written == ones, "how many of " #V " go back, checked");                       \
+                && written == ones, "how many of " #V " are scattered, checked");                 \
         check(memcmp(got[0], wanted, sizeof wanted) == 0                                          \
-                && memcmp(got[1], wanted, sizeof wanted) == 0, "values of " #V " that go back");  \
+                && memcmp(got[1], wanted, sizeof wanted) == 0, "scattered values of " #V);        \
         check(ones == 0 || !vb_try_scatter_values_##V(got[1], len, values, ones - 1, mask, BYTES, \
                 m, &written), "too few values of " #V);                                           \
         check(!vb_try_scatter_values_##V(got[1], len, values, len, mask, (m + len) / 8, m + 8,    \
@@ -342,7 +342,7 @@ static void filters(const uint8_t *bytes, size_t v, const uint8_t *mask, size_t 
     for (size_t k = 0; k < 2 && ones < BITS; k++) {
         check(u8[k][ones] == 0xA5 && u16[k][ones] == 0xA5A5 && u32[k][ones] == 0xA5A5A5A5u
                 && u64[k][ones] == 0xA5A5A5A5A5A5A5A5u
-                && u128[k][ones].low == 0xA5A5A5A5A5A5A5A5u, "memory behind what is kept");
+                && u128[k][ones].low == 0xA5A5A5A5A5A5A5A5u, "memory behind the selected values");
     }
 }
 
@@ -368,15 +368,15 @@ static void bad_filters(const uint8_t *bytes, size_t offset, size_t len)
     for (size_t m = 7; m < 9; m++) {
         const size_t room = m == 7 ? 8 : 9;
         check(!vb_try_filter_values_u8(u8, room, u8, 9, ones, 2, m, &number),
-            "no room, or a bad mask");
+            "no space, or a bad mask");
         check(!vb_try_filter_values_u16(u16, room, u16, 9, ones, 2, m, &number),
-            "no room, or a bad mask");
+            "no space, or a bad mask");
         check(!vb_try_filter_values_u32(u32, room, u32, 9, ones, 2, m, &number),
-            "no room, or a bad mask");
+            "no space, or a bad mask");
         check(!vb_try_filter_values_u64(u64, room, u64, 9, ones, 2, m, &number),
-            "no room, or a bad mask");
+            "no space, or a bad mask");
         check(!vb_try_filter_values_u128(u128, room, u128, 9, ones, 2, m, &number),
-            "no room, or a bad mask");
+            "no space, or a bad mask");
     }
     check(got[0] == 0x5A && number == 77, "a refused filter left all as it was");
 }

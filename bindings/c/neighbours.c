@@ -28,8 +28,8 @@ struct side {
 static uint64_t memory[OUTS][BYTES / 8];
 
 /*
- * Sets up the side whose bytes begin at byte `at`, for `count` bits from bit `bit` of that byte on,
- * or items.
+ * Sets up the side whose bytes begin at byte `at`, for `count` items, or `count` bits from bit
+ * `bit` of that byte on.
  */
 static void make_side(struct side *it, size_t at, size_t bit, size_t count)
 {

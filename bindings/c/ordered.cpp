@@ -66,7 +66,7 @@ static std::size_t some_rows()
     return below(10) == 0 ? 4000 + below(5000) : below(200);
 }
 
-/* Codes below `groups`, but any code where the mask selects no row. */
+/* Codes below `groups`; any code in rows that the mask doesn't select. */
 template <class Code>
 static std::vector<Code> random_codes(std::size_t rows, std::size_t groups, const mask &of)
 {
@@ -211,7 +211,7 @@ static void moves()
     check(others[2][0] && bitmaps.codes() == 0 && bitmaps.size() == 0, "bitmaps that were moved");
 }
 
-/* The number of requests for memory until one is refused; none is at 0. */
+/* The number of the first allocation to fail, counted from 1; 0 if none fails. */
 static std::size_t until_refused = 0;
 
 void *operator new(std::size_t size, const std::nothrow_t &) noexcept
@@ -242,7 +242,7 @@ void operator delete(void *made, std::size_t) noexcept
     std::free(made);
 }
 
-/* Makes the call with each request refused in turn, until it makes no more. Returns how many. */
+/* Makes the call with allocation 1, 2, .. failing, until it succeeds. Returns how many failed. */
 template <class Call, class Unchanged> static std::size_t in_turn(Call call, Unchanged unchanged)
 {
     for (std::size_t n = 1;; n++) {
@@ -270,7 +270,7 @@ static void refused_memory()
     bitmaps_by_code bitmaps(3);
     const auto is_empty = [&] { return bitmaps.size() == 0 && bitmaps[1].empty(); };
     const auto append = [&] { check(!bitmaps.append(codes), "codes in range"); };
-    // Each of three bitmaps makes a request. What one has got before a refusal, it keeps.
+    // Each of three bitmaps allocates, and keeps its memory if a later one fails.
     check(in_turn(append, is_empty) == 2, "the requests of bitmaps");
     check(bitmaps[1].all() && bitmaps[1].size() == 100 && !bitmaps[2].any(), "all bitmaps");
     const std::vector<std::int32_t> offsets = {0, 40, 80};

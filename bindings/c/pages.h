@@ -112,7 +112,7 @@ static void keep(void)
 static void unchanged(const char *name)
 {
     for (size_t k = 0; k < ARENAS; k++) {
-        check(memcmp(arena[k], before[k], ROOM) == 0, name, "what a refused call left");
+        check(memcmp(arena[k], before[k], ROOM) == 0, name, "what a failed call left");
     }
 }
 

@@ -350,7 +350,7 @@ static void print_answer(const struct answer *answer)
     print_place("first", answer->first);
     print_place("n-th", answer->nth);
     printf("%zu nulls, %zu flags\n", answer->nulls, answer->flags);
-    printf("%zu rows at places, %zu nulls of c\n", answer->taken, answer->taken_nulls);
+    printf("%zu rows at indices, %zu nulls of c\n", answer->taken, answer->taken_nulls);
 }
 
 /* Returns the time of one answer in milliseconds, or `least` if that is less. */

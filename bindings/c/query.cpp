@@ -22,7 +22,7 @@ struct answer {
     std::vector<std::uint8_t> c_valid;
     std::int64_t sum_b = 0;
     double sum_c = 0;
-    /* The first selected row, and the selected row number n, counted from 0. */
+    /* The first selected row, and the selected row number `nth`, counted from 0. */
     std::optional<std::size_t> first, found;
     std::size_t nulls = 0, flags = 0;
     /* The values of b at some of the selected rows, and the number of nulls of c there. */

@@ -117,7 +117,7 @@ static void wants(bits window, bits other)
     const bool moved = !throws<std::bad_alloc>([&] { to = ranks(std::move(to)); });
     has_memory = true;
     check(thrown && made && counted, "a copy without memory");
-    check(moved, "a move asks for memory");
+    check(moved, "a move allocates");
     check(is_of(to, other) && is_of(from, window), "an assignment without memory");
     to = from;
     check(is_of(to, window) && is_of(from, window), "the same with memory");

@@ -94,7 +94,7 @@ static bool same_taken(vb_taken a, vb_taken b)
                 sizeof(index_t), all, mask, BYTES, v), wanted)                                    \
                 && vb_try_take_values(got[2], VALUES, values, VALUES, size, indices, n,           \
                     sizeof(index_t), all, mask, BYTES, v, &past) && same_taken(past, wanted),     \
-            "the position that a take of " #V " by " #I " answers");                              \
+            "the position that a take of " #V " by " #I " returns");                              \
         check(memcmp(got[0], got[1], sizeof got[0]) == 0                                          \
                 && memcmp(got[0], got[2], sizeof got[0]) == 0,                                    \
             "what a take of " #V " by " #I " writes");                                            \

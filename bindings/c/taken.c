@@ -1,5 +1,5 @@
 /*
- * Compares the values at indices of vortex_bits.h with a loop over positions: each function over
+ * Compares the takes (gathers) of vortex_bits.h with a loop over positions: each function over
  * random values, indices and validities, in some rounds with an index out of range at a random
  * position, and each checked form with numbers past every limit. It is C and C++ alike.
  */
@@ -57,7 +57,7 @@ static void make(void *value, size_t size, size_t i)
             all ? 0 : BYTES, v, &takes[1]), "vb_try_take_values_" #V "_" #I);                     \
         for (size_t k = 0; k < 2; k++) {                                                          \
             check(takes[k].out_of_range == (past < n) && (past == n || takes[k].position == past),\
-                "the position that vb_take_values_" #V "_" #I " answers");                        \
+                "the position that vb_take_values_" #V "_" #I " returns");                        \
             check(memcmp(got[k] + (past < n ? n : 0), wanted + (past < n ? n : 0),                \
                 (past < n ? POSITIONS + 1 - n : POSITIONS + 1) * sizeof(value_t)) == 0,           \
                 "what vb_take_values_" #V "_" #I " writes");                                      \
@@ -65,13 +65,13 @@ static void make(void *value, size_t size, size_t i)
         vb_taken kept = {true, 77};                                                               \
         memcpy(got[0], got[1], sizeof wanted);                                                    \
         check(!vb_try_take_values_##V##_##I(got[1], 2, values, count, indices, 3, true, NULL, 0,  \
-            0, &kept), "no room for " #V);                                                        \
+            0, &kept), "no space for " #V);                                                       \
         check(!vb_try_take_values_##V##_##I(got[1], 9, values, count, indices, 9, false,          \
-            validity, 1, 0, &kept), "no bit a position for " #V);                                 \
+            validity, 1, 0, &kept), "too few bits of a validity for " #V);                        \
         check(!vb_try_take_values_##V##_##I(got[1], 9, values, count, indices, 9, false,          \
-            validity, BYTES, SIZE_MAX - 8, &kept), "a validity past every place");                \
+            validity, BYTES, SIZE_MAX - 8, &kept), "a validity past every index");                \
         check(kept.out_of_range && kept.position == 77                                            \
-            && memcmp(got[0], got[1], sizeof wanted) == 0, "what stands after a refusal");        \
+            && memcmp(got[0], got[1], sizeof wanted) == 0, "what a refusal leaves");              \
     }
 
 #define ALL(X)                                                                                    \

@@ -1,6 +1,6 @@
 /*
- * Compares each function of vortex_bits.h with a loop over single bits, over random windows, and
- * each checked form with numbers at and past every limit. It is C and C++ alike.
+ * Compares functions of vortex_bits.h with a loop over single bits, over random windows, and each
+ * checked form with numbers at and past every limit. It is C and C++ alike.
  */
 #include "tests.h"
 #include "vortex_bits.h"
@@ -72,7 +72,7 @@ static void narrow_places(const size_t *places, size_t room, const uint8_t *byte
     for (size_t i = 0; i < BITS + 1; i++) {
         check(i < found ? narrow[i] == places[i] && checked[i] == places[i]
                 : narrow[i] == 0xEEEEEEEEu,
-            "a place of 32 bits");
+            "an index of 32 bits");
     }
 }
 
@@ -96,7 +96,7 @@ static void walks(const uint8_t *bytes, size_t offset, size_t len)
     }
     check(written == (seen < room ? seen : room), "vb_set_indices");
     for (size_t i = written; i < BITS + 1; i++) {
-        check(places[i] == (size_t)0xEEEEEEEEEEEEEEEEu, "memory behind the places");
+        check(places[i] == (size_t)0xEEEEEEEEEEEEEEEEu, "memory behind the indices");
     }
     narrow_places(places, room, bytes, offset, len, written);
     written = vb_set_slices(runs, room, bytes, BYTES, offset, len);
@@ -250,8 +250,8 @@ static void packs(const uint8_t *bytes, const uint8_t *other)
     memcpy(got, other, BYTES);
     check(!vb_try_pack_bools_padded(got, 1, bools, 9)
             && !vb_try_pack_truthy_padded(got, 1, bytes, 9)
-            && memcmp(got, other, BYTES) == 0, "a pack without room left all as it was");
-    check(vb_try_pack_truthy_padded(got, 1, bytes, 8), "a pack that has room");
+            && memcmp(got, other, BYTES) == 0, "a refused pack left all as it was");
+    check(vb_try_pack_truthy_padded(got, 1, bytes, 8), "a pack that has space");
 }
 
 /* Unpacks a window to bools and to bytes, and checks that the items after them are unchanged. */
@@ -379,7 +379,7 @@ static void bad_ranks(const uint8_t *bytes, size_t offset, size_t len)
                 "a bad table");
         }
     }
-    check(!vb_try_rank(bytes, BYTES, 0, BITS, table, BLOCKS, BITS + 1, &rank), "a bad place");
+    check(!vb_try_rank(bytes, BYTES, 0, BITS, table, BLOCKS, BITS + 1, &rank), "a bad index");
     check(rank == 77 && place.found && place.index == 9 && table[0] == (size_t)0xEEEEEEEEEEEEEEEEu,
         "a refused rank left all as it was");
     check(vb_try_rank(bytes, BYTES, 0, BITS, table, BLOCKS, BITS, &rank), "a wrong table is read");
@@ -433,7 +433,7 @@ static void refusals(const uint8_t *bytes)
         check(!vb_try_count_ones(bytes, BYTES, offset, len, &number), "a bad count");
         check(!vb_try_select(bytes, BYTES, offset, len, 0, &place), "a bad select");
         check(!vb_try_select_unset(bytes, BYTES, offset, len, 0, &place), "a bad select");
-        check(!vb_try_last_set(bytes, BYTES, offset, len, &place), "a bad last place");
+        check(!vb_try_last_set(bytes, BYTES, offset, len, &place), "a bad last index");
         check(!vb_try_set_indices(places, 1, bytes, BYTES, offset, len, &number), "bad places");
         check(!vb_try_set_indices_u32(narrow, 1, bytes, BYTES, offset, len, &number), "bad places");
         check(!vb_try_set_slices(runs, 1, bytes, BYTES, offset, len, &number), "bad runs");
@@ -462,7 +462,7 @@ static void refusals(const uint8_t *bytes)
     check(!vb_try_get_bit(bytes, BYTES, SIZE_MAX, &flag) && flag, "the last of all bits");
 }
 
-/* No bytes: every window of no bits from bit 0 on fits. */
+/* No bytes: the window of no bits at bit 0 fits. */
 static void nothing(void)
 {
     uint8_t none[1] = {0x55};

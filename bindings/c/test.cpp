@@ -60,17 +60,17 @@ static void walks_into(bits window, const std::vector<std::size_t> &trues)
     const std::size_t found = std::min(places.size(), trues.size());
     check(window.set_indices_into(places) == found, "set_indices_into");
     check(std::equal(trues.begin(), trues.begin() + static_cast<std::ptrdiff_t>(found),
-        places.begin()) && (found == places.size() || places[found] == SIZE_MAX), "places in room");
+        places.begin()) && (found == places.size() || places[found] == SIZE_MAX), "first indices");
     std::array<std::uint32_t, 3> three;
     const std::size_t narrow = window.set_indices_into(three);
     check(narrow == std::min<std::size_t>(3, trues.size())
         && std::equal(three.begin(), three.begin() + static_cast<std::ptrdiff_t>(narrow),
-            trues.begin()), "places of 32 bits in room");
+            trues.begin()), "first indices of 32 bits");
     std::array<vb_run, 2> two;
     const std::size_t some = window.set_slices_into(two);
     check(some == std::min<std::size_t>(2, runs.size()), "set_slices_into");
     check(some == 0 || (two[some - 1].start == runs[some - 1].start
-        && two[some - 1].end == runs[some - 1].end), "runs in room");
+        && two[some - 1].end == runs[some - 1].end), "first runs");
 }
 
 static void questions(const buffer &all, std::size_t offset, std::size_t len, std::size_t n)
@@ -200,8 +200,8 @@ static void filters()
     refused([&] { (void)mask.keep_into(some, some); }, "two lengths");
     refused([&] { (void)mask.keep_into(values, std::vector<std::uint16_t>(4)); }, "no room");
     std::vector<std::uint16_t> back(8, 5);
-    check(mask.scatter_into(some, back) == 5, "how many values go back");
-    check(back == std::vector<std::uint16_t>({5, 11, 12, 5, 14, 15, 5, 17}), "values that go back");
+    check(mask.scatter_into(some, back) == 5, "how many values are scattered");
+    check(back == std::vector<std::uint16_t>({5, 11, 12, 5, 14, 15, 5, 17}), "scattered values");
     refused([&] { (void)mask.scatter_into(some, some); }, "two lengths");
     refused([&] { (void)mask.scatter_into(std::vector<std::uint16_t>(4), back); }, "few values");
 }
@@ -218,9 +218,9 @@ static void pairs()
     for (std::size_t i = 0, n = 0; i < 8; i++) {
         const bool here = left[i] && right[n];
         n += left[i];
-        check(bits(window)[i] == here, "a bit that goes back");
+        check(bits(window)[i] == here, "a deposited bit");
     }
-    check((out[0] & 7) == 7 && out[1] >> 3 == 31, "the bits beside them");
+    check((out[0] & 7) == 7 && out[1] >> 3 == 31, "the bits next to them");
     refused([&] { (void)left.and_count(bits(others, 0, 7)); }, "two lengths");
     refused([&] { window.deposit_of(right, left); }, "too many bits");
 }
@@ -255,11 +255,11 @@ static void joins()
     rows += window.slice(rows, 14 - rows).filter_of(mask, values);
     check(rows == 10 && out[0] == 0xA0 && out[1] == 0x9D, "batches that are joined");
     check(!window.slice(10, 3).take_of(values, std::array<std::int8_t, 3>{0, 2, 7}), "a take");
-    check(out[1] == 0x9D && out[2] == 0xFE, "what it wrote, and the bits beside it");
+    check(out[1] == 0x9D && out[2] == 0xFE, "what it wrote, and the bits next to it");
     check(window.take_of(values, std::array<std::int8_t, 2>{0, -1}, bits(others, 1, 2))
             == std::optional<std::size_t>(1), "a negative index");
     check(!window.take_of(values, std::array<std::int8_t, 2>{0, -1}, bits(others, 4, 2)),
-        "a negative index of no use");
+        "a negative index that is null");
     check(out[0] == 0xA0, "what the last take wrote");
     const std::optional<bits> some_valid = bits(others, 4, 2);
     check(!window.take_of(values, std::array<std::int8_t, 2>{0, -1}, some_valid), "an optional");
@@ -307,7 +307,7 @@ static void aggregates()
     check(masked_min(degrees, warm) == std::int8_t{18}, "the least value");
     check(masked_max(degrees, warm) == std::int8_t{100}, "the greatest value");
     const std::array<unsigned long, 0> empty{};
-    check(!masked_min(empty, none) && !masked_max(empty, none), "of no values");
+    check(!masked_min(empty, none) && !masked_max(empty, none), "min and max of no values");
     const std::array<unsigned long long, 2> most = {SIZE_MAX, SIZE_MAX};
     const vb_u128 both = masked_sum(most, {mask, 1, 2});
     check(both.low == SIZE_MAX - 1 && both.high == 1, "a sum of more than 64 bits");
@@ -388,10 +388,10 @@ template <class Value> static void keep(const buffer &all)
     check(kept == mask.count_ones(), "how many values of a type are kept");
     std::array<Value, 190> back;
     std::memset(static_cast<void *>(&back), 0x5A, sizeof back);
-    check(mask.scatter_into(out, back) == kept, "how many values of a type go back");
+    check(mask.scatter_into(out, back) == kept, "how many values of a type are scattered");
     for (std::size_t i = 0; i < back.size(); i++) {
         const Value &wanted = mask[i] ? values[i] : out.back();
-        check(std::memcmp(&back[i], &wanted, sizeof(Value)) == 0, "values of a type that go back");
+        check(std::memcmp(&back[i], &wanted, sizeof(Value)) == 0, "scattered values of a type");
     }
     std::size_t at = 0;
     mask.for_each_set([&](std::size_t i) {
@@ -439,11 +439,11 @@ static void refusals()
     refused([&] { bits(two, 1, SIZE_MAX); }, "a window without an end");
     refused([&] { bits_mut(two, 9, 8); }, "a window past its bytes");
     refused([&] { bits(two, 0, 16).slice(9, 8); }, "a slice past its window");
-    refused([&] { (void)bits(two, 8, 8)[8]; }, "a place past the window");
-    refused([&] { bits_mut(two, 8, 8).set(8, true); }, "a place past the window");
+    refused([&] { (void)bits(two, 8, 8)[8]; }, "an index past the window");
+    refused([&] { bits_mut(two, 8, 8).set(8, true); }, "an index past the window");
     refused([&] { bits_mut(two, 8, 8).copy_from(bits(two, 0, 7)); }, "two lengths");
     refused([&] { bits_mut(two, 8, 8).or_of(bits(two, 0, 8), bits(two, 0, 7)); }, "two lengths");
-    refused([&] { (void)vortex_bits::ranks(bits(two, 8, 8)).rank(9); }, "a place past the window");
+    refused([&] { (void)vortex_bits::ranks(bits(two, 8, 8)).rank(9); }, "an index past the window");
     refused([&] { vortex_bits::ranks(bits(two, 0, 9), {}); }, "a table of another size");
     check(two == buffer(2), "a refused call left all as it was");
 }

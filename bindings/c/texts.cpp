@@ -73,7 +73,7 @@ private:
     std::size_t count_, size_;
 };
 
-/* Returns a text over four bytes: texts often share beginnings and ends, and are often equal. */
+/* Returns a text over an alphabet of four bytes: texts often share either end, or are equal. */
 static std::string text()
 {
     const std::size_t kinds[] = {1, 4, 9, 12, 20, 70};

@@ -76,7 +76,7 @@ static void call(bool is_and, bool checked, struct window *t, struct window *v,
         c->all_valid ? 0 : c->validity.size, c->validity.offset
 #define GIVEN OF((*t)), OF((*v)), SIDE(l), SIDE(r), len
     if (checked) {
-        check(is_and ? vb_try_and_kleene(GIVEN) : vb_try_or_kleene(GIVEN), "a call is refused");
+        check(is_and ? vb_try_and_kleene(GIVEN) : vb_try_or_kleene(GIVEN), "a call fails");
     } else if (is_and) {
         vb_and_kleene(GIVEN);
     } else {

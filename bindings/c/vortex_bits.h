@@ -43,7 +43,7 @@
  * capacities, and that no pointer is null unless its number is 0. So it detects a failed malloc. If
  * a test fails, it returns false and leaves everything unchanged. An index that is out of range is
  * not such a failure: takes and calls by group report the first one in the vb_taken that they
- * return, their vb_try_ forms write it to their last pointer. No function allocates memory or keeps
+ * return; their vb_try_ forms write it to their last pointer. No function allocates memory or keeps
  * a pointer.
  *
  * For an Arrow array, `offset` is the array's plus those of the structs that it is a column of, and
@@ -315,8 +315,8 @@ VB_CHECKED bool vb_try_is_subset(const uint8_t *left, size_t left_size, size_t l
 /*
  * Writes the indices of the set bits, in ascending order, to the front of `out`, up to its
  * capacity, and returns the number written (`written`). Reads no page of memory after the window's
- * last one or, if it fills `out`, after the page of the last bit that it writes. It is faster if
- * there is capacity for each bit.
+ * last one or, if it fills `out`, after the page of the bit whose index it writes last. It is
+ * faster if there is capacity for each bit.
  *
  *     const uint8_t rows[] = {0xE8, 0x06};
  *     size_t places[4];
@@ -473,7 +473,7 @@ VB_CHECKED bool vb_try_and_not_bits(uint8_t *dst, size_t dst_size, size_t dst_of
         const uint8_t *src, size_t src_size, size_t src_offset, size_t len);
 
 /*
- * Returns the processor level of the code that calls run: "x86-64-v2", say.
+ * Returns the processor level that calls use: "x86-64-v2", say.
  *
  *     assert(vb_has_level() && strncmp(vb_level(), "x86-64-v", 8) == 0);
  */

@@ -36,7 +36,7 @@ public:
         : bytes_(bytes), size_(size), offset_(offset), len_(len)
     {
         detail::expect(fits(size, offset, len) && (bytes != nullptr || size == 0),
-            "a window does not lie in its bytes");
+            "a window does not fit in its bytes");
     }
 
     template <class Bytes, detail::lender<const Bytes, const std::uint8_t> = 0>
@@ -70,14 +70,14 @@ public:
     std::size_t offset() const { return offset_; }
 
 #ifdef __cpp_lib_span
-    /* Returns the bytes that hold the window, those outside of it too. */
+    /* Returns all bytes of the window's container, those outside of the window too. */
     std::span<const std::uint8_t> bytes() const { return {bytes_, size_}; }
 #endif
 
     /* Returns the `len` bits from index `start` on. */
     bits slice(std::size_t start, std::size_t len) const
     {
-        detail::expect(start <= len_ && len <= len_ - start, "a slice is longer than its window");
+        detail::expect(start <= len_ && len <= len_ - start, "a slice is not in its window");
         return bits(bytes_, size_, offset_ + start, len);
     }
 
@@ -373,7 +373,7 @@ public:
     /* Returns the `len` bits from index `start` on. */
     bits_mut slice(std::size_t start, std::size_t len) const
     {
-        detail::expect(start <= len_ && len <= len_ - start, "a slice is longer than its window");
+        detail::expect(start <= len_ && len <= len_ - start, "a slice is not in its window");
         return bits_mut(writable(), size_, offset_ + start, len);
     }
 

@@ -120,20 +120,21 @@ template <class Value, class Number> bound<Value> bound_of(Number number)
 } // namespace detail
 
 /*
- * Writes to `out`, which has one bit per value, which of the values compare with `number` by `op`:
+ * Writes to bit k of `out`, one bit per value, whether value k compares with `number` by `op`:
  * VB_EQUAL, VB_LESS, .. of vortex_bits_compare.h. Throws std::out_of_range if the lengths differ,
  * or `op` is none of these. Values are whole numbers of 8 to 64 bits, floats or doubles. `number`
  * is of any type of numbers, and a whole number if the values are. The comparison is exact, even if
  * their type can't represent `number`: all values of 8 bits are below 300, and no float equals 0.1.
- * With a NaN only VB_NOT_EQUAL is true: `compare_with(values, VB_EQUAL, values, out)` finds others.
+ * With a NaN only VB_NOT_EQUAL is true, so `compare_with(values, VB_EQUAL, values, out)` finds the
+ * values that aren't NaN.
  */
 template <class Values, class Number>
 void compare(const Values &values, vb_comparison op, Number number, bits_mut out)
 {
     using value = std::remove_cv_t<detail::lent_t<const Values>>;
     static_assert(detail::is_compared<value>(),
-        "compare compares whole numbers of 8, 16, 32 or 64 bits, float and double, of what has "
-        "data() and size(): for a pointer write vortex_bits::view(pointer, count)");
+        "compare compares whole numbers of 8, 16, 32 or 64 bits, float and double, in a type "
+        "with data() and size(): for a pointer write vortex_bits::view(pointer, count)");
     static_assert(!detail::is_compared<value>() || detail::is_compared_with<value, Number>(),
         "compare compares whole numbers with a whole number: round this one as you mean it");
     if constexpr (detail::is_compared<value>() && detail::is_compared_with<value, Number>()) {
@@ -160,14 +161,14 @@ void compare_with(const Values &values, vb_comparison op, const Others &others, 
     using value = std::remove_cv_t<detail::lent_t<const Values>>;
     using other = std::remove_cv_t<detail::lent_t<const Others>>;
     static_assert(detail::is_compared<value>(),
-        "compare_with compares whole numbers of 8, 16, 32 or 64 bits, float and double, of what "
-        "has data() and size(): for a pointer write vortex_bits::view(pointer, count)");
+        "compare_with compares whole numbers of 8, 16, 32 or 64 bits, float and double, in a "
+        "type with data() and size(): for a pointer write vortex_bits::view(pointer, count)");
     static_assert(!detail::is_compared<value>() || std::is_same_v<other, value>,
         "compare_with compares values of one type");
     if constexpr (detail::is_compared<value>() && std::is_same_v<other, value>) {
         detail::expect(op <= VB_GREATER_OR_EQUAL, "not a comparison");
         detail::expect(detail::size(values) == out.len_ && detail::size(others) == out.len_,
-            "not a bit for each value and other");
+            "values, others and bits differ in number");
         using by = detail::compared_as<value>;
         using as = typename by::type;
         by::others(out.writable(), out.size_, out.offset_,

@@ -19,9 +19,9 @@ extern "C" {
 #endif
 
 /*
- * Sets each of the `len` bits of `out` from bit `out_offset` on to true if that of `left` from bit
- * `left_offset` on and that of `right` from bit `right_offset` on are true, else to false. `left`
- * and `right` may overlap.
+ * Sets bit `out_offset + k` of `out`, for each k below `len`, to true if bit `left_offset + k` of
+ * `left` and bit `right_offset + k` of `right` are true, else to false. `left` and `right` may
+ * overlap.
  *
  *     uint8_t out[] = {0xFF};
  *     const uint8_t left[] = {0x0C}, right[] = {0x0A};
@@ -319,7 +319,7 @@ VB_CHECKED bool vb_try_deposit_bits(uint8_t *out, size_t out_size, size_t out_of
  * on. If `left_all_valid` is true, none of `left` is null, and its validity may be null, of no
  * bytes. Else a value is null if its bit of `left_validity`, from bit `left_validity_offset` on, is
  * false, whatever the value is. The same holds for the right side. `not` needs no separate call:
- * negate the values by vb_negate_bits, and keep the validity. The negated values are then true at
+ * negate the values by vb_negate_bits, and keep the validity. The negated values may be true at
  * nulls: before they select rows, combine them with the validity by vb_and_bits.
  *
  *     // True, true, false and null, with true, false, true and false.

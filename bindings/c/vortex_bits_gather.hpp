@@ -46,8 +46,8 @@ inline std::optional<bits> validity(const std::uint8_t *bytes, std::size_t size,
 }
 
 /*
- * Returns how many of `len` rows are valid in both of two columns: of one column, if the other one
- * is nullopt.
+ * Returns how many of `len` rows are valid in both of two columns. With nullopt as its validity, a
+ * column has valid rows only.
  */
 inline std::size_t count_valid(std::optional<bits> left, std::optional<bits> right,
     std::size_t len)
@@ -66,7 +66,7 @@ std::optional<std::size_t> bits::take(const Indices &indices, const bits *valid,
     using index = std::remove_cv_t<detail::lent_t<const Indices>>;
     static_assert(detail::is_index<index>(),
         "take_into takes indices of a whole number of 8, 16, 32 or 64 bits");
-    detail::expect(fits(size, at, detail::size(indices)), "no room for a bit an index");
+    detail::expect(fits(size, at, detail::size(indices)), "no space for a bit per index");
     detail::expect(valid == nullptr || valid->len_ == detail::size(indices),
         "not a bit of validity for each index");
     if constexpr (detail::is_index<index>()) {
@@ -102,14 +102,15 @@ template <class Out> std::size_t bits::filter_into(bits mask, Out &&out) const
     std::size_t kept = 0;
     detail::expect(vb_try_filter_bits(out.data(), detail::size(out), 0, bytes_, size_, offset_,
             mask.bytes_, mask.size_, mask.offset_, len_, &kept),
-        "no room for the bits to keep");
+        "no space for the selected bits");
     return kept;
 }
 
 inline std::size_t bits_mut::filter_of(bits values, bits mask)
 {
     detail::expect(mask.len_ == values.len_, "windows are of two lengths");
-    detail::expect(mask.len_ <= len_ || mask.count_ones() <= len_, "no room for the bits to keep");
+    detail::expect(mask.len_ <= len_ || mask.count_ones() <= len_,
+        "no space for the selected bits");
     return vb_filter_bits(writable(), size_, offset_, values.bytes_, values.size_, values.offset_,
         mask.bytes_, mask.size_, mask.offset_, mask.len_);
 }
@@ -134,7 +135,8 @@ inline void bits_mut::and_validities_of(std::optional<bits> left,
 inline std::size_t bits_mut::filter_validity_of(std::optional<bits> validity, bits mask)
 {
     detail::expect(!validity || validity->len_ == mask.len_, "windows are of two lengths");
-    detail::expect(mask.len_ <= len_ || mask.count_ones() <= len_, "no room for the bits to keep");
+    detail::expect(mask.len_ <= len_ || mask.count_ones() <= len_,
+        "no space for the selected bits");
     const bits rows = validity.value_or(bits());
     return vb_filter_validity(writable(), size_, offset_, rows.bytes_, rows.size_, rows.offset_,
         mask.bytes_, mask.size_, mask.offset_, mask.len_);
@@ -144,14 +146,14 @@ template <class Indices>
 std::optional<std::size_t> bits_mut::take_of(bits values, const Indices &indices,
     std::optional<bits> valid)
 {
-    detail::expect(detail::size(indices) <= len_, "no room for a bit an index");
+    detail::expect(detail::size(indices) <= len_, "no space for a bit per index");
     return values.take(indices, valid ? &*valid : nullptr, writable(), size_, offset_);
 }
 
 inline void bits_mut::deposit_of(bits values, bits mask)
 {
     detail::expect(mask.len_ == len_, "windows are of two lengths");
-    detail::expect(mask.count_ones() == values.len_, "not a bit for each that the mask keeps");
+    detail::expect(mask.count_ones() == values.len_, "not a bit for each set bit of the mask");
     vb_deposit_bits(writable(), size_, offset_, values.bytes_, values.size_, values.offset_,
         mask.bytes_, mask.size_, mask.offset_, len_);
 }
@@ -225,7 +227,7 @@ template <class Bools, class Out> void pack_bools(const Bools &bools, Out &&out)
     static_assert(std::is_same_v<std::remove_cv_t<detail::lent_t<const Bools>>, bool>,
         "pack_bools packs values of bool, of which std::vector<bool> lends none");
     static_assert(detail::is_bytes<Out>(), "pack_bools writes bytes of std::uint8_t");
-    detail::expect(fits(detail::size(out), 0, detail::size(bools)), "no room for a bit a bool");
+    detail::expect(fits(detail::size(out), 0, detail::size(bools)), "no space for a bit per bool");
     if constexpr (!std::is_void_v<detail::lent_t<const Bools>>) {
         vb_pack_bools_padded(out.data(), detail::size(out), bools.data(), detail::size(bools));
     }
@@ -235,7 +237,7 @@ template <class Bools, class Out> void pack_bools(const Bools &bools, Out &&out)
 template <class Bytes, class Out> void pack_truthy(const Bytes &truthy, Out &&out)
 {
     static_assert(detail::is_bytes<Out>(), "pack_truthy writes bytes of std::uint8_t");
-    detail::expect(fits(detail::size(out), 0, detail::size(truthy)), "no room for a bit a byte");
+    detail::expect(fits(detail::size(out), 0, detail::size(truthy)), "no space for a bit per byte");
     vb_pack_truthy_padded(out.data(), detail::size(out), truthy.data(), detail::size(truthy));
 }
 

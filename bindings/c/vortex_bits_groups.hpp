@@ -97,7 +97,7 @@ public:
     std::size_t codes() const { return bitmaps_.size(); }
     std::size_t size() const { return rows_; }
 
-    /* Returns the bitmap of a code, until the next append. */
+    /* Returns the bitmap of a code, valid until the next append. */
     bits operator[](std::size_t code) const &
     {
         detail::expect(code < codes(), "a code is not one of the bitmaps");

@@ -69,7 +69,7 @@ public:
     /* Returns the number of set bits before `place`. Reads one entry of the table and one block. */
     std::size_t rank(std::size_t place) const
     {
-        detail::expect(place <= bits_.len_, "a place is behind the window");
+        detail::expect(place <= bits_.len_, "an index is past the end of the window");
         return vb_rank(bits_.bytes_, bits_.size_, bits_.offset_, bits_.len_, table_.data(),
             table_.size(), place);
     }

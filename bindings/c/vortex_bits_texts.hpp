@@ -165,8 +165,8 @@ public:
         static_assert(detail::stays<Offsets> && detail::stays<Bytes>,
             "a temporary container dies before the texts: name it");
         static_assert(detail::is_byte<std::remove_cv_t<detail::lent_of<Bytes>>>(),
-            "texts are over char, std::uint8_t or std::byte, of what has data() and size(): for a "
-            "pointer write vortex_bits::view(pointer, count)");
+            "texts are over char, std::uint8_t or std::byte, in a type with data() and size(): for "
+            "a pointer write vortex_bits::view(pointer, count)");
         offsets_ = offsets.data();
         len_ = std::max<std::size_t>(detail::size(offsets), 1) - 1;
         bytes_ = reinterpret_cast<const char *>(bytes.data());
@@ -195,7 +195,7 @@ public:
     }
 
     /*
-     * Each predicate writes which texts pass to `out`, which has one bit per text. It throws
+     * Each predicate writes to bit k of `out`, one bit per text, whether text k passes. It throws
      * std::out_of_range, before it writes, if the lengths differ. Here a text passes if it compares
      * with another one by `op`: VB_EQUAL, VB_LESS, .. of vortex_bits_compare.h; if `op` is none of
      * these, the call throws too.
@@ -209,8 +209,8 @@ public:
     void contains(std::string_view part, bits_mut out) const;
 
     /*
-     * A text passes if it is one of the wanted ones, such as std::string_view or std::string. The
-     * call allocates memory for them.
+     * A text passes if it equals an item of `wanted`, which holds std::string_view, std::string or
+     * the like. The call allocates memory for them.
      */
     template <class Texts> void is_in(const Texts &wanted, bits_mut out) const;
     void is_in(std::initializer_list<std::string_view> wanted, bits_mut out) const
@@ -413,7 +413,7 @@ template <class Offset> void texts<Offset>::contains(std::string_view part, bits
     });
 }
 
-/* Sets the bits of those of `count` texts from row `first` on that contain a part. */
+/* Sets the bits of the texts that contain a part, among `count` texts from row `first` on. */
 template <class Offset>
 void texts<Offset>::find(std::string_view part, std::size_t first, std::size_t count,
     block &words) const

@@ -52,7 +52,7 @@ public:
     void append(const Values &values, std::optional<bits> mask = std::nullopt)
     {
         static_assert(std::is_same_v<detail::item_t<Values>, Value>,
-            "append adds values of the type of the others");
+            "append to a top_k<Value> takes values of type Value");
         const std::size_t count = detail::size(values);
         detail::expect(!mask || mask->size() == count, "not a bit for each value");
         const std::size_t most = k_ < SIZE_MAX / 2 - MORE ? k_ + extra() : SIZE_MAX;
@@ -89,7 +89,7 @@ private:
         return order_ == VB_GREATER ? one > other : one < other;
     }
 
-    /* From `k` values on the first `k` are sorted: a new one must be before the last of these. */
+    /* Once it has `k` values, the first `k` are sorted: a new one must be before the k-th. */
     void append_block(view<const Value> values, std::optional<bits> mask)
     {
         std::array<std::uint64_t, BLOCK / 64> words = {};

@@ -64,7 +64,7 @@ std::size_t bits::keep_into(const Values &values, Out &&out) const
         detail::expect(laid::try_keep(reinterpret_cast<typename laid::type *>(out.data()),
                 detail::size(out), reinterpret_cast<const typename laid::type *>(values.data()),
                 len_, bytes_, size_, offset_, &kept),
-            "no room for the values to keep");
+            "no space for the selected values");
     }
     return kept;
 }
@@ -73,7 +73,7 @@ template <class Values> std::size_t bits::retain_in(Values &&values) const
 {
     using value = detail::lent_t<std::remove_reference_t<Values>>;
     static_assert(detail::is_value<value>() && !std::is_const_v<value>,
-        "retain_in takes values to write of 1, 2, 4, 8 or 16 bytes that are copied and aligned as "
+        "retain_in takes writable values of 1, 2, 4, 8 or 16 bytes that are copied and aligned as "
         "whole numbers are: these, floats, bool, vb_u128. std::vector<bool> has none of them");
     detail::expect(detail::size(values) == len_, "not a bit for each value");
     if constexpr (detail::is_value<value>() && !std::is_const_v<value>) {
@@ -125,7 +125,8 @@ template <class Values, class Indices, class Out>
         "take_values writes values of the type that it reads");
     if constexpr (detail::is_value<value>() && detail::is_index<index>()
         && std::is_same_v<detail::lent_of<Out>, value>) {
-        detail::expect(detail::size(indices) <= detail::size(out), "no room for a value an index");
+        detail::expect(detail::size(indices) <= detail::size(out),
+            "no space for a value per index");
         detail::expect(!valid || valid->size() == detail::size(indices),
             "not a bit of validity for each index");
         using laid = typename detail::laid<sizeof(value)>::type;

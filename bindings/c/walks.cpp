@@ -62,7 +62,7 @@ static void stops(const buffer &all, std::size_t n)
     });
     const std::size_t wanted = std::min(std::max<std::size_t>(n, 1), places.size());
     check(walked.size() == wanted && std::equal(walked.begin(), walked.end(), places.begin()),
-        "a walk over places that stops");
+        "a walk over indices that stops");
     std::size_t calls = 0, behind = 0;
     window.for_each_run([&](std::size_t start, std::size_t end) {
         check(start == runs[calls].start && end == runs[calls].end, "a run before the stop");
@@ -74,7 +74,7 @@ static void stops(const buffer &all, std::size_t n)
     check(calls == 0 || behind == runs[calls - 1].end, "the run at which it stops");
     calls = 0;
     window.for_each_set([&](std::size_t) { return ++calls, 0; });
-    check(calls == places.size(), "a number is no answer");
+    check(calls == places.size(), "a number doesn't stop a walk");
     enum class [[nodiscard]] told { yes };
     window.for_each_set([&](std::size_t) { return ++calls, told::yes; });
     window.for_each_run([&](std::size_t, std::size_t) { return ++calls, told::yes; });
@@ -167,7 +167,7 @@ static void moves(const buffer &any)
     refused([&] { window.copy_within(1, 1350, 0); }, "a move of bits past the window");
     refused([&] { window.copy_within(0, 1350, 1); }, "a move past the window");
     refused([&] { window.copy_within(1351, 0, 0); }, "a move from past the window");
-    refused([&] { window.copy_within(0, 0, SIZE_MAX); }, "a move to no place");
+    refused([&] { window.copy_within(0, 0, SIZE_MAX); }, "a move to past the window");
     check(some == any, "a refused move left all as it was");
 }
 

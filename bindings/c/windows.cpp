@@ -71,7 +71,7 @@ static void counts_of_filters()
     check(rows.filter_into(mask, out) == 5 && counts == 0, "bits are counted once");
     check(window.filter_of(rows, mask) == 5 && counts == 0, "bits for a window are counted once");
     check(window.filter_validity_of(rows, mask) == 5 && counts == 0, "so are validities");
-    check(window.slice(0, 5).filter_of(rows, mask) == 5 && counts == 1, "where not all have room");
+    check(window.slice(0, 5).filter_of(rows, mask) == 5 && counts == 1, "where not all fit");
     refused([&] { (void)window.slice(0, 4).filter_validity_of(rows, mask); }, "no room");
     refused([&] { (void)window.slice(0, 4).filter_validity_of(std::nullopt, mask); }, "no room");
 }

@@ -35,11 +35,11 @@ histogram. An empty field is null. Status 2 is an error.
 /// The output on standard output.
 #[derive(Clone, Debug, PartialEq, Eq)]
 pub enum Print {
-    /// The table of columns, the kept rows as a strip, and a histogram.
+    /// The table of columns, the selected rows as a strip, and a histogram.
     Report,
     /// Answers, with the text of their list.
     Answers(String),
-    /// All kept rows.
+    /// All selected rows.
     Rows,
     /// One selected row, with the number of selected rows before it.
     Nth(u64),

@@ -93,7 +93,7 @@ impl Column {
     }
 }
 
-/// Returns the numbers of a column. The error is the first row without a number.
+/// Returns the numbers of a column, 0 at nulls. The error is the first row with another text.
 fn numbers<T: Value + Default>(
     rows: &Rows,
     place: usize,

@@ -31,7 +31,7 @@ pub enum Error {
     Closed,
 }
 
-/// An error at one position of a condition or of a list of answers.
+/// An error at one position of the text of an option.
 #[derive(Clone, Debug, PartialEq, Eq)]
 pub struct QueryError {
     /// The byte of the text at which the fault begins.

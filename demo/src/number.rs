@@ -77,7 +77,7 @@ mod tests {
     }
 
     #[test]
-    #[allow(clippy::float_cmp, reason = "the nearest float is one")]
+    #[allow(clippy::float_cmp, reason = "there is only one nearest float")]
     fn floats() {
         for (field, number) in [
             ("0.1", 0.1),

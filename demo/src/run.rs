@@ -129,7 +129,7 @@ impl<'a> Query<'a> {
             .into()
     }
 
-    /// Tests that the columns of the condition exist, before it reads the file.
+    /// Tests that the columns of the condition exist, before the first pass over the file.
     fn check_names(&self, table: &Table) -> Result<(), Error> {
         for name in self.condition.iter().flat_map(Condition::names) {
             let found = table.find(&name.name);
@@ -220,7 +220,7 @@ struct Kept {
 }
 
 impl Run<'_> {
-    /// Reads the file once for the printed output, and for the files of `--out` and `--svg`.
+    /// Reads the file for the printed output, and for the files of `--out` and `--svg`.
     fn pass(&self, printed: Vec<&mut dyn Output>) -> Result<Kept, Error> {
         let (mut count, mut strip) = (Count::default(), Strip::new(self.survey.rows, SVG_STRIP));
         let (mut histogram, mut out) = (self.histogram()?, self.out()?);

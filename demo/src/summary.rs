@@ -322,7 +322,7 @@ impl Part {
     }
 }
 
-/// Returns the answers of a list, one for each.
+/// Returns the text of each answer in a list.
 #[must_use]
 pub fn answers(list: &[Answer<usize>], rows: u64, summaries: &[Summary]) -> Vec<Vec<u8>> {
     let of = |column: usize| summaries.iter().find(|it| it.column == column);

@@ -199,7 +199,7 @@ impl Seen {
         }
     }
 
-    #[allow(clippy::cast_precision_loss, reason = "a column of floats has these")]
+    #[allow(clippy::cast_precision_loss, reason = "numbers of a column of floats are floats")]
     fn range(&self, kind: Kind) -> Option<Range> {
         let mean = self.sum / self.numbers as f64;
         match kind {

@@ -267,7 +267,8 @@ fn names(first: &[Vec<u8>], width: usize, has_header: bool) -> Vec<String> {
 ///
 /// # Errors
 ///
-/// Returns a message if no column has the name, or several have it. The message lists the columns.
+/// Returns a message if no column has the name, or several have it. If none has it, the message
+/// lists the columns.
 pub fn find<'a>(names: impl Iterator<Item = &'a str> + Clone, name: &str) -> Result<usize, String> {
     let exact = places(names.clone(), |it| it == name);
     let found = if exact.is_empty() {

@@ -14,7 +14,7 @@ use demo::table::{Format, Table};
 use support::{COLUMNS, Folder, Random};
 use vortex_bits::{Bitmap, Comparison};
 
-/// The rows that are kept, by their positions in the file.
+/// The selected rows, by their positions in the file.
 #[derive(Default)]
 struct Rows(Vec<u64>);
 
@@ -168,7 +168,7 @@ fn check_bins(bins: &[(String, u64)], numbers: &[f64]) {
     assert_eq!(bins.iter().map(|bin| bin.1).collect::<Vec<_>>(), counts);
 }
 
-/// Compares the share of kept rows in each cell with a plain loop.
+/// Compares the share of selected rows in each cell with a plain loop.
 fn check_strip(strip: &Strip, rows: u64, kept: &[u64]) {
     let shares: Vec<f64> = strip.shares().collect();
     let cells = shares.len() as u64;

@@ -61,7 +61,7 @@ fn the_nth_of_the_parcels() {
     );
 }
 
-/// The row is in the second batch of rows.
+/// The first row that it looks for is in the second batch of rows.
 #[test]
 fn the_nth_of_many_rows() {
     let folder = Folder::new("nth");

@@ -167,8 +167,8 @@ class Errors(unittest.TestCase):
     def test_a_comment_that_names_what_is_not_there(self):
         found = errors((C, "added by vb_added_u8.", "added by vb_gone of vortex_bits_gone.h."))
         where = f"{C}:28"
-        self.assertEqual(found, [f"{where}: `vb_gone` of its comment isn't there",
-                                 f"{where}: `vortex_bits_gone.h` of its comment isn't there"])
+        self.assertEqual(found, [f"{where}: `vb_gone` in the comment doesn't exist",
+                                 f"{where}: `vortex_bits_gone.h` in the comment doesn't exist"])
 
     def test_a_name_of_the_table_that_is_not_there(self):
         found = errors((TABLE, "`begin`", "`gone`"), (TABLE, "`fresh`", "`lost`"))

@@ -200,7 +200,7 @@ class Errors(unittest.TestCase):
 
     def test_a_docstring_that_leads_nowhere(self):
         found = errors((COUNTER, "[`fresh`]", "[`stale`]"))
-        self.assertEqual(found, [f"{COUNTER}:22: `stale` of its docstring isn't there"])
+        self.assertEqual(found, [f"{COUNTER}:22: `stale` in the docstring doesn't exist"])
 
     def test_a_definition_without_a_sentence(self):
         found = errors(("crates/low/specs/Seen.antt", "-- the number is one\n", ""))
@@ -215,8 +215,8 @@ class Errors(unittest.TestCase):
         found = errors((given, "pub use Rattle.low.specs.Seen\n", ""))
         seen = "crates/low/specs/Seen.antt"
         self.assertEqual(found, [
-            f"{seen}:9: `counted`, which `add` cites, isn't given by vortex_buffer",
-            f"{seen}:13: `IsOne`, which `fresh` cites, isn't given by vortex_buffer",
+            f"{seen}:9: `counted`, which `add` cites, isn't re-exported by vortex_buffer",
+            f"{seen}:13: `IsOne`, which `fresh` cites, isn't re-exported by vortex_buffer",
         ])
 
     def test_an_item_that_is_left_out(self):

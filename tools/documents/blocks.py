@@ -23,7 +23,7 @@ def tokens(text: str) -> str:
 
 
 def imports(text: str) -> set[str]:
-    """Returns the imported names, each with the first step of its path."""
+    """Returns the imported names, without their paths."""
     found = set()
     for it in IMPORT.findall(text):
         path, _, names = " ".join(it.split()).rstrip(";").partition("{")
@@ -64,7 +64,7 @@ class Blocks:
             holding = self.holding(part, suffix)
             if not holding:
                 first = part.strip().split("\n")[0]
-                self.found.append(f"{where}: stands in no source: {first.strip()}")
+                self.found.append(f"{where}: is in no source: {first.strip()}")
                 return
             holders |= holding
         brought = set().union(*(imports(self.code[it]) for it in holders))

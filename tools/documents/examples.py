@@ -1,5 +1,5 @@
-"""Checks that each public call of the Rust crate is in an example of its documents. For the
-examples of C's headers bindings/c/functions does so, and makes a program of them.
+"""Checks that each public call of the Rust crate is in an example of its documents. For C's
+headers bindings/c/functions does so, and builds a program from the examples.
 """
 import re
 from pathlib import Path
@@ -7,8 +7,8 @@ from pathlib import Path
 from documents.files import Repository
 
 SOURCES, README = "bindings/rust/src", "bindings/rust/README.md"
-# Files without calls for users, or whose calls tests/arrow covers: the kernels, the parts of
-# iterators, and Arrow's structs.
+# Files without calls for users, or whose calls tests cover: the kernels, the parts of iterators,
+# the levels, and Arrow's structs.
 WITHIN = re.compile(r"(kernels|portable|iter|arrow|level|native)(/|\.rs$)")
 COMMENT = re.compile(r"^\s*//[/!] ?(.*)$")
 PUBLIC = re.compile(r"^\s*pub (?:const |unsafe )*fn (\w+)", re.MULTILINE)

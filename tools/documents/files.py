@@ -49,7 +49,7 @@ class Repository:
 
     @cached_property
     def documents(self) -> list[Document]:
-        """All documents, except those of bench/, which report measurements."""
+        """All documents, except drafts/ and those of bench/, which report measurements."""
         paths = [self.root / it for it in NAMED if (self.root / it).exists()]
         for folder in FOLDERS:
             paths += sorted((self.root / folder).rglob("*.md"))

@@ -11,7 +11,7 @@ BLOCK = re.compile(r"(?<=^```mermaid\n).*?(?=^```$)", re.MULTILINE | re.DOTALL)
 # The titles of the boxes around crates of a kind.
 BOXES = {"command": "commands", "c": "for C", "example": "examples, timed jobs"}
 FOR_TESTS = ("_tests", "vb_testing")
-# The program whose calls tools/growth counts.
+# The program whose calls tools/growth measures.
 COUNTED = "run_growth"
 
 

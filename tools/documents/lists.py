@@ -18,7 +18,7 @@ NOT_CALLED = {
 }
 # The suffix of C functions for wide vectors. bindings/wide renames them to the plain names.
 WIDE = "_wide"
-# The C functions that the library builds from several ones of a crate.
+# The C functions that the library builds from those of the crates.
 MADE = re.compile(r"^\w+ (vb_\w+)\(", re.MULTILINE)
 
 

@@ -1,4 +1,4 @@
-"""Finds the places of a name, where a new command, kernel or file of definitions needs one too."""
+"""Finds the places of a name. A new command, kernel or file of definitions needs the same ones."""
 import re
 from dataclasses import dataclass
 from functools import lru_cache
@@ -53,7 +53,7 @@ COMMAND = [
     Task("The row that users read", [(r"docs/COMMANDS\.md$", r"\bNAME\b")]),
 ]
 KERNEL = [
-    Task("What it answers, over lists of truth values", [
+    Task("What it returns, over lists of truth values", [
         (r"crates/\w+/specs/(?!Lib\.antt)", r"\bNAME\b"),
     ]),
     Task("Names that are re-exported, by `pub use` and by specs/Lib.antt", [
@@ -120,7 +120,8 @@ class Name:
 
 
 def code_of(path: str, text: str) -> list[str]:
-    """Returns the lines of a file without comments and imports; of a document only the code."""
+    """Returns the lines of a file without comments and imports; of a document only the code. The
+    files that re-export names keep their imports."""
     if path.endswith(".md"):
         return quoted(text)
     lines = [COMMENT.sub("", it.replace("\\n", "  ")) for it in text.split("\n")]

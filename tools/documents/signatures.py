@@ -1,6 +1,6 @@
 """The C functions with their parameters: in the crate, in the header, and in the table by which the
-Rust crate calls them. A slice of the crate is a pointer and a number of items in the two others,
-and these have the same names and types.
+Rust crate calls them. A slice of the crate is a pointer and a number of items in the two others.
+The header and the table have the same names and types.
 """
 import re
 from dataclasses import dataclass
@@ -110,7 +110,7 @@ def unlike(wanted: Signature, got: Signature) -> str | None:
     if counts[0] != counts[1]:
         return f"it has {counts[0]} parameters in place of {counts[1]}"
     if got.answer != wanted.answer:
-        return f"it answers `{got.answer}` in place of `{wanted.answer}`"
+        return f"it returns `{got.answer}` in place of `{wanted.answer}`"
     return None
 
 

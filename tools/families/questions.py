@@ -2,7 +2,7 @@
 
 The template questions.txt uses it. A question about two windows that is added here, after its
 kernel in vb_pair and its plain form in bindings/rust/src/portable, gets its functions and their
-tests in C, C++ and Rust by tools/write-lists; one about one window gets those in C.
+tests in C, C++ and Rust by tools/write-lists; one about one window gets functions in C.
 """
 import textwrap
 from dataclasses import dataclass
@@ -217,6 +217,6 @@ OF_PAIRS = [
     ),
 ]
 PAIRS = [it for group in OF_PAIRS for it in group.questions]
-# The names that contracts of two windows use.
+# Whether one of them finds an index, and the operators that their contracts name.
 PLACES = any(it.answer == PLACE for it in PAIRS)
 VARIANTS = ", ".join(sorted({it.operator.variant for it in PAIRS}))

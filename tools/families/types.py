@@ -17,7 +17,7 @@ class Number:
     name: str
     bits: int
     c: str
-    # The value as an index, a `usize` in Rattle; empty for floats.
+    # The value as an index, an `Option<usize>` in Rattle; empty for floats.
     place: str = ""
 
     def __str__(self) -> str:
@@ -41,7 +41,7 @@ class Number:
 
     @property
     def exponent(self) -> int:
-        """The power of two of the size."""
+        """The base-2 logarithm of the size."""
         return self.size.bit_length() - 1
 
     @property

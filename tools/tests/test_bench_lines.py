@@ -15,7 +15,7 @@ RT = "mkdir -p out && cp /bin/cat out/vbits"
 CARGO = """while [ "$1" != --target-dir ]; do shift; done
 mkdir -p "$2/release" && cp /bin/cat "$2/release/lines\""""
 FAILS = "echo 'error: why' >&2; exit 101"
-# Runs the command over this input in place of its own, which take long.
+# Runs the command over this input in place of its own inputs, which take long.
 SHORT = """import importlib.machinery, importlib.util, sys
 loader = importlib.machinery.SourceFileLoader("lines", sys.argv[1])
 lines = importlib.util.module_from_spec(importlib.util.spec_from_loader("lines", loader))

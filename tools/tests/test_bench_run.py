@@ -47,7 +47,7 @@ class Run(unittest.TestCase):
     def test_the_table_has_a_row_of_equals_and_one_for_each_workload(self):
         status, lines = self.run_it()
         self.assertEqual(status, 0, lines)
-        names = ["NAME", "---", "first, beside itself", "first", "second"]
+        names = ["NAME", "---", "first, compared with itself", "first", "second"]
         self.assertEqual([it[1] for it in lines], names)
         self.assertEqual({len(it) for it in lines}, {8}, "a line has other columns")
 

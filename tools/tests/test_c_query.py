@@ -9,7 +9,7 @@ from pathlib import Path
 FOLDER = Path(__file__).resolve().parent.parent.parent / "bindings/c"
 COMPILERS = {"query.c": ["cc", "-std=c11"], "query.cpp": ["c++", "-std=c++17"]}
 USAGE = "usage: query [ROWS [time]], with at most 100000000 rows\n"
-# strtoull reads the first two as 2^64 - 1. room() of query_rows.h adds one, which makes 0.
+# strtoull reads the first two as 2^64 - 1, far above the greatest number of rows.
 WRONG = [["-1"], ["18446744073709551615"], ["x"], ["5x"], [""], [" 5"], ["+5"], ["100000001"],
          ["5", "tmie"], ["5", "time", "6"]]
 

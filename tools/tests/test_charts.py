@@ -1,5 +1,5 @@
 """Tests that bench/charts draws each table of bench/results as the committed pictures show it, and
-what the programs that draw or make rows say of wrong words."""
+what the programs that draw pictures or generate rows print if their arguments are wrong."""
 import csv
 import subprocess
 import tempfile

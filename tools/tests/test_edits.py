@@ -93,8 +93,8 @@ class Command(unittest.TestCase):
         self.assertEqual(
             reasons,
             [
-                "what is 'old:' stands 2 times in src/lib.rt",
-                "what is 'old:' stands 0 times in src/lib.rt",
+                "the text of 'old:' occurs 2 times in src/lib.rt",
+                "the text of 'old:' occurs 0 times in src/lib.rt",
                 "there is no src/other.rt",
                 "no pair of lines 'old:' and 'new:'",
                 "a line 'old:' without its 'new:'",

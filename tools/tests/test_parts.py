@@ -32,8 +32,8 @@ INTERRUPTS = {signal.SIGINT: 130, signal.SIGTERM: 143, signal.SIGHUP: 129}
 
 
 def take_signals():
-    """Ends the process on each of the signals, since a shell can't trap one that was ignored when
-    it started, as after `nohup` or `&`."""
+    """Lets each of the signals end the process, since a shell can't trap one that was ignored
+    when it started, as after `nohup` or `&`."""
     for sign in INTERRUPTS:
         signal.signal(sign, signal.SIG_DFL)
 

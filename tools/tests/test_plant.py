@@ -112,10 +112,10 @@ class Command(unittest.TestCase):
 
     def test_a_list_without_reasons(self):
         for text, said in (
-            ("one f: { 0 }\n", "no reason behind the last body"),
+            ("one f: { 0 }\n", "no reason after the last body"),
             ("one f: { 0 }\none g: { 0 }\n  why\n", "plant-allowed.txt:2: no reason before this line"),
             ("  why\n", "plant-allowed.txt:1: a reason without a body"),
-            ("one f: { 0 }\n  why\none f: { 0 }\n  why\n", "plant-allowed.txt:3: no reason before this line, or a body that stands twice"),
+            ("one f: { 0 }\n  why\none f: { 0 }\n  why\n", "plant-allowed.txt:3: no reason before this line, or a body that occurs twice"),
         ):
             self.write("tools/plant-allowed.txt", text)
             status, lines = self.run_it()

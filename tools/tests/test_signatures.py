@@ -23,7 +23,7 @@ class Planted(Repository):
         if path != self.path:
             return text
         if text.count(self.old) != 1:
-            raise ValueError(f"{path} hasn't `{self.old}` once")
+            raise ValueError(f"{path} doesn't contain `{self.old}` exactly once")
         return text.replace(self.old, self.new)
 
 
@@ -73,7 +73,7 @@ class Signatures(unittest.TestCase):
              "parameter 1 is `bytes: *mut i8`"),
             ("bool vb_get_bit(const uint8_t *bytes, size_t size, size_t offset);",
              "size_t vb_get_bit(const uint8_t *bytes, size_t size, size_t offset);",
-             "it answers `usize` in place of `bool`"),
+             "it returns `usize` in place of `bool`"),
             ("bool vb_get_bit(const uint8_t *bytes, size_t size, size_t offset);",
              "bool vb_get_bit(const uint8_t *bytes, size_t size);",
              "it has 2 parameters in place of 3"),

@@ -61,7 +61,7 @@ pub fn select(batches: &[Array], limit: f64) -> Result<Vec<Export>> {
         .collect()
 }
 
-/// Returns the identifiers of the rows with such a name.
+/// Returns the identifiers of the rows whose names `test` finds.
 pub fn named(batches: &[Array], test: impl Fn(&Texts) -> Bitmap) -> Result<Vec<i64>> {
     let mut found = Vec::new();
     for batch in batches {
@@ -100,7 +100,7 @@ pub fn page(batches: &[Array], at: &Range<usize>) -> Result<Export> {
     Export::concat(batches[0].field(), &parts)
 }
 
-/// Returns the greatest prices with their rows, in descending order; the first rows of equal ones.
+/// Returns the greatest prices with their rows, in descending order; of equal ones the first rows.
 pub fn top(batches: &[Array], most: usize) -> Result<Vec<(f64, usize)>> {
     let mut best = TopK::greatest(most);
     for batch in batches {

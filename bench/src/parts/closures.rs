@@ -82,7 +82,7 @@ fn bits(bench: &mut Bench, w: Window) {
         }))
         .plain(Contender::of(move || loops::iter_bits(w)));
     bench.row(row_of_bits.at_most(1.05, UPSTREAM));
-    let row_of_map = row("`map_cmp`, beside a parity", calls::bench_map_cmp, w, 0.5)
+    let row_of_map = row("`map_cmp` with a parity", calls::bench_map_cmp, w, 0.5)
         .upstream(upstream!({
             let set = crate::upstream::set(w);
             Contender::of(move || crate::upstream::map_cmp(&set))

@@ -20,7 +20,7 @@ pub fn measure(bench: &mut Bench) {
     }
 }
 
-/// `and` of two columns, values and validity, of which the right one begins with bit `offset`.
+/// `and` of two columns of values and validity. The right column begins with bit `offset`.
 fn row<'a>(left: [&'a Input; 2], right: [&'a Input; 2], offset: usize, len: usize) -> Row<'a> {
     let outs = || RefCell::new([vec![0u64; len / 64], vec![0u64; len / 64]]);
     let (to, over) = (outs(), outs());

@@ -105,7 +105,7 @@ fn grown(bench: &mut Bench) {
     let input = Input::random(MILLION);
     let bytes = &input.bytes(MILLION)[..MILLION];
     let bools: &Vec<u8> = &bytes.iter().map(|byte| byte & 1).collect();
-    for (how, room) in [("with room", MILLION), ("from no room on", 0)] {
+    for (how, room) in [("with capacity", MILLION), ("without capacity", 0)] {
         let ours = move || unsafe { calls::bench_append(bools.as_ptr(), MILLION, room) };
         let row = Row::new("`append` of a million bits", Contender::of(ours))
             .items(MILLION)

@@ -16,7 +16,7 @@ pub fn same<T: PartialEq<U> + Debug, U: Debug>(
     if got == wanted {
         Ok(1)
     } else {
-        Err(format!("{name} answers {got:?} in place of {wanted:?}"))
+        Err(format!("{name} returns {got:?} in place of {wanted:?}"))
     }
 }
 

@@ -17,7 +17,7 @@ pub struct Case {
 }
 
 /// Bytes with `len` bits from bit `offset` on, and up to three bytes more. Few bits are true, few
-/// are false, the runs are long, or the bits are any: a fourth of the cases each.
+/// are false, the runs are long, or the bits are arbitrary: a fourth of the cases each.
 fn bytes(random: &mut Random, offset: usize, len: usize) -> Vec<u8> {
     let size = (offset + len).div_ceil(8) + random.below(4);
     let kind = random.below(4);

@@ -140,7 +140,7 @@ fn filters(case: &Case) -> Result<u64, String> {
     )? + same("deposit_into", &back, &wanted)?)
 }
 
-/// Values of one width, of which the mask keeps some.
+/// Values of one width, some of which the mask selects.
 fn keeps<T: Value + Copy + PartialEq + Debug>(
     case: &Case,
     value: impl Fn(usize) -> T,
@@ -228,8 +228,8 @@ fn comparisons(case: &Case) -> Result<u64, String> {
         })?)
 }
 
-/// Compares takes by narrow types of indices, from as many bits as these can index. In half of the
-/// cases an index may be past these bits.
+/// Compares takes by narrow types of indices, from at most 200 bits that these can index. In half
+/// of the cases an index may be past these bits.
 fn narrow<I, J>(case: &Case, random: &mut Random, past: I, negative: J) -> Result<u64, String>
 where
     I: BitIndex + TryFrom<usize> + Debug + Copy,

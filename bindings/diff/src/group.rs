@@ -113,7 +113,7 @@ fn row_of(error: GroupError) -> usize {
     }
 }
 
-/// Sums, minimum and maximum of floats with any bits, or of few numbers.
+/// Sums, minimum and maximum of floats that have any bits, or are each one of seven values.
 macro_rules! floats {
     ($case:ident, $random:ident: $($float:ident)*) => {{
         let mut calls = 0;

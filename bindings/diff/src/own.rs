@@ -211,8 +211,8 @@ fn validity(
         )?)
 }
 
-/// Three-valued `and` and `or` of the windows. The validity of the left one is the right one, and
-/// that of the right one is the left one negated. Each may be missing.
+/// Three-valued `and` and `or` of the windows. The right window is the validity of the left one,
+/// and the negated left window that of the right one. Each validity may be missing.
 fn kleene(case: &Case, random: &mut Random, left: &[bool], right: &[bool]) -> Result<u64, String> {
     let (len, negated) = (case.len, !case.left());
     let (a, b) = (case.left(), case.right());

@@ -91,7 +91,7 @@ impl Step {
     }
 }
 
-/// Returns whether most numbers of a range are in the first of many bins of equal width.
+/// Returns whether a wide range, without negative numbers, has its mean in its first sixteenth.
 fn is_skewed(least: f64, greatest: f64, mean: f64) -> bool {
     let start = if least == 0.0 { 1.0 } else { least };
     least >= 0.0 && greatest / start >= DECADES && mean - least < (greatest - least) / BINS

@@ -106,7 +106,7 @@ class Checked(unittest.TestCase):
 
     def test_code_that_no_test_has(self):
         found = Blocks(self.repository(README_dot_md=("one(1)", "one(2)"))).found
-        self.assertEqual(found, ["README.md:6: stands in no source: // Adds."])
+        self.assertEqual(found, ["README.md:6: is in no source: // Adds."])
 
     def test_a_name_that_the_test_does_not_import(self):
         found = Blocks(self.repository(README_dot_md=("{one, two}", "{one, four}"))).found
@@ -117,7 +117,7 @@ class Checked(unittest.TestCase):
         self.assertEqual(Blocks(self.repository(low_slash_src_slash_lib_dot_rt=shown)).found, [])
         other = (shown[0], shown[1].replace("one(1)", "one(2)"))
         self.assertEqual(Blocks(self.repository(low_slash_src_slash_lib_dot_rt=other)).found, [
-            "crates/low/src/lib.rt:9: stands in no source: let a = one(2);",
+            "crates/low/src/lib.rt:9: is in no source: let a = one(2);",
         ])
 
     def test_a_contract_that_the_source_has_not(self):

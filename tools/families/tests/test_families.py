@@ -209,7 +209,7 @@ class Places(unittest.TestCase):
 
 
 class Questions(unittest.TestCase):
-    """A question about two windows that finds an index, of which the table has none."""
+    """A question about two windows that finds an index; the table has no such question."""
 
     QUESTION = Pair(
         "or_next", OR, PLACE, "place", "Returns the first index.", "Returns the first index.",
