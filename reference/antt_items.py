@@ -117,8 +117,8 @@ class Reader:
         self.file.sentence = " ".join(said) if said else first
 
     def chunk_end(self, i: int) -> int:
-        """Returns the line after the part that begins at line `i`, with its deeper lines and
-        closing brackets."""
+        """Returns the line after the part that begins at line `i`. Deeper lines and closing
+        brackets belong to the part."""
         own, j = indent_of(self.lines[i]), i + 1
         if self.lines[i].lstrip().startswith("module "):
             while not self.lines[j - 1].rstrip().endswith(" where"):

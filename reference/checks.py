@@ -1,5 +1,5 @@
 """Whether the pages are exact: nothing public is missing, each link leads somewhere, each public
-item has a docstring, and users find the words of each contract in the crate that they name."""
+item has a docstring, and vortex_buffer re-exports the words of each of its contracts."""
 import re
 from html import unescape
 from pathlib import Path

@@ -14,7 +14,7 @@ NAME = re.compile(r"(operator(?:\[\]|[^\w\s(]+| \w+)|\w+(?:::\w+)*)\(")
 VARIABLE = re.compile(r"(\w+) =")
 # The list of what a constructor initializes, with all that follows.
 INITIALIZED = re.compile(r"(\)(?: const| noexcept)*)\s*:[^:].*", re.DOTALL)
-# Signs that end a declaration or enclose its parts; comments and strings, whose signs don't count.
+# Signs that end a declaration or enclose its parts, and comments and strings, to pass their signs.
 SIGN = re.compile(
     r"/\*.*?\*/|//[^\n]*|\"(?:\\.|[^\"\\])*\"|'(?:\\.|[^'\\])+'|[()\[\]{};]", re.DOTALL
 )

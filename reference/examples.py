@@ -210,7 +210,7 @@ class Reader:
 
 
 class Examples:
-    """The shortest proved function that calls each public item."""
+    """For each public item the shortest test or example that calls it, else a helper of tests."""
 
     def __init__(self, library: Library, wanted: list[Item]) -> None:
         self.library = library

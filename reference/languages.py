@@ -18,7 +18,7 @@ from reference.urls import Urls, header_page
 COLUMNS = ["C", "C++", "Rust", "Rattle"]
 # If several types have a name of the table, it belongs to the type with the least number here.
 FIRST = {"Bits": 0, "BitsMut": 1, "Ranks": 2, "BitBuffer": 0}
-# An entry of more calls is one of a family, such as one for each type of values.
+# An entry of more calls than this is one of a family, such as one for each type of values.
 MANY = 4
 
 

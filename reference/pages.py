@@ -25,7 +25,7 @@ class Page:
         return "../" * self.url.count("/")
 
     def href(self, url: str) -> str:
-        """The address, from the top of the pages, as it is written on this one."""
+        """An address from the top of the pages, made relative to this page."""
         self.links.append(url)
         path, mark, anchor = url.partition("#")
         if path == self.url and mark:

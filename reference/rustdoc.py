@@ -26,7 +26,7 @@ ALIASES = re.compile(
     r"\s*(?:pub )?(?:const )?(?:(?:fn|struct|enum|trait|type) )?(\w+)"
 )
 OF_DOCS = re.compile(r"^\[package\.metadata\.docs\.rs\]\nfeatures = \[(.*)\]", re.MULTILINE)
-LENT = 'id="deref-methods-'  # the methods of a slice, which a type lends
+LENT = 'id="deref-methods-'  # the methods of a slice to which a type dereferences
 MAIN = re.compile(r'<section id="main-content"[^>]*>')
 
 

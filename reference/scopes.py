@@ -44,7 +44,7 @@ PRELUDE = {"Some", "None", "Ok", "Err", "Vec", "String", "Option", "Result", "u8
 
 @dataclass
 class Scope:
-    """Names, the shapes of their types, and the files whose imports are in force."""
+    """Names, the shapes of their types, imported names and aliases, and the module or file."""
 
     names: dict[str, Target] = field(default_factory=dict)
     shapes: dict[str, list[Shape]] = field(default_factory=dict)

@@ -169,8 +169,8 @@ show_crate() {
 
 # Writes the lines of standard input to the log, and prints those that report progress. These are
 # lines of `rt ci`, which names a crate after its proof, of `rt lib` and similar commands, which
-# name it before, of commands like this one, of bindings/diff, and of tools/check-program about
-# cases that it leaves out.
+# name it before, of commands like this one, of bindings/diff, of the benchmarks, and of
+# tools/check-program about cases that it leaves out.
 progress() {
     local line name=
     local -A seen=()

@@ -324,7 +324,8 @@ def like_demo(seed: int, table: Table, file: bytes, given: list[str]) -> list[Qu
 
 
 def more() -> list[Query]:
-    """Cases of columns of one name, columns to write, standard input, short rows, and pictures."""
+    """Cases of columns of one name, columns to write, standard input, short rows, pictures, and
+    means."""
     row = [["1", "x", "2.5", "", "z"]]
     of_names = {"t.csv": written([NAMED, *row])}
     columns = [Query(f"--columns {it}", ["t.csv", "--rows", "--columns", it],

@@ -13,8 +13,8 @@ use crate::times::{Placed, Times};
 /// The sizes of a growth row, as multiples of the first one.
 const GROWTH: [usize; 4] = [1, 10, 100, 1_000];
 
-/// The limit of the cost of an item over its cost at the first size. The growth of the cost of a
-/// copy of the item is subtracted first.
+/// The greatest allowed ratio of an item's cost to its cost at the first size. The growth of the
+/// cost of a copy of the item is subtracted first.
 const GROWN: f64 = 1.1;
 
 const GROWTH_HEAD: &str = "| call | first size | ns an item at 1, 10, 100, 1,000 times it | a copy of \

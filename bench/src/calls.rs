@@ -56,7 +56,7 @@ pub type OfTableInTurn = unsafe extern "C" fn(
     usize,
 ) -> usize;
 
-/// Selects at ranks by a directory, which is built from bits first, in so many rounds.
+/// Selects at ranks, in so many rounds, by a directory that is built from bits first.
 pub type SelectRounds =
     unsafe extern "C" fn(Bytes, usize, usize, *const usize, usize, usize) -> usize;
 

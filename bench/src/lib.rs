@@ -1,9 +1,9 @@
 //! Times of the repository's calls, compared with plain Rust loops and vortex-buffer, as tables in
-//! Markdown and as lines of JSON. `bench/rows` builds all of them for one processor level, links
-//! this library several times, each time with its code at another placement, and runs the programs
-//! one after the other. It passes the level's name, for how many milliseconds the rounds of a row
-//! go on, the file for the lines, a word that selects rows, the file for this program's times, and
-//! those of the programs before it.
+//! Markdown and as lines of JSON. `bench/rows` builds all of them for one processor level (at
+//! x86-64-v4 only the calls; the others for v3), links this library several times, each time with
+//! its code at another placement, and runs the programs one after the other. It passes the level's
+//! name, for how many milliseconds the rounds of a row go on, the file for the lines, a word that
+//! selects rows, the file for this program's times, and those of the programs before it.
 
 mod bench;
 mod calls;

@@ -57,7 +57,7 @@ fn place_in(word: u64, n: usize) -> usize {
     word.trailing_zeros() as usize
 }
 
-/// Whether a bit is true.
+/// Whether any bit is true.
 #[inline(never)]
 pub fn any_set(w: Window) -> bool {
     has::<false>(w)
@@ -256,7 +256,7 @@ pub fn combine_in_place(left: &mut [u64], right: (&Input, usize), len: usize) {
     }
 }
 
-/// Packs the bits that a closure returns for each index into words. Returns the number of indices.
+/// Packs into words the bits that a closure returns for each index. Returns the number of indices.
 #[inline(always)]
 pub fn collect(len: usize, mut is_true: impl FnMut(usize) -> bool) -> usize {
     let word = |k: usize| {

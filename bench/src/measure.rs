@@ -5,7 +5,7 @@
 use std::hint::black_box;
 use std::time::{Duration, Instant};
 
-/// A row has at least one round for each such time in its budget, however long a round takes.
+/// A row has at least budget / ROUND rounds, and at least one, however long a round takes.
 const ROUND: Duration = Duration::from_millis(25);
 
 /// The least time of a contender's turn in a round: the clock is fine enough for it.
@@ -67,7 +67,7 @@ impl<'a> Contender<'a> {
         }
     }
 
-    /// The number of runs in a turn. An extra run before warms the caches.
+    /// The number of runs in a turn. A run before these warms the caches.
     fn times_in_a_round(&self) -> usize {
         self.time(1);
         let made = self.making().min(self.making());

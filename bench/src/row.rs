@@ -10,8 +10,8 @@ use crate::times::Placed;
 pub const UPSTREAM: &str = "upstream";
 pub const LOOP: &str = "loop";
 
-/// The names of a loop over the ones of a mask, and of the Rust crate without its archives, which
-/// are in the column `beside`.
+/// The names of two contenders in the column `beside`: a loop over the ones of a mask, and the Rust
+/// crate without its archives.
 pub const ONES: &str = "a loop over ones";
 pub const PORTABLE: &str = "portable Rust";
 
@@ -260,7 +260,7 @@ impl Measured {
     }
 
     /// A line of a table in Markdown: our time, with the least and the greatest of all placements,
-    /// and the times of the others, each with ours over it.
+    /// and the times of the others, each with the ratio of ours to it.
     pub fn line(&self) -> String {
         let others = || self.names.iter().zip(&self.times).skip(1);
         let ours = &self.times[0];

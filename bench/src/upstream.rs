@@ -137,7 +137,7 @@ fn replaced(cell: &Cell<Option<BitBuffer>>, make: impl Fn(BitBuffer) -> BitBuffe
     len
 }
 
-/// The same with the owned left set in a cell, in place.
+/// An operator with the owned left set in a cell, in place: numbered as in [`operator`].
 pub fn operator_owned(number: usize) -> fn(&Cell<Option<BitBuffer>>, &BitBuffer) -> usize {
     match number {
         0 => |left, right| replaced(left, |set| set & right),

@@ -39,7 +39,7 @@ fn load(w: Window, at: usize, many: usize) -> u64 {
     }
 }
 
-/// Calls a closure for each word of so many bits, with its first bit and how many it has.
+/// Splits `len` bits into words, and calls a closure with the first bit of each and its length.
 #[inline(always)]
 fn by_words(len: usize, mut call: impl FnMut(usize, usize)) {
     let whole = len - len % 64;

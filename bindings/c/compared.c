@@ -1,8 +1,8 @@
 /*
  * Compares the comparisons of vortex_bits.h with a loop over values: each function and each
- * comparison, into random windows, and each checked form with numbers past every limit. The values
- * are random ones near the ends of their type. Floats include NaN, both infinities and both zeros,
- * and are also compared by their bits. It is C and C++ alike.
+ * comparison, into random windows, and each checked form with numbers past every limit. Integers
+ * are random ones near an end or the middle of their type. Floats include NaN, both infinities and
+ * both zeros, and are also compared by their bits. It is C and C++ alike.
  */
 #include "tests.h"
 #include "vortex_bits.h"
@@ -22,7 +22,7 @@ enum { VALUES = 300, BYTES = VALUES / 8 + 3, ROUNDS = 200, COMPARISONS = 6 };
         return (value)(near - random_below(3));                                                   \
     }
 
-/* Returns a random value of a float type; any bits are a value. */
+/* Returns a random value of a float type, in some calls one of random bits. */
 #define FLOAT(T, value)                                                                           \
     static value value_##T(void)                                                                  \
     {                                                                                             \

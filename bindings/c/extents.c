@@ -1,8 +1,8 @@
 /*
- * Runs each function that writes on windows whose bytes are the last ones before a page that can be
- * neither read nor written, or the first ones after one. The sizes in the arguments include the
- * page at the end, but a load or a store in either page stops the call. The same call in writable
- * memory must have the same result. It is C and C++ alike.
+ * Runs each function that writes, on windows whose bytes are the last ones before a page that can
+ * be neither read nor written, or the first ones after such a page. The sizes in the arguments
+ * include the page at the end, but a load or a store in either page stops the call. The same call
+ * in writable memory must have the same result. It is C and C++ alike.
  */
 #ifndef _DEFAULT_SOURCE
 #define _DEFAULT_SOURCE
@@ -104,7 +104,7 @@ static bool holds_of(const struct writer *it, size_t count)
 {
     for (size_t bit = 0; bit < (it->is_told ? 8 : 1); bit++) {
         const size_t bytes = bytes_of(it, bit, count);
-        /* For no bits, the byte in which they would begin isn't writable either. */
+        /* A call without bits or items begins in the page that can't be written. */
         const size_t first = bytes == 0 ? PAGE + OPEN : PAGE;
         if (!holds(it, first, bit, count) || !holds(it, PAGE + OPEN - bytes, bit, count)) {
             fprintf(stderr, "failed: vb_%s: %zu from bit %zu on\n", it->name, count, bit);

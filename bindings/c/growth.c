@@ -4,7 +4,7 @@
  *     growth ROW SIZE CALLS
  *
  * It makes inputs of SIZE bits or items once, calls the function of the row CALLS times, and prints
- * a sum of the results and the outputs of the calls. Without arguments it prints the rows.
+ * one number, made from the calls' results and outputs. Without arguments it prints the rows.
  */
 #include <stdio.h>
 #include <stdlib.h>

@@ -210,7 +210,7 @@ REFUSED = [
 
 
 def program(codes: list[str]) -> str:
-    """A program with these lines of code, which `#line` numbers in their order from 1001 on."""
+    """A program with these lines of code, numbered by `#line`, in their order, from 1001 on."""
     parts = [AROUND.format(line=line, code=code) for line, code in enumerate(codes, 1001)]
     uses = "".join(f"    line_{line}();\n" for line in range(1001, 1001 + len(codes)))
     return f"{BEGIN}{''.join(parts)}int main()\n{{\n{uses}}}\n"

@@ -1,8 +1,8 @@
 /*
- * Compares the writes at a bit offset of vortex_bits_gather.h with a loop over single bits: over
- * random windows of some blocks of 4,096 bits, and each checked form with numbers at and past every
- * limit. Also joins batches into one column, and compares it with that of a loop. It is C and C++
- * alike.
+ * Compares vb_move_bits and the writes at a bit offset of vortex_bits_gather.h with a loop over
+ * single bits: over random windows, some of several blocks of 4,096 bits, and each checked form
+ * with numbers at and past every limit. Also joins batches into one column, and compares it with
+ * that of a loop. It is C and C++ alike.
  */
 #include "tests.h"
 #include "vortex_bits.h"
@@ -15,7 +15,7 @@ enum { BYTES = 3000, BITS = 8 * BYTES, ROUNDS = 300, SOME = 12000 };
 static unsigned long long calls = 0;
 static uint8_t left[BYTES], right[BYTES], before[BYTES], wanted[BYTES], got[BYTES];
 
-/* Returns a length: few bits in most rounds, several blocks in the others. */
+/* Returns a length: few bits in most rounds, any length up to `most` in the others. */
 static size_t length_up_to(size_t most)
 {
     return random_below(random_below(3) == 0 ? most + 1 : most / 60 + 1);
@@ -108,7 +108,7 @@ static void packs(void)
     wrote("what a refused pack leaves");
 }
 
-/* Moves bits within one bitmap, mostly with overlap. */
+/* Moves bits within one bitmap, in half of the rounds with overlap. */
 static void moves(void)
 {
     const size_t len = length_up_to(BITS / 2), from = random_below(BITS - len + 1);

@@ -9,7 +9,7 @@
 
 enum { BYTES = 96, BITS = 8 * BYTES, ROUNDS = 5000 };
 
-/* Returns the number of index i. Its low bytes are the values of each width. */
+/* Returns a number for index i. Its low bytes are the values of each width. */
 static uint64_t number_at(size_t i)
 {
     return (i + 1) * 0x9E3779B97F4A7C15u;

@@ -112,7 +112,7 @@ static uint64_t number_of(unsigned bits)
 /* Whether a is less than b, with -0.0 less than 0.0. */
 #define IS_BELOW(a, b) ((a) < (b) || ((a) == (b) && signbit(a) && !signbit(b)))
 
-/* Does the same for a type of floats: numbers whose sums are rounded, zeros, infinities and NaN. */
+/* As AGGREGATES for a type of floats: numbers whose sums are rounded, zeros, infinities, NaN. */
 #define FLOAT_AGGREGATES(T, type)                                                                 \
     static bool same_##T(type a, type b)                                                          \
     {                                                                                             \

@@ -281,7 +281,7 @@ static void unpacks(const uint8_t *bytes, size_t offset, size_t len)
 enum { INDICES = 200 };
 
 /*
- * Tests takes at random indices; in half of the rounds some are past the window. `valid` is the
+ * Tests takes at random indices; in half of the rounds some may be past the window. `valid` is the
  * validity from bit v on, or null.
  */
 static void takes(const uint8_t *bytes, size_t offset, size_t len, const uint8_t *valid, size_t v)

@@ -1,7 +1,7 @@
 /*
- * Compares the three-valued logic of vortex_bits_gather.h with the table of the nine pairs: at each
+ * Compares the three-valued logic of vortex_bits_gather.h with a loop over single rows, at each
  * length of up to 200, with windows that begin at bits 0 to 15 and end in the last byte of their
- * memory: the functions handle fewer than eight bytes separately. It is C and C++ alike.
+ * memory, since the functions handle fewer than eight bytes separately. It is C and C++ alike.
  */
 #include "tests.h"
 #include "vortex_bits.h"

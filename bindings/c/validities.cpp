@@ -31,7 +31,7 @@ template <class Call> static void refused(Call call, const char *what)
     }
 }
 
-/* Compares the output of `call` to the `len` bits from bit 5 on with `wanted` of each. */
+/* Compares what `call` writes to the `len` bits from bit 5 on with `wanted` of each. */
 template <class Call, class Wanted>
 static void writes(const buffer &before, std::size_t len, Call call, Wanted wanted,
     const char *what)

@@ -81,7 +81,7 @@ static void stops(const buffer &all, std::size_t n)
     check(calls == 2 * places.size() + runs.size(), "a result that must be used is ignored");
 }
 
-/* Windows over temporary views of bytes that have a name. */
+/* Windows over temporary views of bytes that outlive them. */
 static void views()
 {
     buffer all = {0xB6, 0x01};

@@ -1,6 +1,6 @@
 /*
- * Tests writable windows of vortex_bits.hpp as read-only ones, their bytes, and the number of times
- * that filters count the bits of a mask.
+ * Tests the reading calls of writable windows of vortex_bits.hpp, windows past their bytes, and how
+ * often filters count the bits of a mask.
  */
 #include "vortex_bits.h"
 
@@ -8,8 +8,8 @@
 #include <cstdint>
 
 /*
- * The number of times that a class counts bits. It must not do so for a call of C that counts them
- * too.
+ * The number of times that a class counts bits. If a call of C counts them too, the class must not,
+ * unless the output has less space than the mask has bits.
  */
 static std::size_t counts = 0;
 

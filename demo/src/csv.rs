@@ -87,7 +87,7 @@ impl From<io::Error> for CsvError {
     }
 }
 
-/// The end of a field: the field only, or the row too.
+/// What ends with a field: nothing else, or the row too.
 #[derive(Clone, Copy, PartialEq, Eq)]
 enum End {
     Field,

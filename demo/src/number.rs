@@ -35,7 +35,7 @@ pub fn is_digits(field: &[u8]) -> bool {
 pub fn compare(whole: i64, float: f64) -> Ordering {
     #[allow(
         clippy::cast_possible_truncation,
-        reason = "a cast to i128 saturates beyond i64"
+        reason = "a cast to i128 saturates only far beyond i64"
     )]
     let floor = float.floor() as i128;
     let has_fraction = float.floor() < float;

@@ -213,7 +213,7 @@ type Failed<'a> = Box<dyn Fn(io::Error) -> Error + 'a>;
 /// The writer of `--out`.
 type FileWriter<'a> = Writer<'a, BufWriter<File>, Failed<'a>>;
 
-/// The results of every pass.
+/// What [`Run::pass`] returns.
 struct Kept {
     rows: u64,
     histogram: Option<Histogram>,

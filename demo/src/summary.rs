@@ -69,7 +69,8 @@ impl Summary {
         }
     }
 
-    /// Returns one answer as text; empty if there is no value, and for a sum or a mean of texts.
+    /// Returns one answer as text. All but a count are empty if there is no value; a sum and a mean
+    /// of texts always are.
     #[must_use]
     pub fn answer(&self, aggregate: Aggregate) -> Vec<u8> {
         let Some(total) = &self.total else {

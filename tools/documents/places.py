@@ -20,7 +20,7 @@ IMPORT = re.compile(r"\s*(?:ghost )?use ")
 
 @dataclass
 class Task:
-    """A task, with its files and lines: each is a pattern of a path and one of a text.
+    """A task, with its places: for each a pattern of its path and a pattern of its text.
 
     NAME represents the name in any of its forms. If the pattern of the text is empty, the place is
     the file. A template is one place too, if the text that it writes has the pattern.
@@ -31,7 +31,7 @@ class Task:
 
 
 COMMAND = [
-    Task("Say what it does: `Order` to `GivesUp`, `IsQuestion`; what its line says", [
+    Task("What it does: definitions from `Order` to `GivesUp`, `IsQuestion`; what its line means", [
         (r"crates/(vb_command|vb_pool)/specs/", r"\bNAME\b"),
     ]),
     Task("The variant, with its line as docstring, and the arm that reads it", [

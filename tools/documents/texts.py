@@ -57,8 +57,7 @@ def ours(document: Document, line: str) -> str:
 
 
 def missing(text: str, words: set[str]) -> list[str]:
-    """Returns the steps of a name that no source has. In several words the first one is the name.
-    """
+    """Returns the steps of a name that no source has. The name is the first word of `text`."""
     found = IDENTIFIER.match(text)
     if found is None or "/" in text.split()[0]:
         return []

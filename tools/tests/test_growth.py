@@ -13,7 +13,7 @@ sets,clone,"constant, of one owner",1000,call,Set::clone
 sets,count,each word,2.5,64 bits,Set::count
 session,get,constant,1000,call,
 """
-# Prints the count of a run: one word of arguments is the size, the last one the calls.
+# Prints the count of a run: its last two arguments are the size and the number of calls.
 VALGRIND = """#!{python}
 import sys
 words = sys.argv[5:]

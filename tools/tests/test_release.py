@@ -8,7 +8,7 @@ from pathlib import Path
 from shutil import copy
 
 TOP = Path(__file__).resolve().parent.parent.parent
-# A bindings/build that fails: bindings/release ends there, after all that the test is about.
+# A bindings/build that fails. This ends bindings/release, after the steps that are tested.
 BUILD = "#!/bin/sh\necho builds >&2\nexit 3\n"
 BUILDS = "failed: libraries\n    builds\n"
 # A pkg-config whose flags have a path with a space, a compiler that accepts only that path, and a

@@ -114,7 +114,7 @@ fn near(bench: &mut Bench, input: &Input, offset: usize, share: f64) {
     bench.row(row.how("random places").set(share));
 }
 
-/// Whether any bit is true, and whether all bits of a window of the opposite bits are.
+/// Whether any bit of one window is true, and whether all bits of another are true.
 fn whether<'a>([any, all]: [Window<'a>; 2]) -> [Row<'a>; 2] {
     let row = |call, ours: Whether, plain: fn(Window) -> bool, w: Window<'a>| {
         let (bytes, size) = (w.bytes.as_ptr(), w.bytes.len());

@@ -99,7 +99,7 @@ fn owned<'a>(
         MILLION
     };
     let row = row.plain(Contender::of(plain));
-    // The loop's words begin with the window, so only at left offset 0 does it do the same work.
+    // The loop's left words begin at bit 0, so only at left offset 0 does it do the same work.
     if l == 0 { row.at_most(1.0, LOOP) } else { row }
 }
 

@@ -17,7 +17,7 @@ fn room(case: &Case, len: usize) -> Vec<u8> {
 }
 
 /// Returns the bytes after a take at these indices, with false bits at positions where `counts` is
-/// false. The error is the first other position whose index is out of range.
+/// false. The error is the first position that counts whose index is out of range.
 fn taken(case: &Case, places: &[usize], counts: impl Fn(usize) -> bool) -> Result<Vec<u8>, usize> {
     let past = |&p: &usize| counts(p) && places[p] >= case.len;
     if let Some(position) = (0..places.len()).find(past) {

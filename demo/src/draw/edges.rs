@@ -17,8 +17,8 @@ pub enum Edges {
 }
 
 impl Edges {
-    /// Returns the edges for numbers of a range. The bins have equal width, unless most numbers
-    /// would be in the first of them: then they grow with the numbers.
+    /// Returns the edges for numbers of a range. The bins have equal width. They grow with the
+    /// numbers only if the range is wide, no number is negative, and the mean is small.
     #[must_use]
     pub fn new(range: Range) -> Edges {
         match range {
@@ -139,7 +139,7 @@ fn floats(
     let step = Step::above(width);
     #[allow(
         clippy::cast_possible_truncation,
-        reason = "a quotient of 16 steps fits"
+        reason = "least is fewer than 2^60 steps from 0"
     )]
     let first = (least / step.times(1)).floor() as i128;
     // The first edge may be below all floats.

@@ -39,8 +39,8 @@ impl Filter {
     ///
     /// # Errors
     ///
-    /// Returns an error at a name that no column has, and at a comparison of types that don't
-    /// compare.
+    /// Returns an error at a name that no column or several have, at a comparison without a column,
+    /// and at one of types that don't compare.
     pub fn new(condition: &Condition, survey: &Survey) -> Result<Filter, QueryError> {
         let all = |parts: &[Condition]| -> Result<Vec<Filter>, QueryError> {
             parts.iter().map(|part| Filter::new(part, survey)).collect()

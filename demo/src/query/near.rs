@@ -58,7 +58,7 @@ impl Near<f64> {
 }
 
 impl<T> Near<T> {
-    /// Returns the meaning of a comparison with this number, for values of their type.
+    /// Returns the meaning of a comparison with this number, for values of type `T`.
     #[must_use]
     pub fn meaning(self, op: Comparison) -> Meaning<T> {
         use Comparison::{Equal, Greater, GreaterOrEqual, Less, LessOrEqual, NotEqual};

@@ -10,7 +10,7 @@ use super::select::{Aggregate, Answer};
 use super::token::{Token, Word, tokens};
 use crate::error::QueryError;
 
-/// The greatest depth of a condition: 1, and 1 more for each parenthesis and `not` around it.
+/// The limit of a condition's depth, which is 1, plus 1 for each parenthesis and `not` around it.
 const DEEPEST: usize = 200;
 
 /// Words that name no column unless they are quoted.

@@ -1,4 +1,4 @@
-//! The words of a condition.
+//! The words of conditions and lists.
 
 use vortex_bits::Comparison;
 
@@ -13,7 +13,7 @@ pub struct Token {
     pub word: Word,
 }
 
-/// A word of a condition.
+/// A word of a condition or a list.
 #[derive(Clone, Debug, PartialEq)]
 pub enum Word {
     /// A name without quotes, or a keyword.
@@ -63,7 +63,8 @@ const COMPARISONS: [(&str, Comparison); 8] = [
 ///
 /// # Errors
 ///
-/// Returns an error at the first character that begins no word, and at a quote that isn't closed.
+/// Returns an error at the first character that begins no word, at a wrong number, and at a quote
+/// that isn't closed.
 pub fn tokens(text: &str) -> Result<Vec<Token>, QueryError> {
     let mut tokens = Vec::new();
     let mut at = 0;
