@@ -1,7 +1,7 @@
 /*
  * Rows for query.c and query.cpp, and the stream of their batches by Arrow's C stream interface. It
  * takes the role of another program. A batch is a slice of the columns, by an offset into each. The
- * flag has no null row, and so no validity. It is C and C++ alike.
+ * column `flag` has no null row, and so no validity. This file is C and C++ alike.
  */
 #ifndef VORTEX_BITS_QUERY_ROWS_H
 #define VORTEX_BITS_QUERY_ROWS_H
@@ -22,7 +22,7 @@ enum { MOST_ROWS = 100000000 };
 
 /*
  * Returns the number of rows of the command line `query [ROWS [time]]`, by default 100,000. Ends
- * the program if the line is another one.
+ * the program at any other command line.
  */
 static size_t rows_asked(int count, char **words)
 {

@@ -61,12 +61,12 @@
  * It selects the level. It replaces a null pointer to no items by one that they accept; checked
  * forms reject other null pointers. Plain forms crash with SIGILL at an `op` or a size of values
  * that doesn't exist, except vb_take_values, which reports position 0. vb_set_indices,
- * vb_set_indices_u32, vb_set_slices and their checked forms process one page of memory after the
- * other, and join runs that cross page ends. Bools are packed and unpacked as bytes.
- * vb_filter_values, vb_retain_values, vb_scatter_values and vb_take_values choose a function by the
- * sizes, and the functions of validities choose one by which validities are missing.
- * vb_set_slices_u32 narrows the indices of runs. The C++ classes are also written by hand, and
- * tested.
+ * vb_set_indices_u32, vb_set_slices and their checked forms, if `out` may be too small, process one
+ * page of memory after the other, and join runs that cross page ends. Bools are packed and unpacked
+ * as bytes. vb_filter_values, vb_retain_values, vb_scatter_values and vb_take_values choose a
+ * function by the sizes, and the functions of validities choose one by which validities are
+ * missing. vb_set_slices_u32 narrows the indices of runs. The C++ classes are also written by hand,
+ * and tested.
  */
 #ifndef VORTEX_BITS_H
 #define VORTEX_BITS_H
@@ -343,7 +343,7 @@ VB_CHECKED bool vb_try_set_indices_u32(uint32_t *out, size_t out_count, const ui
 /*
  * Writes the runs of set bits, from front to end, each as long as possible, to the front of `out`,
  * up to its capacity, and returns the number written (`written`). Reads no page of memory after the
- * window's last one or, if it fills `out`, after the page in which the last written run ends.
+ * window's last one or, if it fills `out`, after the page of the bit behind the last written run.
  *
  *     const uint8_t rows[] = {0xE8, 0x06};
  *     vb_run runs[4];
@@ -406,10 +406,10 @@ VB_CHECKED bool vb_try_copy_bits(uint8_t *dst, size_t dst_size, size_t dst_offse
         const uint8_t *src, size_t src_size, size_t src_offset, size_t len);
 
 /*
- * Copies the `len` bits from bit `from` on to the bits from bit `offset` on of the same bytes, as
- * memmove does: the windows may overlap. The arguments are in the order of memmove: to, from,
- * length; copy_within of C++ has from, length, to. Processes 4,096 bits at a time. Loads only bytes
- * with a bit of one of the windows.
+ * Copies bit `from + k` of the bytes to bit `offset + k`, for each k below `len`, as memmove does:
+ * the windows may overlap. The arguments are in the order of memmove: to, from, length; copy_within
+ * of C++ has from, length, to. Processes 4,096 bits at a time. Loads only bytes with a bit of one
+ * of the windows.
  *
  *     uint8_t rows[] = {0x68};
  *     vb_move_bits(rows, 1, 1, 3, 5);
@@ -420,8 +420,8 @@ VB_CHECKED bool vb_try_move_bits(uint8_t *bytes, size_t size, size_t offset, siz
         size_t len);
 
 /*
- * Sets each of the `len` bits of `dst` from bit `dst_offset` on to true if it is true and that of
- * `src` from bit `src_offset` on is true, else to false. Works word by word at any two offsets.
+ * Sets bit `dst_offset + k` of `dst`, for each k below `len`, to true if it and bit
+ * `src_offset + k` of `src` are true, else to false. Works word by word at any two offsets.
  *
  *     uint8_t dst[] = {0xFC};
  *     const uint8_t src[] = {0x0A};

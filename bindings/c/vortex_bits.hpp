@@ -408,7 +408,7 @@ public:
     void xor_of(bits left, bits right) { by_two(vb_xor_into, left, right); }
     void and_not_of(bits left, bits right) { by_two(vb_and_not_into, left, right); }
 
-    /* Writes the rows true on both sides, each a validity or a mask; `nullopt` is all true. */
+    /* Writes which rows are true on both sides (validities or masks); `nullopt` is all true. */
     void and_validities_of(std::optional<bits> left, std::optional<bits> right);
 
     /*
@@ -432,8 +432,8 @@ public:
 
     /*
      * Takes bits of `values`, as bits::take_into writes them, where `valid`, if there is one, is
-     * true; writes false at other positions. With the codes of rows this is a whole semi-join. With
-     * other numbers it is one too, if `valid` is false at those that index no bit:
+     * true; writes false at other positions. With dictionary codes as indices this is a semi-join.
+     * With other numbers it is one too, if `valid` is false where they index no bit:
      *
      *     bad = rows.take_of(selected_keys, codes, valid);    // the rows of these keys
      */
@@ -442,11 +442,11 @@ public:
         std::optional<bits> valid = std::nullopt);
 
     /*
-     * Writes which of `left and right`, or of `left or right`, are true, by three-valued logic:
-     * `and` is false if one is false, `or` is true if one is true, even if the other one is null;
-     * else it is null if one is: this window and `valid` then both get false. A side without a
-     * validity has no null; a value at a null may be any. So for a `not`, negate the values and
-     * keep `valid`. To select rows, `&=` the values with `valid`.
+     * Writes where `left and right`, or `left or right`, is true, by three-valued logic: `and` is
+     * false if one is false, `or` is true if one is true, even if the other one is null; else it is
+     * null if one is: this window and `valid` then both get false. A side without a validity has no
+     * null; a value at a null may be any. So for a `not`, negate the values and keep `valid`. To
+     * select rows, `&=` the values with `valid`.
      */
     void and_kleene_of(bits left, std::optional<bits> left_valid, bits right,
         std::optional<bits> right_valid, bits_mut valid);

@@ -18,7 +18,7 @@ extern "C" {
 
 /*
  * A signed number of 128 bits: low + high * 2^64. If `high` is 0, the number is `low`; if `high` is
- * negative, so is the number. As an __int128 the number of `it` is
+ * negative, so is the number. As an __int128, a vb_i128 `it` is
  * (__int128)((unsigned __int128)it.high << 64 | it.low), with __extension__ before each type if
  * -Wpedantic is set.
  */
@@ -87,8 +87,8 @@ VB_CHECKED bool vb_try_masked_sum_i64(const int64_t *values, size_t values_count
 /* To here. */
 
 /*
- * Returns the sum of the selected values, or no value if it is out of the range of their type;
- * partial sums may be.
+ * Returns the sum of the selected values, or no value if it is out of the range of their type. A
+ * partial sum may be out of that range.
  *
  *     const uint8_t counts[] = {200, 50, 6};
  *     const uint8_t mask[] = {0x07};

@@ -139,7 +139,7 @@ struct aggregate {
     template <class By, class Values, class Call>
     static auto call_by(const Values &values, const bits &mask, Call call)
     {
-        expect(detail::size(values) == mask.len_, "not a bit of the mask for each value");
+        expect(detail::size(values) == mask.len_, "mask and values differ in length");
         return call(By(), reinterpret_cast<const typename By::type *>(values.data()),
             detail::size(values), mask.bytes_, mask.size_, mask.offset_);
     }
@@ -155,7 +155,7 @@ struct aggregate {
     {
         using code = item_t<Codes>;
         using as = typename laid<sizeof(code)>::type;
-        expect(!mask || mask->len_ == detail::size(codes), "not a bit of the mask for each code");
+        expect(!mask || mask->len_ == detail::size(codes), "mask and codes differ in length");
         const bits selected = mask.value_or(bits());
         return detail::position(call(totals.data(), reached<code>(detail::size(totals)),
             reinterpret_cast<const as *>(codes.data()), detail::size(codes), !mask, selected.bytes_,

@@ -81,11 +81,11 @@ VB_CHECKED bool vb_try_and_not_into(uint8_t *out, size_t out_size, size_t out_of
         size_t right_size, size_t right_offset, size_t len);
 
 /*
- * Sets each of the `len` bits of `out` from bit `out_offset` on to true if the row is valid in both
- * of two columns: `and` of the bits of `left` from bit `left_offset` on and of `right` from bit
- * `right_offset` on. A null pointer of size 0 is a missing validity: each row is valid in that
- * column, and its offset is ignored. So with one validity that may be missing, and NULL, 0, 0 for
- * the other one, this also makes a mask for any other call.
+ * Sets bit `out_offset + k` of `out`, for each k below `len`, to whether row k is valid in both of
+ * two columns: to `and` of bit `left_offset + k` of `left` and bit `right_offset + k` of `right`. A
+ * null pointer of size 0 is a missing validity: each row is valid in that column, and its offset is
+ * ignored. So with one validity that may be missing, and NULL, 0, 0 for the other one, this also
+ * makes a mask for any other call.
  *
  *     uint8_t out[] = {0};
  *     const uint8_t valid[] = {0xEC};
@@ -201,11 +201,11 @@ VB_CHECKED bool vb_try_unpack_bytes(uint8_t *out, size_t out_count, const uint8_
 
 /*
  * Takes (gathers) bits: writes the bits of the window at the indices to the bits of `out` from bit
- * `out_offset` on, one for each index. Returns the first position that counts and whose index is
- * out of range (not below `len`), if there is one; the checked form writes it to `taken`. If
- * `all_valid` is true, each position counts, and the validity may be null, of no bytes. Else a
- * position counts if its bit of `validity`, from bit `validity_offset` on, is true; the others get
- * false, and their indices are ignored. Every other bit of `out` is unchanged. If a position is
+ * `out_offset` on, one for each index. If `all_valid` is true, each position counts, and the
+ * validity may be null, of no bytes. Else a position counts if its bit of `validity`, from bit
+ * `validity_offset` on, is true; the others get false, and their indices are ignored. Returns the
+ * first position that counts and whose index is out of range (not below `len`), if there is one;
+ * the checked form writes it to `taken`. Every other bit of `out` is unchanged. If a position is
  * returned, the bits of `out` for all indices are unspecified. Processes 64 indices at a time, or
  * single indices if the window has 2^32 - 9 bits or more.
  *

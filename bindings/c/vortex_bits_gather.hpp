@@ -1,7 +1,8 @@
 /*
  * Bits built from other bits, a part of vortex_bits.hpp, which includes this file: validities that
- * may be missing, pack and unpack truth values, take (gather) bits at indices, filter by a mask and
- * deposit again by it, and `and` and `or` of truth values that may be null.
+ * may be missing, truth values packed and unpacked, bits at indices (take, gather), bits that a
+ * mask selects (filter) and their inverse (deposit), and `and` and `or` of truth values that may be
+ * null.
  *
  *     std::array<bool, 3> flags = {true, false, true};
  *     std::vector<std::uint8_t> packed(1);
@@ -188,7 +189,7 @@ template <class Bools> void bits::copy_to_bools(Bools &&out) const
 {
     using item = detail::lent_t<std::remove_reference_t<Bools>>;
     static_assert(std::is_same_v<item, bool>,
-        "copy_to_bools writes values of bool, of which std::vector<bool> lends none");
+        "copy_to_bools writes values of bool, which std::vector<bool> doesn't store");
     detail::expect(detail::size(out) == len_, "not a bool for each bit");
     if constexpr (std::is_same_v<item, bool>) {
         vb_unpack_bools(out.data(), detail::size(out), bytes_, size_, offset_, len_);
@@ -205,7 +206,7 @@ template <class Bytes> void bits::copy_to_bytes(Bytes &&out) const
 template <class Bools> void bits_mut::copy_from_bools(const Bools &bools)
 {
     static_assert(std::is_same_v<std::remove_cv_t<detail::lent_t<const Bools>>, bool>,
-        "copy_from_bools packs values of bool, of which std::vector<bool> lends none");
+        "copy_from_bools packs values of bool, which std::vector<bool> doesn't store");
     detail::expect(detail::size(bools) == len_, "not a bit for each bool");
     if constexpr (!std::is_void_v<detail::lent_t<const Bools>>) {
         vb_pack_bools(writable(), size_, offset_, bools.data(), len_);
@@ -225,7 +226,7 @@ template <class Bytes> void bits_mut::copy_from_truthy(const Bytes &truthy)
 template <class Bools, class Out> void pack_bools(const Bools &bools, Out &&out)
 {
     static_assert(std::is_same_v<std::remove_cv_t<detail::lent_t<const Bools>>, bool>,
-        "pack_bools packs values of bool, of which std::vector<bool> lends none");
+        "pack_bools packs values of bool, which std::vector<bool> doesn't store");
     static_assert(detail::is_bytes<Out>(), "pack_bools writes bytes of std::uint8_t");
     detail::expect(fits(detail::size(out), 0, detail::size(bools)), "no space for a bit per bool");
     if constexpr (!std::is_void_v<detail::lent_t<const Bools>>) {

@@ -61,7 +61,7 @@ template <class Codes, class Values>
 std::optional<std::size_t> float_group_sums(view<double> sums, const Codes &codes,
     const Values &values, std::optional<bits> mask)
 {
-    expect(!mask || mask->size() == detail::size(codes), "not a bit of the mask for each code");
+    expect(!mask || mask->size() == detail::size(codes), "mask and codes differ in length");
     const auto wrong = wrong_code(codes, mask, sums.size());
     if (!wrong) {
         for_each_selected(detail::size(codes), mask,

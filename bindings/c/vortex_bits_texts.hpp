@@ -187,7 +187,7 @@ public:
     /* Returns the `len` texts from row `start` on. */
     texts slice(std::size_t start, std::size_t len) const
     {
-        detail::expect(start <= len_ && len <= len_ - start, "a slice is longer than its texts");
+        detail::expect(start <= len_ && len <= len_ - start, "a slice is not in its texts");
         texts slice = *this;
         slice.offsets_ += start;
         slice.len_ = len;

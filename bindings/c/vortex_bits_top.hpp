@@ -45,8 +45,9 @@ public:
     const std::vector<item> &items() const && = delete;
 
     /*
-     * Adds the values of a batch that `mask` selects, all without a mask. The first row of the next
-     * batch is the one after the last value of this one. If memory runs out, it adds nothing.
+     * Adds the values of a batch that `mask` selects, or all if there is no mask. The first row of
+     * the next batch is the one after the last value of this one. If memory runs out, it adds
+     * nothing.
      */
     template <class Values>
     void append(const Values &values, std::optional<bits> mask = std::nullopt)

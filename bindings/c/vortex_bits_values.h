@@ -174,13 +174,12 @@ VB_CHECKED bool vb_try_scatter_values(void *out, size_t out_count, const void *v
 
 /*
  * Takes (gathers) values: writes the values at the indices to the front of `out`, one each.
- * Returns the first position that counts and whose index is out of range (not below
- * `values_count`), if there is one; the checked form writes it to `taken`. `out_count`, the
- * capacity of `out`, must be at least the number of indices. If `all_valid` is true, each position
- * counts, and the validity may be null, of no bytes. Else a position counts if its bit of
- * `validity`, from bit `validity_offset` on, is true; the others get 0, and their indices are
- * ignored. If a position is returned, the items of `out` for all indices are unspecified. Later
- * items are unchanged.
+ * `out_count`, the capacity of `out`, must be at least the number of indices. If `all_valid` is
+ * true, each position counts, and the validity may be null, of no bytes. Else a position counts if
+ * its bit of `validity`, from bit `validity_offset` on, is true; the others get 0, and their
+ * indices are ignored. Returns the first position that counts and whose index is out of range (not
+ * below `values_count`), if there is one; the checked form writes it to `taken`. If a position is
+ * returned, the items of `out` for all indices are unspecified. Later items are unchanged.
  *
  * vb_take_values_u64_u32 takes values of 64 bits at indices of 32. For values of another type of
  * the size, cast the pointers, or call vb_take_values. Signed indices can be cast too, if

@@ -88,16 +88,16 @@ static inline void make_sources(void)
     }
 }
 
-/* Returns the number of bytes that have a bit of its windows, or its items. */
+/* Returns the number of bytes that have a bit of one of its windows, or that its items take. */
 static inline size_t bytes_of(const struct writer *it, size_t bit, size_t count)
 {
     return it->each != 0 ? it->each * count : count == 0 ? 0 : (bit + count + 7) / 8;
 }
 
 /*
- * The call of `it` on bits from bit `bit` of `first` on, or on items from there. Its sizes include
- * all bytes up to `end`. If the first bit is an argument of the function, `out` begins `before`
- * bytes earlier.
+ * The call of `it` that writes `count` bits from bit `bit` of `first` on, or `count` items from
+ * `first` on. Its sizes include all bytes up to `end`. If the first bit is an argument of the
+ * function, `out` begins `before` bytes earlier.
  */
 static inline struct job job_of(const struct writer *it, uint8_t *const first[OUTS],
     uint8_t *const end[OUTS], size_t before, size_t bit, size_t count, const uint8_t *mask)

@@ -1,9 +1,9 @@
 /*
  * The functions of vortex_bits.h that do more than call the function of a level.
  *
- * The walks process a window page by page. The functions of a level skip four words of zeros at
- * once. These words may be on two pages of memory, so a call could read past the page of the last
- * item that fits in the output.
+ * The walks process a window page by page if the output may be too small. The functions of a level
+ * skip four words of zeros at once. These words may be on two pages of memory, so a call could read
+ * past the page of the last item that fits in the output.
  */
 #ifndef VORTEX_BITS_BY_HAND_H
 #define VORTEX_BITS_BY_HAND_H

@@ -1,8 +1,8 @@
 /*
  * The functions of vortex_bits.h. Each calls the function of a processor level, such as
  * vb_v2_count_ones. It replaces a null pointer to no items by one that the called function accepts.
- * A checked form returns false for a null pointer to one item or more. by_hand.h has the functions
- * that do more.
+ * A checked form returns false for a null pointer to one item or more. by_hand.h and made.h have
+ * the functions that do more.
  *
  * With VB_LEVEL (2, 3 or 4) they call that level only. Without it they call the higher one of v2
  * and v3 that the processor has.
@@ -123,9 +123,9 @@ static inline uint8_t known(uint8_t op)
 /*
  * Few calls have a null pointer or an unknown comparison, or come before a level is chosen: the
  * function rare_NAME is for these. The others pay for one test of the highest bit of several
- * numbers. The test selects a function pointer, which one call uses: with a call in each branch,
- * compilers copy each argument on the stack through a register. A pointer with that bit set goes to
- * rare_NAME too, which accepts any pointer.
+ * numbers. The test selects a function pointer for one call: with a call in each branch, compilers
+ * copy each argument on the stack through a register. A pointer with that bit set goes to rare_NAME
+ * too, which accepts any pointer.
  */
 #define NULL_DIGIT(number) ((uintptr_t)(number) - 1)
 #define UNKNOWN_DIGIT(op) ((uintptr_t)VB_GREATER_OR_EQUAL - (op))
