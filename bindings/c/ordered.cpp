@@ -283,6 +283,13 @@ static void refused_memory()
     const auto keep_both = [&] { kept.append_kept({offsets, bytes}, bits(both, 0, 2)); };
     check(in_turn(keep_both, no_text) == 2, "the requests of texts");
     check(kept.size() == 2 && kept.bytes() == bytes, "texts after refusals");
+    vortex_bits::texts_mut<std::int32_t> copy;
+    copy.append(std::string(20, 'b'));
+    const auto is_old = [&] { return copy.size() == 1 && copy[0] == std::string(20, 'b'); };
+    check(in_turn([&] { copy = kept; }, is_old) == 2, "the requests of an assignment");
+    auto &same = copy;
+    copy = std::move(same);
+    check(copy.size() == 2 && copy.bytes() == bytes, "an assignment after refusals");
 }
 
 static void refusals()

@@ -322,6 +322,9 @@ static void too_many_bytes()
     refused([&] { (void)kept.append_kept(all, bits(mask, 0, 1)); }, "too many bytes");
     refused([&] { kept.append(all[0]); }, "too many bytes");
     check(kept.size() == 2 && kept.bytes().size() == size + 2, "a refused append changed nothing");
+    const texts_mut<std::int32_t> moved = std::move(kept);
+    refused([&] { (void)kept.append_taken(all, twice); }, "too many bytes");
+    check(moved.size() == 2 && kept.offsets().empty(), "a refused append after a move");
     munmap(zeros, size);
 }
 

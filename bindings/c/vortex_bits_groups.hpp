@@ -77,7 +77,7 @@ std::optional<std::size_t> float_group_sums(view<double> sums, const Codes &code
 /*
  * A bitmap for each code of a column that comes in batches: bit `row` of bitmap `code` is whether
  * the row has the code. It owns the bitmaps, which have one bit per row each, so an append writes
- * to all of them. If memory runs out, an append changes nothing.
+ * to all of them. If memory runs out, it appends nothing.
  */
 class bitmaps_by_code {
 public:
@@ -97,7 +97,7 @@ public:
     std::size_t codes() const { return bitmaps_.size(); }
     std::size_t size() const { return rows_; }
 
-    /* Returns the bitmap of a code, valid until the next append. */
+    /* Returns the bitmap of a code, valid until the next append, even one that fails. */
     bits operator[](std::size_t code) const &
     {
         detail::expect(code < codes(), "a code is not one of the bitmaps");
@@ -108,7 +108,8 @@ public:
     /*
      * Appends a row for each code, a whole number of 8 to 32 bits. Rows that the mask doesn't
      * select, such as nulls, are in no bitmap. Returns the first selected row of this batch whose
-     * code is out of range, if there is one; then it appends nothing.
+     * code is out of range, if there is one; then it appends nothing. The mask must not be one of
+     * its own bitmaps.
      */
     template <class Codes>
     [[nodiscard]] std::optional<std::size_t> append(const Codes &codes,

@@ -64,14 +64,24 @@ template <class Offset> struct text_space {
  * A column that owns its texts, and grows at its end by single texts or by those of batches. Its
  * constructor, copies and appends allocate memory. An append throws std::out_of_range, before it
  * changes anything, if the lengths of its arguments differ, or the bytes become more than the
- * largest `Offset`; if memory runs out, it appends nothing. Texts to append must not be its own.
- * `Offset` is that of texts.
+ * largest `Offset`. If memory runs out, an append appends nothing, and an assignment changes
+ * nothing. Texts to append must not be its own. `Offset` is that of texts.
  */
 template <class Offset> class texts_mut {
     static_assert(std::is_same_v<Offset, std::int32_t> || std::is_same_v<Offset, std::int64_t>,
         "offsets of texts are of std::int32_t or std::int64_t");
 
 public:
+    texts_mut() = default;
+    texts_mut(const texts_mut &) = default;
+    texts_mut(texts_mut &&) noexcept = default;
+    texts_mut &operator=(texts_mut from) noexcept
+    {
+        offsets_.swap(from.offsets_);
+        bytes_.swap(from.bytes_);
+        return *this;
+    }
+
     std::size_t size() const { return std::max<std::size_t>(offsets_.size(), 1) - 1; }
     bool empty() const { return size() == 0; }
 
@@ -79,7 +89,7 @@ public:
     const std::vector<Offset> &offsets() const & { return offsets_; }
     const std::string &bytes() const & { return bytes_; }
 
-    /* Returns all texts, or one of them. They are valid until the next append. */
+    /* Returns all texts, or one of them, valid until the next append, assignment or move. */
     texts<Offset> as_texts() const & { return texts<Offset>(offsets_, bytes_, size()); }
     std::string_view operator[](std::size_t row) const & { return as_texts()[row]; }
 
@@ -91,7 +101,6 @@ public:
 
     void append(std::string_view text)
     {
-        begin();
         const space to = lengthen(1, grown(0, text.size()));
         std::copy(text.begin(), text.end(), to.bytes);
         *to.offsets = static_cast<Offset>(bytes_.size());
@@ -101,7 +110,6 @@ public:
     std::size_t append_kept(texts<Offset> from, bits mask)
     {
         detail::expect(mask.size() == from.size(), "not a bit for each text");
-        begin();
         std::size_t rows = 0, bytes = 0;
         mask.for_each_run([&](std::size_t start, std::size_t end) {
             rows += end - start;
@@ -133,7 +141,6 @@ public:
             "append_taken takes indices of a whole number of 8, 16, 32 or 64 bits");
         const std::size_t count = detail::size(indices);
         detail::expect(!valid || valid->size() == count, "not a bit of validity for each index");
-        begin();
         // A negative index becomes greater than each row.
         const auto at = [&](std::size_t k) { return static_cast<std::size_t>(indices.data()[k]); };
         const auto counts = [&](std::size_t k) { return !valid || (*valid)[k]; };
@@ -163,7 +170,8 @@ private:
     std::size_t grown(std::size_t bytes, std::size_t more) const
     {
         const auto most = static_cast<std::size_t>(std::numeric_limits<Offset>::max());
-        detail::expect(more <= most - bytes_.size() - bytes, "more bytes than an offset can have");
+        const std::size_t own = offsets_.empty() ? 0 : bytes_.size();
+        detail::expect(more <= most - own - bytes, "more bytes than an offset can have");
         return bytes + more;
     }
 
@@ -179,6 +187,7 @@ private:
     /* Appends zeros for such numbers of texts and bytes. If memory runs out, appends nothing. */
     space lengthen(std::size_t rows, std::size_t bytes)
     {
+        begin();
         detail::reserve(offsets_, rows);
         detail::reserve(bytes_, bytes);
         offsets_.resize(offsets_.size() + rows);
