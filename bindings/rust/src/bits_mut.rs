@@ -293,8 +293,8 @@ impl<'a> BitsMut<'a> {
         let mut made = [false; 512];
         for start in (0..self.len).step_by(made.len()) {
             let len = (self.len - start).min(made.len());
-            for (place, made) in (start..).zip(&mut made[..len]) {
-                *made = bit(place);
+            for (row, made) in made[..len].iter_mut().enumerate() {
+                *made = bit(start + row);
             }
             kernels::pack_bools(&mut self.part(start, len).written(), &made[..len]);
         }

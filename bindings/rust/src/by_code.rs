@@ -40,8 +40,9 @@ impl BitmapsByCode {
     ///
     /// # Panics
     ///
-    /// Panics if the number of bits of all codes exceeds `usize::MAX`, or their bytes exceed the
-    /// memory that a [`Vec`] can have. Calls that append panic then too.
+    /// Panics if the number of bits of all codes, each rounded up to a multiple of 512, exceeds
+    /// `usize::MAX` (without codes that of one), or their bytes exceed the memory that a [`Vec`] can
+    /// have. Calls that append panic then too.
     #[must_use]
     #[track_caller]
     pub fn with_capacity(codes: usize, rows: usize) -> BitmapsByCode {
@@ -115,8 +116,8 @@ impl BitmapsByCode {
     ///
     /// # Panics
     ///
-    /// Panics if the number of bits of all codes exceeds `usize::MAX`, or their bytes exceed the
-    /// memory that a [`Vec`] can have.
+    /// Panics if the number of bits of all codes, each rounded up to a multiple of 512, exceeds
+    /// `usize::MAX`, or their bytes exceed the memory that a [`Vec`] can have.
     #[track_caller]
     pub fn try_append<I: BitIndex>(
         &mut self,
@@ -229,8 +230,8 @@ pub fn bitmaps_by_code<I: BitIndex>(codes: &[I], number: usize, mask: impl Mask)
 ///
 /// # Panics
 ///
-/// Panics if the number of bits of all codes exceeds `usize::MAX`, or if their bytes or the bitmaps
-/// exceed the memory that a [`Vec`] can have.
+/// Panics if the number of bits of all codes, each rounded up to a multiple of 512, exceeds
+/// `usize::MAX`, or if their bytes or the bitmaps exceed the memory that a [`Vec`] can have.
 #[track_caller]
 pub fn try_bitmaps_by_code<I: BitIndex>(
     codes: &[I],

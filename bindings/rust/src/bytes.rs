@@ -5,6 +5,8 @@ use alloc::vec;
 use alloc::vec::Vec;
 use core::fmt;
 use core::ops::{Deref, DerefMut};
+#[cfg(feature = "arrow")]
+use core::ptr;
 
 /// The alignment of the first byte.
 const ALIGNMENT: usize = 64;
@@ -77,6 +79,15 @@ impl AlignedBytes {
         all.try_reserve_exact(bytes.checked_add(ALIGNMENT - 1)?)
             .ok()?;
         Some(AlignedBytes::cut(all, 0))
+    }
+
+    /// Returns the address of the first byte; if there is none, an address as well aligned.
+    #[cfg(feature = "arrow")]
+    pub(crate) fn address(&self) -> *const u8 {
+        if self.is_empty() {
+            return ptr::without_provenance(ALIGNMENT);
+        }
+        self.as_ptr()
     }
 
     /// Appends bytes. There must be capacity for them.

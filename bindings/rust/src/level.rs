@@ -1,5 +1,6 @@
 //! The code that the processor can run, and the code that calls run.
 
+#[cfg(vortex_bits_native)]
 use core::sync::atomic::{AtomicU8, Ordering};
 
 #[cfg(vortex_bits_native)]
@@ -19,6 +20,7 @@ pub enum Level {
 }
 
 /// All levels, the lowest first.
+#[cfg(any(vortex_bits_native, feature = "levels"))]
 const LEVELS: [Level; 3] = [Level::Portable, Level::V2, Level::V3];
 
 /// The level, if the build fixes it: no archive is linked, or the compiler's target has v3, such as
@@ -60,7 +62,9 @@ compile_error!(
      told counts: `-C target-cpu=x86-64-v2` or a higher one"
 );
 
-/// The level that calls use, as its index plus 1; 0 before the first call chooses it.
+/// The level that calls use, as its index plus 1; 0 before the first call chooses it. Without
+/// archives there is one level, and some targets have no such atomic numbers.
+#[cfg(vortex_bits_native)]
 static CURRENT: AtomicU8 = AtomicU8::new(0);
 
 /// Tests whether the processor has each feature. The test is at run time with `std`, and at compile
@@ -83,13 +87,7 @@ impl Level {
     #[inline]
     #[must_use]
     pub fn current() -> Level {
-        if let Some(level) = FIXED {
-            return level;
-        }
-        match CURRENT.load(Ordering::Relaxed) {
-            0 => choose(),
-            place => LEVELS[usize::from(place) - 1],
-        }
+        FIXED.unwrap_or_else(chosen)
     }
 
     /// Returns whether the code of the level is linked, and the processor has the level.
@@ -113,6 +111,7 @@ impl Level {
     #[must_use]
     pub fn make_current(self) -> bool {
         let available = self.is_available();
+        #[cfg(vortex_bits_native)]
         if available {
             CURRENT.store(self.stored(), Ordering::Relaxed);
         }
@@ -125,6 +124,7 @@ impl Level {
         LEVELS.into_iter().filter(|level| level.is_available())
     }
 
+    #[cfg(vortex_bits_native)]
     fn stored(self) -> u8 {
         self as u8 + 1
     }
@@ -141,6 +141,21 @@ pub(crate) fn kernels() -> Option<&'static Kernels> {
     }
 }
 
+#[cfg(not(vortex_bits_native))]
+fn chosen() -> Level {
+    Level::Portable
+}
+
+#[cfg(vortex_bits_native)]
+#[inline]
+fn chosen() -> Level {
+    match CURRENT.load(Ordering::Relaxed) {
+        0 => choose(),
+        place => LEVELS[usize::from(place) - 1],
+    }
+}
+
+#[cfg(vortex_bits_native)]
 #[cold]
 #[inline(never)]
 fn choose() -> Level {

@@ -14,8 +14,8 @@ use crate::{BitIndex, Bitmap, Grow};
 
 /// Which rows are valid: one bit per row, or no bits if all rows are valid. Arrow leaves out the
 /// validity of a column without nulls in the same way. Calls that return a new validity return None
-/// if there were no bits. Bits that are present may still be all true; no call tests that. Two
-/// validities are equal if they have the same valid rows, with bits or without.
+/// if there were no bits. Bits that are present may still be all true; only `==` tests that.
+/// Two validities are equal if they have the same valid rows, with bits or without.
 ///
 /// Operators always return a `Bitmap`, as `is null` and `is not null` need: `!`
 /// returns which rows are null, `Bitmap::from` which are valid, and `&`, `|` and `^` accept a
@@ -297,7 +297,8 @@ impl Validity<'_> {
     /// `kept` is then unchanged.
     #[track_caller]
     pub fn filter_onto<B: Grow>(self, mask: impl Mask, kept: &mut Bitmap<B>) {
-        let rows = mask.of_len(self.len).map_or(self.len, Bits::count_ones);
+        let mask = mask.of_len(self.len);
+        let rows = mask.map_or(self.len, Bits::count_ones);
         match self.bits {
             Some(bits) => bits.filter_into(mask, kept.grow(rows)),
             None => kept.append_n(rows, true),

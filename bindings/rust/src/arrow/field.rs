@@ -124,18 +124,17 @@ impl Field {
     }
 
     /// Returns the same column, which may have nulls. Run-end-encoded columns have the nulls in
-    /// their values, and unions in their first child.
+    /// their values, and unions in their first child: these may then have nulls too.
     pub(super) fn or_null(mut self) -> Field {
         let values = match self.layout {
             Layout::Runs => self.children.get_mut(1),
             Layout::Union { .. } => self.children.first_mut(),
             _ => None,
         };
-        let Some(values) = values else {
-            return self.nullable(true);
-        };
-        *values = Arc::new(Field::clone(values).or_null());
-        self
+        if let Some(values) = values {
+            *values = Arc::new(Field::clone(values).or_null());
+        }
+        self.nullable(true)
     }
 
     pub(super) fn of(name: &str, format: &str, layout: Layout) -> Field {

@@ -1,7 +1,7 @@
 //! Operators over columns without nulls, with metadata and of each type of texts. The flags of
 //! batches and streams for nulls differ.
 use vortex_bits::arrow::{Array, ArrowError, Export, ExportStream, Field, Stream};
-use vortex_bits::{Bitmap, Comparison, values};
+use vortex_bits::{Bitmap, Bits, Comparison, values};
 
 use crate::export::{ReadBack, raw_of};
 use crate::ranges::{offsets, view};
@@ -389,4 +389,48 @@ fn more_levels_are_no_array() {
         Export::batch([below])
     });
     let _ = nested.into_array();
+}
+
+/// The nulls of unions and runs are those of items, but rows may be null.
+#[test]
+fn a_null_index_makes_each_column_nullable() {
+    let count = Count::default();
+    let item = |name, format| Schema::new(name, format, &count);
+    let numbers = |bytes: &[u8]| raw::Array::values(2, None, bytes, &count);
+    let ids = vec![Some(Buffer::new(&[0, 0], 0))];
+    let union = raw::Array::of(2, ids, vec![numbers(&[1, 2])], None, &count);
+    let runs = raw::Array::values(1, None, &2i32.to_ne_bytes(), &count);
+    let values = raw::Array::values(1, None, &[7], &count);
+    let runs = raw::Array::of(2, vec![], vec![runs, values], None, &count);
+    for (array, format, items) in [
+        (union, "+us:0", vec![item("number", "C")]),
+        (runs, "+r", vec![item("run_ends", "i"), item("values", "C")]),
+    ] {
+        let mut schema = Schema::of("", format, items, None, &count);
+        schema.flags = 0;
+        for child in 0..usize::try_from(schema.n_children).unwrap() {
+            // SAFETY: there is a pointer for each child, and nothing else uses the child.
+            unsafe { (**schema.children.add(child)).flags = 0 };
+        }
+        let rows = import(array, schema).unwrap();
+        assert!(!rows.field().is_nullable());
+        let taken = rows
+            .take_valid(&[0u8, 9], Bits::new(&[0b01], 0, 2))
+            .unwrap();
+        assert!(taken.field().is_nullable(), "{format}");
+        assert!(!rows.take(&[0u8]).unwrap().field().is_nullable());
+    }
+}
+
+#[test]
+fn a_format_that_stays_keeps_each_flag() {
+    let count = Count::default();
+    let array = raw::Array::values(1, None, &[7; 4], &count);
+    let mut schema = Schema::new("", "i", &count);
+    schema.flags = 6;
+    let rows = import(array, schema).unwrap();
+    let field = rows.field().clone();
+    let same = Export::from(rows.clone()).with_field(&field).unwrap();
+    assert_eq!(same.field(), &field);
+    assert_eq!(Export::from(rows).with_format("i").unwrap().field(), &field);
 }

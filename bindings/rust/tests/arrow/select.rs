@@ -1,6 +1,6 @@
 //! Rows of each type selected by masks, at indices and from several arrays, compared with the rows
 //! that a plain reader finds one by one in the input and in the export.
-use vortex_bits::arrow::{Array, ArrowError, Export};
+use vortex_bits::arrow::{Array, ArrowError, Export, Field};
 use vortex_bits::{Bitmap, Bits};
 
 use crate::cells::{Cell, cells};
@@ -246,5 +246,33 @@ fn children_of_null_rows_are_null_or_empty() {
                 .eq([Some(&b"a"[..]), (!may_be_null).then_some(b"")])
         );
         assert_eq!(coded.dictionary_indices().unwrap(), [1, 0]);
+    }
+}
+
+/// Some consumers refuse a buffer that isn't aligned, even if no row needs it.
+#[test]
+fn buffers_of_no_rows_are_aligned() {
+    let numbers = Export::values([1i64, 2], None);
+    let codes = Export::values([1i32, 0], None);
+    let codes = codes.with_dictionary(Export::texts(["a", "b"], None));
+    let of = [numbers, codes.unwrap()].map(Export::into_array);
+    let none = of
+        .iter()
+        .map(|it| it.filter(Bits::new(&[0], 0, 2)).unwrap());
+    let nowhere = of.iter().map(|it| it.take(&[0u8; 0]).unwrap());
+    let joined = ["s", "l", "d:5,2", "vu", "u", "U"];
+    let joined = joined.map(|format| Field::new("", format).unwrap());
+    let joined = joined.map(|field| Export::concat(&field, &[]).unwrap());
+    for export in none.chain(nowhere).chain(joined) {
+        let (mut array, mut schema) = raw_of(export);
+        // SAFETY: there is a pointer for each buffer, and neither struct is released.
+        unsafe {
+            for place in 1..usize::try_from(array.n_buffers).unwrap() {
+                let buffer = *array.buffers.add(place);
+                assert!(buffer.cast::<u128>().is_aligned(), "{buffer:?}");
+            }
+            array.release.unwrap()(&raw mut array);
+            schema.release.unwrap()(&raw mut schema);
+        }
     }
 }

@@ -45,7 +45,8 @@ impl Array {
     /// It copies the selected rows into new memory: numbers, truth values and texts, the columns of
     /// structs, the items of lists and unions, and one value for each run that still has a row. It
     /// shares the buffers of views, the items of list views and the dictionary; the whole array then
-    /// stays allocated as long as they are in use. A batch without columns keeps its number of rows.
+    /// stays allocated as long as they are in use, and so does each array in a chain of such calls.
+    /// A batch without columns keeps its number of rows.
     /// Rows of the children of structs, fixed-size lists and sparse unions are copied, and may cause
     /// errors, even if the row above them is null or belongs to another child.
     ///
@@ -74,9 +75,9 @@ impl Array {
     /// # Errors
     ///
     /// - Returns [`ArrowError::Mask`] if the mask has another number of bits than there are rows.
-    /// - Returns [`ArrowError::Malformed`] if a selected text or list ends before it begins or after
-    ///   the last byte or item of the array, if runs end before the rows do, if a row of a union
-    ///   names no child or item, or if a buffer that the rows need is null.
+    /// - Returns [`ArrowError::Malformed`] if a selected text or list, except views, ends before it
+    ///   begins or after the last byte or item of the array, if runs end before the rows do, if a
+    ///   row of a union names no child or item, or if a buffer that the rows need is null.
     /// - Returns [`ArrowError::TooLong`] if one child has more than 2^31 rows of a dense union, and
     ///   the errors of [`take`](Array::take) if its rows share items.
     /// - Returns [`ArrowError::Memory`] if memory runs out for the copies.

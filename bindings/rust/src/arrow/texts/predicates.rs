@@ -103,7 +103,7 @@ impl Texts<'_> {
 
     /// Returns a bitmap of the rows that are one of the texts, as `in ('a', 'c')`. It sorts the
     /// texts once. For more than 16 texts it then does at most one binary search per row, and none
-    /// for rows that the length or the first eight bytes exclude.
+    /// for most rows that the length or the first eight bytes exclude.
     ///
     /// ```
     /// use vortex_bits::Bitmap;

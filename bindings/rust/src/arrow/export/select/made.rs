@@ -131,7 +131,7 @@ impl Made {
             }
         };
         let own = self.buffers.iter().flatten();
-        buffers.extend(own.map(|it| it.as_ptr().cast::<c_void>()));
+        buffers.extend(own.map(|it| it.address().cast::<c_void>()));
         buffers.extend(self.shared);
         let mut below = Below::new(self.below);
         if let Some(dictionary) = self.dictionary {

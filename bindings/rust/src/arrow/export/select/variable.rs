@@ -220,7 +220,7 @@ pub(super) fn views(
         put(&mut sizes, place, size_of::<i64>(), buffer.len());
     }
     made.shared = buffers.iter().map(|it| it.as_ptr().cast()).collect();
-    made.shared.push(sizes.as_ptr().cast::<c_void>());
+    made.shared.push(sizes.address().cast::<c_void>());
     made.kept.push(sizes);
     made.keep(&nodes.each);
     Ok(made)
