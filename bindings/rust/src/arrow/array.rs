@@ -14,7 +14,7 @@ use super::error::{ArrowError, Fault};
 use super::ffi::{ArrowArray, ArrowSchema, Owned};
 use super::field::Field;
 use super::layout::Layout;
-use super::node::Node;
+use super::node::{Node, Tree};
 use super::primitive::{Primitive, Unaligned};
 use super::texts::View;
 use crate::bits::within;
@@ -94,7 +94,7 @@ impl Array {
     ) -> Result<Array, ArrowError> {
         let owner = Arc::new(array);
         // SAFETY: the caller promises it; the node keeps the owner.
-        let node = unsafe { Node::read(owner.get(), field, &owner)? };
+        let node = unsafe { Node::read(owner.get(), field, Tree::foreign(&owner))? };
         Ok(Array::whole(&Arc::new(node)))
     }
 

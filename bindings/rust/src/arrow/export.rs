@@ -21,7 +21,7 @@ use super::error::ArrowError;
 use super::ffi::{ArrowArray, ArrowSchema, Below, Owned};
 use super::field::Field;
 use super::layout::Layout;
-use super::node::Node;
+use super::node::{Node, Tree};
 use super::primitive::Primitive;
 use crate::Bitmap;
 use crate::error::expect;
@@ -139,7 +139,7 @@ impl Export {
         let held = Held {
             buffers: [&[validity], values].concat(),
             below: Below::new([]),
-            _kept: (Some(kept), valid, None),
+            kept: (Some(kept), valid, None),
         };
         Export {
             array: held.array(len, Some(nulls), offset),
@@ -254,7 +254,7 @@ impl Export {
     ) -> Result<T, ArrowError> {
         let (field, no_owner) = (Arc::new(self.field.clone()), Arc::new(Owned::empty()));
         // SAFETY: the array is as the interface requires, and lives longer than the node.
-        let node = unsafe { Node::read(self.array.get(), &field, &no_owner)? };
+        let node = unsafe { Node::read(self.array.get(), &field, Tree::foreign(&no_owner))? };
         read(&Array::whole(&Arc::new(node)))
     }
 
@@ -291,8 +291,15 @@ impl Export {
     /// doesn't read them.
     pub fn try_into_array(self) -> Result<Array, ArrowError> {
         self.field.is_shallow()?;
-        // SAFETY: the array is as the interface requires, and this is its only owner.
-        unsafe { Array::of(self.array, &Arc::new(self.field)) }
+        let owner = Arc::new(self.array);
+        let tree = Tree {
+            owner: &owner,
+            origin: shared_node,
+        };
+        // SAFETY: the array is as the interface requires, and this is its only owner. `Held::array`
+        // made each array of the tree.
+        let node = unsafe { Node::read(owner.get(), &Arc::new(self.field), tree)? };
+        Ok(Array::whole(&Arc::new(node)))
     }
 }
 
@@ -347,6 +354,17 @@ impl Array {
     }
 }
 
+/// Returns the node of which an array is an export, if it is one.
+///
+/// # Safety
+///
+/// [`Held::array`] made the array, and it isn't released.
+unsafe fn shared_node(array: &ArrowArray) -> Option<Arc<Node>> {
+    // SAFETY: the caller promises it.
+    let held = unsafe { &*array.private_data.cast::<Held>() };
+    Arc::clone(held.kept.0.as_ref()?).downcast().ok()
+}
+
 /// Returns `len` items of a node from `start` on, with its whole children and dictionary.
 fn shared(node: &Arc<Node>, start: usize, len: usize) -> Owned<ArrowArray> {
     let whole = |node: &Arc<Node>| shared(node, node.offset, node.len);
@@ -357,8 +375,8 @@ fn shared(node: &Arc<Node>, start: usize, len: usize) -> Owned<ArrowArray> {
     let held = Held {
         buffers: node.buffers.clone(),
         below,
-        _kept: (
-            Some(Arc::clone(node) as Arc<dyn Any + Send + Sync>),
+        kept: (
+            Some(node.keeper() as Arc<dyn Any + Send + Sync>),
             None,
             None,
         ),
@@ -395,7 +413,7 @@ struct Held {
     buffers: Vec<*const c_void>,
     below: Below<ArrowArray>,
     /// The owner of the values, and the validity; or the owners of new rows.
-    _kept: (
+    kept: (
         Option<Arc<dyn Any + Send + Sync>>,
         Option<Bitmap>,
         Option<Owners>,
@@ -421,7 +439,7 @@ impl Held {
         };
         array.private_data = Box::into_raw(held).cast();
         // SAFETY: the array is as the interface requires. Its bits and values stay where they are
-        // as long as `_kept` lives, which may be dropped on any thread. No one else has the array.
+        // as long as `kept` lives, which may be dropped on any thread. No one else has the array.
         unsafe { Owned::take(&raw mut array) }
     }
 }

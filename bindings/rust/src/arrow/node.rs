@@ -34,8 +34,29 @@ pub(super) struct Node {
     /// least `end` items, and one of fixed-size lists at least `end` times the length of a list.
     pub children: Vec<Arc<Node>>,
     pub dictionary: Option<Arc<Node>>,
+    /// The node whose buffers it has, if its array is an export of that node.
+    origin: Option<Arc<Node>>,
     /// The outermost array. It is released with the last node of the tree.
     _owner: Arc<Owned<ArrowArray>>,
+}
+
+/// A tree of arrays to read.
+#[derive(Clone, Copy)]
+pub(super) struct Tree<'a> {
+    /// The outermost array.
+    pub owner: &'a Arc<Owned<ArrowArray>>,
+    /// Returns the node of which an array of the tree is an export. No other array may be passed.
+    pub origin: unsafe fn(&ArrowArray) -> Option<Arc<Node>>,
+}
+
+impl<'a> Tree<'a> {
+    /// A tree that may be that of another library.
+    pub fn foreign(owner: &'a Arc<Owned<ArrowArray>>) -> Tree<'a> {
+        Tree {
+            owner,
+            origin: |_| None,
+        }
+    }
 }
 
 // SAFETY: the pointers lead to buffers of `_owner`, which may be released on any thread.
@@ -50,12 +71,12 @@ impl Node {
     /// # Safety
     ///
     /// The array is released, or is as the interface requires: each of its pointers is null or
-    /// leads to as much memory as the numbers say. That memory stays until `owner`, the array or a
-    /// parent of it, is released.
+    /// leads to as much memory as the numbers say. That memory stays until the owner of `tree`, the
+    /// array or a parent of it, is released.
     pub unsafe fn read(
         array: &ArrowArray,
         field: &Arc<Field>,
-        owner: &Arc<Owned<ArrowArray>>,
+        tree: Tree<'_>,
     ) -> Result<Node, ArrowError> {
         if array.release.is_none() {
             return Err(Fault::Released("ArrowArray").into());
@@ -84,15 +105,23 @@ impl Node {
             ascends: AtomicBool::new(false),
             buffers,
             // SAFETY: the caller promises it.
-            children: unsafe { children(array, field, owner)? },
+            children: unsafe { children(array, field, tree)? },
             // SAFETY: the caller promises it.
-            dictionary: unsafe { dictionary(array, field, owner)? },
-            _owner: Arc::clone(owner),
+            dictionary: unsafe { dictionary(array, field, tree)? },
+            // SAFETY: the array is of the tree.
+            origin: unsafe { (tree.origin)(array) },
+            _owner: Arc::clone(tree.owner),
         })
     }
 }
 
 impl Node {
+    /// Returns the node that keeps the buffers: this one, or the one that its array is an export
+    /// of. So an export of an export keeps the first array only.
+    pub fn keeper(self: &Arc<Node>) -> Arc<Node> {
+        Arc::clone(self.origin.as_ref().unwrap_or(self))
+    }
+
     /// Returns how many of `len` items are null, if it is known without counting: they are all
     /// items, or no item is null.
     pub fn nulls_of(&self, len: usize) -> Option<usize> {
@@ -191,7 +220,7 @@ fn in_use(
 unsafe fn children(
     array: &ArrowArray,
     field: &Field,
-    owner: &Arc<Owned<ArrowArray>>,
+    tree: Tree<'_>,
 ) -> Result<Vec<Arc<Node>>, ArrowError> {
     let wanted = i64::try_from(field.children.len()).ok();
     count("n_children", array.n_children, wanted)?;
@@ -201,7 +230,7 @@ unsafe fn children(
     let children = fields
         .map(|(place, of)| {
             // SAFETY: the caller promises it.
-            unsafe { nth_child(array, place, of, owner, items) }
+            unsafe { nth_child(array, place, of, tree, items) }
                 .map(Arc::new)
                 .map_err(|error| error.under(&field.name_of(place)))
         })
@@ -265,11 +294,11 @@ unsafe fn nth_child(
     array: &ArrowArray,
     place: usize,
     field: &Arc<Field>,
-    owner: &Arc<Owned<ArrowArray>>,
+    tree: Tree<'_>,
     wanted: usize,
 ) -> Result<Node, ArrowError> {
     // SAFETY: the caller promises it.
-    let node = unsafe { Node::read(child(array.children, place)?.as_ref(), field, owner)? };
+    let node = unsafe { Node::read(child(array.children, place)?.as_ref(), field, tree)? };
     if node.len < wanted {
         let got = node.len;
         return Err(Fault::Short { wanted, got }.into());
@@ -283,12 +312,12 @@ unsafe fn nth_child(
 unsafe fn dictionary(
     array: &ArrowArray,
     field: &Field,
-    owner: &Arc<Owned<ArrowArray>>,
+    tree: Tree<'_>,
 ) -> Result<Option<Arc<Node>>, ArrowError> {
     match (NonNull::new(array.dictionary), &field.dictionary) {
         (None, None) => Ok(None),
         // SAFETY: the caller promises it.
-        (Some(items), Some(field)) => unsafe { Node::read(items.as_ref(), field, owner) }
+        (Some(items), Some(field)) => unsafe { Node::read(items.as_ref(), field, tree) }
             .map(|node| Some(Arc::new(node)))
             .map_err(|error| error.under("dictionary")),
         _ => Err(Fault::Dictionary.into()),

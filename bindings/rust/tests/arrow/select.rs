@@ -276,3 +276,40 @@ fn buffers_of_no_rows_are_aligned() {
         }
     }
 }
+
+/// Of a chain of steps over shared rows only the first array stays: the memory of the steps between
+/// is released, and a drop of the last one needs no stack for each.
+#[test]
+fn steps_over_shared_rows_keep_the_first_array_only() {
+    let count = Count::default();
+    let items = raw::Array::values(2, None, &[7, 9], &count);
+    let codes = vec![None, Some(raw::Buffer::new(&[1, 0], 0))];
+    let codes = raw::Array::of(2, codes, vec![], Some(items), &count);
+    let items = raw::Schema::new("", "C", &count);
+    let schema = raw::Schema::of("city", "c", vec![], Some(items), &count);
+    let first = import(codes, schema).unwrap();
+    let released = count.get();
+
+    let numbers = Export::values([1i64, 2], None).named("number");
+    let batch = Export::batch([Export::from(first.clone()), numbers]);
+    let mut rows = batch.into_array();
+    let mut same = first;
+    for _ in 0..30_000 {
+        same = Export::from(same.slice(0..2)).into_array();
+        rows = Export::from(rows).into_array();
+        rows = rows.filter(Bits::new(&[0b11], 0, 2)).unwrap().into_array();
+    }
+    assert_eq!(same.values::<i8>().unwrap(), [1, 0]);
+    let city = rows.column("city").unwrap();
+    assert_eq!(city.values::<i8>().unwrap(), [1, 0]);
+    assert_eq!(city.dictionary().unwrap().values::<u8>().unwrap(), [7, 9]);
+    assert_eq!(
+        rows.column("number").unwrap().values::<i64>().unwrap(),
+        [1, 2]
+    );
+    drop((rows, city));
+    assert_eq!(count.get(), released);
+    assert_eq!(same.dictionary().unwrap().values::<u8>().unwrap(), [7, 9]);
+    drop(same);
+    assert_eq!(count.get(), released + 2);
+}

@@ -72,7 +72,7 @@ impl Export {
         let held = Held {
             buffers: [validity].into(),
             below,
-            _kept: (None, valid, None),
+            kept: (None, valid, None),
         };
         Export {
             array: held.array(len, Some(nulls), 0),

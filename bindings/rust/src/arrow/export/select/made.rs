@@ -70,7 +70,7 @@ impl Made {
     }
 
     pub(super) fn keep(&mut self, of: &[Array]) {
-        self.nodes.extend(of.iter().map(|it| Arc::clone(&it.node)));
+        self.nodes.extend(of.iter().map(|it| it.node.keeper()));
     }
 
     /// Adds the selected rows of each child.
@@ -140,7 +140,7 @@ impl Made {
         let held = Held {
             buffers,
             below,
-            _kept: (
+            kept: (
                 None,
                 None,
                 Some((valid, self.buffers, self.kept, self.nodes)),
