@@ -21,7 +21,7 @@ use super::error::ArrowError;
 use super::ffi::{ArrowArray, ArrowSchema, Below, Owned};
 use super::field::Field;
 use super::layout::Layout;
-use super::node::{Node, Tree};
+use super::node::{Node, Origin, Tree};
 use super::primitive::Primitive;
 use crate::Bitmap;
 use crate::error::expect;
@@ -294,7 +294,7 @@ impl Export {
         let owner = Arc::new(self.array);
         let tree = Tree {
             owner: &owner,
-            origin: shared_node,
+            origin,
         };
         // SAFETY: the array is as the interface requires, and this is its only owner. `Held::array`
         // made each array of the tree.
@@ -354,15 +354,19 @@ impl Array {
     }
 }
 
-/// Returns the node of which an array is an export, if it is one.
+/// Returns what an array shares with others.
 ///
 /// # Safety
 ///
 /// [`Held::array`] made the array, and it isn't released.
-unsafe fn shared_node(array: &ArrowArray) -> Option<Arc<Node>> {
+unsafe fn origin(array: &ArrowArray) -> Origin {
     // SAFETY: the caller promises it.
-    let held = unsafe { &*array.private_data.cast::<Held>() };
-    Arc::clone(held.kept.0.as_ref()?).downcast().ok()
+    let (kept, _, owners) = unsafe { &(*array.private_data.cast::<Held>()).kept };
+    let node = kept.as_ref().map(Arc::clone);
+    Origin {
+        node: node.and_then(|it| it.downcast().ok()),
+        shared: owners.as_ref().and_then(|(.., shared)| shared.clone()),
+    }
 }
 
 /// Returns `len` items of a node from `start` on, with its whole children and dictionary.

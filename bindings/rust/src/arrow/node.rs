@@ -10,6 +10,7 @@ use super::error::{ArrowError, Fault};
 use super::ffi::{ArrowArray, Owned};
 use super::field::{Field, child, count};
 use super::layout::Layout;
+use crate::bytes::AlignedBytes;
 
 /// An array of a tree of arrays, with the owner of the tree.
 pub(super) struct Node {
@@ -34,10 +35,25 @@ pub(super) struct Node {
     /// least `end` items, and one of fixed-size lists at least `end` times the length of a list.
     pub children: Vec<Arc<Node>>,
     pub dictionary: Option<Arc<Node>>,
-    /// The node whose buffers it has, if its array is an export of that node.
-    origin: Option<Arc<Node>>,
+    /// What its array shares.
+    origin: Origin,
     /// The outermost array. It is released with the last node of the tree.
     _owner: Arc<Owned<ArrowArray>>,
+}
+
+/// What an array of this crate's exports shares with others.
+#[derive(Default)]
+pub(super) struct Origin {
+    /// The node whose buffers it has, if it is an export of that node.
+    pub node: Option<Arc<Node>>,
+    /// The owners of the buffers of new views.
+    pub shared: Option<Arc<Shared>>,
+}
+
+/// The owners of the buffers that the views of several arrays name, and of the buffers' sizes.
+pub(super) struct Shared {
+    pub nodes: Vec<Arc<Node>>,
+    pub _sizes: Option<AlignedBytes>,
 }
 
 /// A tree of arrays to read.
@@ -45,8 +61,8 @@ pub(super) struct Node {
 pub(super) struct Tree<'a> {
     /// The outermost array.
     pub owner: &'a Arc<Owned<ArrowArray>>,
-    /// Returns the node of which an array of the tree is an export. No other array may be passed.
-    pub origin: unsafe fn(&ArrowArray) -> Option<Arc<Node>>,
+    /// Returns what an array of the tree shares. No other array may be passed.
+    pub origin: unsafe fn(&ArrowArray) -> Origin,
 }
 
 impl<'a> Tree<'a> {
@@ -54,7 +70,7 @@ impl<'a> Tree<'a> {
     pub fn foreign(owner: &'a Arc<Owned<ArrowArray>>) -> Tree<'a> {
         Tree {
             owner,
-            origin: |_| None,
+            origin: |_| Origin::default(),
         }
     }
 }
@@ -119,7 +135,13 @@ impl Node {
     /// Returns the node that keeps the buffers: this one, or the one that its array is an export
     /// of. So an export of an export keeps the first array only.
     pub fn keeper(self: &Arc<Node>) -> Arc<Node> {
-        Arc::clone(self.origin.as_ref().unwrap_or(self))
+        Arc::clone(self.origin.node.as_ref().unwrap_or(self))
+    }
+
+    /// Returns the owners of the buffers that its views name, if this crate made the views.
+    pub fn shared(&self) -> Option<&Arc<Shared>> {
+        let first = self.origin.node.as_deref().unwrap_or(self);
+        first.origin.shared.as_ref()
     }
 
     /// Returns how many of `len` items are null, if it is known without counting: they are all

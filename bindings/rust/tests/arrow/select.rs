@@ -6,7 +6,8 @@ use vortex_bits::{Bitmap, Bits};
 use crate::cells::{Cell, cells};
 use crate::export::{as_it_came, raw_of};
 use crate::made::{Maker, rounds};
-use crate::raw::{self, Count, import};
+use crate::ranges::view;
+use crate::raw::{self, Buffer, Count, import};
 
 fn read((mut array, mut schema): (raw::Array, raw::Schema)) -> Vec<Cell> {
     // SAFETY: they are as the interface asks for, and aren't released.
@@ -283,20 +284,33 @@ fn buffers_of_no_rows_are_aligned() {
 fn steps_over_shared_rows_keep_the_first_array_only() {
     let count = Count::default();
     let items = raw::Array::values(2, None, &[7, 9], &count);
-    let codes = vec![None, Some(raw::Buffer::new(&[1, 0], 0))];
+    let codes = vec![None, Some(Buffer::new(&[1, 0], 0))];
     let codes = raw::Array::of(2, codes, vec![], Some(items), &count);
     let items = raw::Schema::new("", "C", &count);
     let schema = raw::Schema::of("city", "c", vec![], Some(items), &count);
     let first = import(codes, schema).unwrap();
+    let text = "a text of many bytes";
+    let views = view(text, 0, 0).repeat(2);
+    let views = [&views[..], text.as_bytes(), &20i64.to_ne_bytes()];
+    let views = views.map(|bytes| Some(Buffer::new(bytes, 0)));
+    let views = raw::Array::new(2, [None].into_iter().chain(views).collect(), &count);
+    let views = import(views, raw::Schema::new("name", "vu", &count)).unwrap();
     let released = count.get();
 
     let numbers = Export::values([1i64, 2], None).named("number");
-    let batch = Export::batch([Export::from(first.clone()), numbers]);
+    let batch = Export::batch(
+        [first.clone(), views]
+            .map(Export::from)
+            .into_iter()
+            .chain([numbers]),
+    );
     let mut rows = batch.into_array();
     let mut same = first;
-    for _ in 0..30_000 {
+    for step in 0..30_000 {
         same = Export::from(same.slice(0..2)).into_array();
-        rows = Export::from(rows).into_array();
+        if step % 2 == 0 {
+            rows = Export::from(rows).into_array();
+        }
         rows = rows.filter(Bits::new(&[0b11], 0, 2)).unwrap().into_array();
     }
     assert_eq!(same.values::<i8>().unwrap(), [1, 0]);
@@ -307,9 +321,21 @@ fn steps_over_shared_rows_keep_the_first_array_only() {
         rows.column("number").unwrap().values::<i64>().unwrap(),
         [1, 2]
     );
+    let name = rows.column("name").unwrap();
+    let field = name.field().clone();
+    let mut joined = name.clone();
+    for _ in 0..100 {
+        let both = [joined.slice(1..2), name.slice(0..1)];
+        joined = Export::concat(&field, &both).unwrap().into_array();
+    }
     drop((rows, city));
     assert_eq!(count.get(), released);
+    drop(name);
+    let texts = joined.texts().unwrap();
+    assert!(texts.iter().eq([Some(text.as_bytes()); 2]));
+    drop(joined);
+    assert_eq!(count.get(), released + 1);
     assert_eq!(same.dictionary().unwrap().values::<u8>().unwrap(), [7, 9]);
     drop(same);
-    assert_eq!(count.get(), released + 2);
+    assert_eq!(count.get(), released + 3);
 }

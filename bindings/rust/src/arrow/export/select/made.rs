@@ -1,6 +1,7 @@
 //! New rows, before they become an array.
 
 use alloc::sync::Arc;
+use alloc::vec;
 use alloc::vec::Vec;
 use core::ffi::c_void;
 use core::ptr;
@@ -13,7 +14,7 @@ use crate::arrow::error::ArrowError;
 use crate::arrow::export::Held;
 use crate::arrow::ffi::{ArrowArray, Below, Owned};
 use crate::arrow::field::Field;
-use crate::arrow::node::Node;
+use crate::arrow::node::{Node, Shared};
 use crate::bytes::AlignedBytes;
 
 /// Which rows are null.
@@ -42,8 +43,7 @@ const MOST: usize = 2;
 pub(in crate::arrow::export) type Owners = (
     Option<AlignedBytes>,
     [Option<AlignedBytes>; MOST],
-    Vec<AlignedBytes>,
-    Vec<Arc<Node>>,
+    Option<Arc<Shared>>,
 );
 
 /// The parts of new rows, except their validity.
@@ -51,10 +51,9 @@ pub(in crate::arrow::export) type Owners = (
 pub(super) struct Made {
     /// New buffers, in their order.
     buffers: [Option<AlignedBytes>; MOST],
-    /// Buffers after the new ones, which `kept` and `nodes` own.
+    /// Buffers after the new ones, and their owners.
     pub shared: Vec<*const c_void>,
-    pub kept: Vec<AlignedBytes>,
-    nodes: Vec<Arc<Node>>,
+    owners: Option<Arc<Shared>>,
     pub below: Vec<Owned<ArrowArray>>,
     pub dictionary: Option<Owned<ArrowArray>>,
 }
@@ -69,8 +68,31 @@ impl Made {
         }
     }
 
-    pub(super) fn keep(&mut self, of: &[Array]) {
-        self.nodes.extend(of.iter().map(|it| it.node.keeper()));
+    /// Keeps the owners of the buffers that the views of an array name, and of their sizes.
+    pub(super) fn keep(&mut self, node: &Arc<Node>) {
+        let new = || {
+            let nodes = vec![node.keeper()];
+            Arc::new(Shared {
+                nodes,
+                _sizes: None,
+            })
+        };
+        self.owners = Some(node.shared().map_or_else(new, Arc::clone));
+    }
+
+    /// Keeps the owners of the buffers that the views of all arrays name, and the new sizes.
+    pub(super) fn keep_all(&mut self, of: &[Array], sizes: AlignedBytes) {
+        let mut nodes = Vec::new();
+        for it in of {
+            match it.node.shared() {
+                Some(shared) => nodes.extend(shared.nodes.iter().cloned()),
+                None => nodes.push(it.node.keeper()),
+            }
+        }
+        self.owners = Some(Arc::new(Shared {
+            nodes,
+            _sizes: Some(sizes),
+        }));
     }
 
     /// Adds the selected rows of each child.
@@ -140,11 +162,7 @@ impl Made {
         let held = Held {
             buffers,
             below,
-            kept: (
-                None,
-                None,
-                Some((valid, self.buffers, self.kept, self.nodes)),
-            ),
+            kept: (None, None, Some((valid, self.buffers, self.owners))),
         };
         held.array(len, Some(number), 0)
     }

@@ -199,7 +199,7 @@ pub(super) fn views(
         nulls.for_each(|row| views[row * width..][..width].fill(0));
         let mut made = Made::of([views]);
         made.shared.extend_from_slice(&node.buffers[2..]);
-        made.keep(&of[..1]);
+        made.keep(node);
         return Ok(made);
     }
     let nodes = Nodes::of(of.iter().map(|it| &it.node));
@@ -221,8 +221,7 @@ pub(super) fn views(
     }
     made.shared = buffers.iter().map(|it| it.as_ptr().cast()).collect();
     made.shared.push(sizes.address().cast::<c_void>());
-    made.kept.push(sizes);
-    made.keep(&nodes.each);
+    made.keep_all(&nodes.each, sizes);
     Ok(made)
 }
 
