@@ -1,6 +1,7 @@
 //! Validities with bits and without, compared with loops over rows.
 mod support;
 
+use std::cell::Cell;
 use std::ops::Bound;
 
 use support::panics;
@@ -71,6 +72,29 @@ fn a_mask_of_another_length_leaves_what_was_kept() {
         let said = panics(|| validity.filter_onto(Bits::new(&[7], 0, 7), &mut kept));
         assert_eq!(said.as_deref(), Some("a mask of 7 bits for 8"));
         assert_eq!(kept, Bitmap::new_set(3));
+    }
+}
+
+/// Bytes that change after this number of calls.
+struct Changing(Cell<usize>);
+
+impl AsRef<[u8]> for Changing {
+    fn as_ref(&self) -> &[u8] {
+        let left = self.0.get();
+        self.0.set(left.saturating_sub(1));
+        if left > 0 { &[0x0F] } else { &[0xFF] }
+    }
+}
+
+/// The bits of the mask are read once, so its number of rows is that of the bits that follow.
+#[test]
+fn a_mask_that_changes_is_read_once() {
+    let validity = Validity::from(Bits::new(&[0xFF], 0, 8));
+    for calls in 0..9 {
+        let mask = Bitmap::new(Changing(Cell::new(calls)), 0, 8);
+        let mut kept: BitmapMut = Bitmap::growing(8);
+        validity.filter_onto(mask, &mut kept);
+        assert!(kept.all() && [4, 8].contains(&kept.len()));
     }
 }
 
