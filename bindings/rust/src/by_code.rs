@@ -40,8 +40,8 @@ impl BitmapsByCode {
     ///
     /// # Panics
     ///
-    /// Panics if the number of bits of all codes, each rounded up to a multiple of 512, exceeds
-    /// `usize::MAX` (without codes that of one), or their bytes exceed the memory that a [`Vec`] can
+    /// Panics if the number of bits of all codes (of one, if there is none), each rounded up to a
+    /// multiple of 512, exceeds `usize::MAX`, or their bytes exceed the memory that a [`Vec`] can
     /// have. Calls that append panic then too.
     #[must_use]
     #[track_caller]
