@@ -39,7 +39,7 @@
  * writes the `size` bytes that it reads. For a call without `try` also: each window ends in its
  * bytes, and its end, offset + len, is at most SIZE_MAX.
  *
- * A vb_try_ function requires no more than every call does. It tests sizes, offsets, lengths and
+ * A vb_try_ function requires only what every call requires. It tests sizes, offsets, lengths and
  * capacities, and that no pointer is null unless its number is 0. So it detects a failed malloc. If
  * a test fails, it returns false and leaves everything unchanged. An index that is out of range is
  * not such a failure: takes and calls by group report the first one in the vb_taken that they

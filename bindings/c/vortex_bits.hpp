@@ -261,7 +261,7 @@ public:
 
     /*
      * Does the same in place (filters in place): moves those values to the front, and returns their
-     * number. The values from that index on are unchanged.
+     * number. The values after these are unchanged.
      */
     template <class Values> std::size_t retain_in(Values &&values) const;
 
@@ -433,7 +433,7 @@ public:
     /*
      * Takes bits of `values`, as bits::take_into writes them, where `valid`, if there is one, is
      * true; writes false at other positions. With dictionary codes as indices this is a semi-join.
-     * With other numbers it is one too, if `valid` is false where they index no bit:
+     * It is also one with other numbers, if `valid` is false at each that is out of range:
      *
      *     bad = rows.take_of(selected_keys, codes, valid);    // the rows of these keys
      */
@@ -443,10 +443,10 @@ public:
 
     /*
      * Writes where `left and right`, or `left or right`, is true, by three-valued logic: `and` is
-     * false if one is false, `or` is true if one is true, even if the other one is null; else it is
-     * null if one is: this window and `valid` then both get false. A side without a validity has no
-     * null; a value at a null may be any. So for a `not`, negate the values and keep `valid`. To
-     * select rows, `&=` the values with `valid`.
+     * false if one is false, `or` is true if one is true, even if the other one is null. Else the
+     * result is null if a side is null: this window and `valid` then both get false. A side without
+     * a validity has no null; a value at a null may be any. So for a `not`, negate the values and
+     * keep `valid`. To select rows, `&=` the values with `valid`.
      */
     void and_kleene_of(bits left, std::optional<bits> left_valid, bits right,
         std::optional<bits> right_valid, bits_mut valid);

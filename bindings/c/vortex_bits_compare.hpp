@@ -90,7 +90,7 @@ template <class Value, class Number> int side(Value rounded, Number number)
         const wide left = static_cast<wide>(rounded), right = static_cast<wide>(number);
         return (left > right) - (left < right);
     } else {
-        // `rounded` is a whole number, and above the range of `Number` if rounding moved it there.
+        // `rounded` is a whole number. Rounding up may have moved it above the range of `Number`.
         constexpr Value half = static_cast<Value>(std::numeric_limits<Number>::max() / 2 + 1);
         if (rounded >= 2 * half) {
             return 1;

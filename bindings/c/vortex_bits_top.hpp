@@ -67,7 +67,7 @@ public:
     }
 
 private:
-    /* The number of rows that are compared with the last of the best at once. */
+    /* The number of rows that are compared at once with the last of the best. */
     static constexpr std::size_t BLOCK = 4096;
     /* The number of values, or `k` if more, that are added to `k` sorted ones before a sort. */
     static constexpr std::size_t MORE = 64;

@@ -123,9 +123,9 @@ static inline uint8_t known(uint8_t op)
 /*
  * Few calls have a null pointer or an unknown comparison, or come before a level is chosen: the
  * function rare_NAME is for these. The others pay for one test of the highest bit of several
- * numbers. The test selects a function pointer for one call: with a call in each branch, compilers
- * copy each argument on the stack through a register. A pointer with that bit set goes to rare_NAME
- * too, which accepts any pointer.
+ * numbers. The test selects a function pointer, and one call uses it: with a call in each branch,
+ * compilers copy each argument on the stack through a register. A pointer with that bit set goes to
+ * rare_NAME too, which accepts any pointer.
  */
 #define NULL_DIGIT(number) ((uintptr_t)(number) - 1)
 #define UNKNOWN_DIGIT(op) ((uintptr_t)VB_GREATER_OR_EQUAL - (op))
