@@ -4,7 +4,7 @@ ghost use Rattle.vb_bits.specs.Bits.{bits};
 ghost use Rattle.vb_bits.specs.InBytes.{InBytes};
 
 use crate::bytes::word_at;
-use crate::read::{read_bits, read_in_eight, shifted_word};
+use crate::read::{read_in_eight, read_short, shifted_word};
 use crate::word::low_digits;
 
 /// The number of words that are compared before a test for a difference: a vector loop can't exit
@@ -53,7 +53,7 @@ fn equal_few(left: &[u8], l: usize, right: &[u8], r: usize, len: usize) -> bool
     requires right_inside { r + len ≤ 8 * length right.now }
     ensures { IsTrue result ↔ (bits left.now l len ≡ bits right.now r len) }
 {
-    read_bits(left, l, len) == read_bits(right, r, len)
+    read_short(left, l, len) == read_short(right, r, len)
 }
 
 /// [`equal_few`] for slices of at least eight bytes each.

@@ -8,7 +8,7 @@ ghost use Rattle.vb_bits.specs.Writes.{Writes};
 
 use crate::bytes::word_at;
 use crate::operator::Merge;
-use crate::read::{read_shifted, read_u64_le};
+use crate::read::{full_word, read_loose, read_u64_le};
 use crate::word::with_digits;
 use crate::write::{write_in_byte, write_in_word, write_u64_le};
 
@@ -22,8 +22,10 @@ pub(crate) fn merge_few<M: Merge>(dst: &mut [u8], d: usize, src: &[u8], s: usize
     ensures { Writes dst.old dst.new d
         (merged_by (M.bit) (bits dst.old d len) (bits src.now s len)) }
 {
-    if len > 0 {
-        merge_digits::<M>(dst, d, len, read_shifted(src, s, len));
+    if len == 64 && d % 8 == 0 {
+        merge_in_word::<M>(dst, d / 8, 0, 64, full_word(src, s / 8, s % 8));
+    } else if len > 0 {
+        merge_digits::<M>(dst, d, len, read_loose(src, s, len));
     }
 }
 

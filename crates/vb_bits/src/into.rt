@@ -10,7 +10,7 @@ use crate::bytes::write_word;
 use crate::few::{merge_digits, merge_in_eight};
 use crate::lanes::{shifted_words, words_at, write_words};
 use crate::operator::{And, AndNot, Merge, Or, Right, Xor};
-use crate::read::{full_word, read_few, read_in_eight, read_shifted};
+use crate::read::{full_word, read_few, read_in_eight, read_loose};
 use crate::write::write_in_byte;
 use crate::zip::BitOp;
 use std::simd::prelude::*;
@@ -92,8 +92,14 @@ fn merge_few_into<M: Merge>(
     if len == 0 {
         return;
     }
-    let first = read_shifted(left, l, len);
-    let second = read_shifted(right, r, len);
+    if len == 64 && o % 8 == 0 {
+        let first = full_word(left, l / 8, l % 8);
+        let second = full_word(right, r / 8, r % 8);
+        write_word(out, o / 8, M::word(first, second));
+        return;
+    }
+    let first = read_loose(left, l, len);
+    let second = read_loose(right, r, len);
     merge_digits::<Right>(out, o, len, M::word(first, second));
 }
 

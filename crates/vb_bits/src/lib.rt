@@ -34,7 +34,7 @@ pub use lanes::{shifted_words, words_at};
 pub use map::map_words;
 pub use mark::set_bits_at;
 pub use operator::{And, AndNot, Merge, Or, Xor};
-pub use read::{full_word, read_bits, read_u64_le, read_word};
+pub use read::{full_word, read_bits, read_short, read_u64_le, read_word};
 pub use select::{select_in_byte, select_in_word};
 pub use window::window_fits;
 pub use word::{digit, low_digits};

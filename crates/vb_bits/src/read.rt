@@ -93,6 +93,35 @@ pub(crate) fn read_few(bytes: &[u8], at: usize, count: usize) -> u64
     }
 }
 
+/// Does [`read_bits`], with the fewest steps for 64 bits and for at most eight. It is for windows
+/// that a call reads once; a loop over words has one path for all.
+#[inline(always)]
+pub fn read_short(bytes: &[u8], at: usize, count: usize) -> u64
+    requires in_word { count ≤ 64 }
+    requires inside { at + count ≤ 8 * length bytes.now }
+    ensures digits { digits result 0 count ≡ bits bytes.now at count }
+    ensures clear { result < 2 ^ count }
+{
+    low_digits(read_loose(bytes, at, count), count)
+}
+
+/// Does [`read_short`], except that the digits from `count` on are unspecified.
+#[inline(always)]
+pub(crate) fn read_loose(bytes: &[u8], at: usize, count: usize) -> u64
+    requires in_word { count ≤ 64 }
+    requires inside { at + count ≤ 8 * length bytes.now }
+    ensures { digits result 0 count ≡ bits bytes.now at count }
+{
+    let (first, shift) = (at / 8, at % 8);
+    if count == 64 {
+        full_word(bytes, first, shift)
+    } else if count <= 8 && count > 0 {
+        read_few(bytes, at, count)
+    } else {
+        read_shifted(bytes, at, count)
+    }
+}
+
 /// Returns the window of `count` bits from bit `at` on as one number, as [`read_bits`] does, and
 /// reads 64 bits by [`full_word`]. The caller must prove that `count` is at most 64 and that the
 /// window is in bounds.
