@@ -165,15 +165,14 @@ TESTS = [
     Single(
         "any_set", TRUTH, "any",
         "Returns whether any of the `len` bits from bit `offset` on is set (false for no bits). "
-        "Reads the first eight bytes, then the last eight, then the words between, eight at once, "
-        "up to those with a set bit.",
+        "Reads up to 64 bits as one word; of more bits the first eight bytes, then the last eight, "
+        "then the words between, eight at once, up to those with a set bit.",
         "{} ↔ (0 < count (bits bytes.now offset len))",
     ),
     Single(
         "all_set", TRUTH, "all",
         "Returns whether all of the `len` bits from bit `offset` on are set (true for no bits). "
-        "Reads the first eight bytes, then the last eight, then the words between, eight at once, "
-        "up to those with an unset bit.",
+        "Reads as [`vb_any_set`] does, up to the bytes or words with an unset bit.",
         "{} ↔ (count (bits bytes.now offset len) ≡ len)",
     ),
 ]

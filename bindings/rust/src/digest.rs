@@ -5,6 +5,6 @@
 /// The output of tools/digest. tools/write-lists writes it here.
 macro_rules! digest {
     () => {
-        "de6f26750ef65471600b4bef216a5e15f7c468ae4da32e1d4fc7ed5dd4c24ee0"
+        "6a7ab707f80d71943d89be395506db1bf70e9e7cc3564a030f42ed2a7f8f15c4"
     };
 }

@@ -428,16 +428,17 @@ impl<A: Allocator + Clone> BitBuffer<A> {
         self.as_view().previous_unset(before)
     }
 
-    /// Returns whether any bit is true; false if there are no bits. Reads the first eight bytes,
-    /// then the last eight, then the words between, eight at once, up to those with a true bit.
+    /// Returns whether any bit is true; false if there are no bits. Reads up to 64 bits as one
+    /// word; of more bits the first eight bytes, then the last eight, then the words between, eight
+    /// at once, up to those with a true bit.
     pub fn any_set(&self) -> bool
         ensures { IsTrue result ↔ (0 < count self.now.bits) }
     {
         self.as_view().any_set()
     }
 
-    /// Returns whether all bits are true; true if there are no bits. Reads the first eight bytes,
-    /// then the last eight, then the words between, eight at once, up to those with a false bit.
+    /// Returns whether all bits are true; true if there are no bits. Reads as
+    /// [`any_set`](Self::any_set) does, up to the bytes or words with a false bit.
     pub fn all_set(&self) -> bool
         ensures { IsTrue result ↔ (count self.now.bits ≡ length self.now.bits) }
     {

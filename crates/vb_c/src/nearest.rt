@@ -138,9 +138,9 @@ pub extern "C" fn vb_try_previous_unset(
     true
 }
 
-/// Returns whether any of the `len` bits from bit `offset` on is set (false for no bits). Reads the
-/// first eight bytes, then the last eight, then the words between, eight at once, up to those with
-/// a set bit.
+/// Returns whether any of the `len` bits from bit `offset` on is set (false for no bits). Reads up
+/// to 64 bits as one word; of more bits the first eight bytes, then the last eight, then the words
+/// between, eight at once, up to those with a set bit.
 #[unsafe(no_mangle)]
 pub extern "C" fn vb_any_set(bytes: &[u8], offset: usize, len: usize) -> bool
     requires window { InBytes bytes.now offset len }
@@ -163,9 +163,8 @@ pub extern "C" fn vb_try_any_set(bytes: &[u8], offset: usize, len: usize, any: &
     true
 }
 
-/// Returns whether all of the `len` bits from bit `offset` on are set (true for no bits). Reads the
-/// first eight bytes, then the last eight, then the words between, eight at once, up to those with
-/// an unset bit.
+/// Returns whether all of the `len` bits from bit `offset` on are set (true for no bits). Reads as
+/// [`vb_any_set`] does, up to the bytes or words with an unset bit.
 #[unsafe(no_mangle)]
 pub extern "C" fn vb_all_set(bytes: &[u8], offset: usize, len: usize) -> bool
     requires window { InBytes bytes.now offset len }

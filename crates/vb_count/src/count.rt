@@ -15,7 +15,7 @@ use crate::glance::{Glance, Plain, Wide};
 use crate::lane_sum::LaneSum;
 use crate::rest::add_rest;
 use crate::word::byte_part;
-use vb_bits::read_bits;
+use vb_bits::read_short;
 
 /// From this number of chunks of a wide source on, adders count. With vectors of 32 bytes they are
 /// faster than counts of words even from 32 chunks on; with vectors of 16 bytes they are slower in
@@ -65,7 +65,7 @@ fn count_few(bytes: &[u8], offset: usize, len: usize) -> usize
     requires inside { offset + len ≤ 8 * length bytes.now }
     ensures { result ≡ count (bits bytes.now offset len) }
 {
-    read_bits(bytes, offset, len).count_ones() as usize
+    read_short(bytes, offset, len).count_ones() as usize
 }
 
 /// [`count_ones`] of more than 512 bits. It isn't inlined, so that a shorter window needs no source

@@ -6,7 +6,7 @@ ghost use Rattle.std.specs.Prelude.{◌≡◌, ◌+◌, ◌*◌, ◌^◌, ◌<�
 ghost use Rattle.vb_bits.specs.InBytes.{InBytes};
 ghost use Rattle.vb_pair.specs.Merged.{merged_ones};
 
-use vb_bits::{Merge, full_word, low_digits, read_bits, shifted_words, word_at, words_at};
+use vb_bits::{Merge, full_word, low_digits, read_short, shifted_words, word_at, words_at};
 use vb_count::{LaneSum, digit_ones};
 
 /// Returns the number of set bits after combining the `len` bits of `left` from bit `l` on with
@@ -22,9 +22,24 @@ pub(crate) fn count_merged<M: Merge>(
     requires right { InBytes right.now r len }
     ensures { result ≡ merged_ones (M.bit) left.now l right.now r len }
 {
-    if len <= 64 {
+    if len == 64 {
+        merged_word_ones::<M>(left, l, right, r)
+    } else if len < 64 {
         few_ones::<M>(left, l, right, r, len)
-    } else if len <= 512 {
+    } else {
+        count_many::<M>(left, l, right, r, len)
+    }
+}
+
+/// Does [`count_merged`] for more than 64 bits. It isn't inlined, so that a call with fewer doesn't
+/// save the registers that the loops need.
+#[inline(never)]
+fn count_many<M: Merge>(left: &[u8], l: usize, right: &[u8], r: usize, len: usize) -> usize
+    requires left { InBytes left.now l len }
+    requires right { InBytes right.now r len }
+    ensures { result ≡ merged_ones (M.bit) left.now l right.now r len }
+{
+    if len <= 512 {
         count_short::<M>(left, l, right, r, len)
     } else {
         count_long::<M>(left, l, right, r, len)
@@ -187,6 +202,6 @@ pub(crate) fn few_ones<M: Merge>(left: &[u8], l: usize, right: &[u8], r: usize, 
     if len == 0 {
         return 0;
     }
-    let word = M::word(read_bits(left, l, len), read_bits(right, r, len));
+    let word = M::word(read_short(left, l, len), read_short(right, r, len));
     low_digits(word, len).count_ones() as usize
 }

@@ -113,17 +113,6 @@ ShowsBefore-shifted v b e f t w read fits place small = record {
   clear = λ i lo. shifted_low (others (not v) w) t i lo (omega arith);
 }
 
--- a word that shows the bits of a window, with the last one at the highest digit
-pub ShowsBefore-raised : (v : Bool) (b : List ℕ) (o n k w : ℕ) → Shows v b o 0 k w
-    → 0 < n → n ≤ k → k ≤ 64 → ShowsBefore v b (o + n) (64 - n) (w * 2 ^ (64 - n) % 2 ^ 64)
-ShowsBefore-raised v b o n k w shows some inside few = record {
-  shown = λ i lo hi.
-      let p : o + (0 + (i - (64 - n))) ≡ 0 + (o + n + i - 64) = omega arith in
-      shifted_high w (64 - n) i lo hi ∙ shows (i - (64 - n)) (omega arith)
-      ∙ ap (λ j. hit v (bit_of b j)) p ∙ sym (at-hits v b 0 (o + n) (o + n + i - 64) (omega arith));
-  clear = λ i lo. shifted_low w (64 - n) i lo (omega arith);
-}
-
 -- a bit of the window that ends before bit o + n, as a digit of that word
 pub shown_before : (v : Bool) (b : List ℕ) (o n t w i : ℕ) → ShowsBefore v b (o + n) t w
     → i < n → t + n ≤ 64 + i → has_bit w (64 + i - n) ≡ hit v (bit_of b (o + i))

@@ -6,7 +6,7 @@ ghost use Rattle.vb_bits.specs.Digits.{digits};
 ghost use Rattle.vb_count.specs.Hits.{hits};
 ghost use Rattle.vb_select.specs.Matches.{ShowsBefore};
 
-use vb_bits::{low_digits, read_bits, read_u64_le, word_at};
+use vb_bits::{low_digits, read_short, word_at};
 use vb_walk::others;
 
 /// Returns the window of `count` bits from bit `at` on, at most 64, as one number, with a 1 for
@@ -18,7 +18,7 @@ pub(crate) fn read_matches(bytes: &[u8], at: usize, count: usize, value: bool) -
     ensures digits { digits result 0 count ≡ hits value (bits bytes.now at count) }
     ensures clear { result < 2 ^ count }
 {
-    let word = read_bits(bytes, at, count);
+    let word = read_short(bytes, at, count);
     if value {
         word
     } else {
@@ -36,20 +36,6 @@ pub(crate) fn matches_before(bytes: &[u8], end: usize, value: bool) -> u64
     ensures { ShowsBefore value bytes.now end ((8 - end % 8) % 8) result }
 {
     others(word_at(bytes, end.div_ceil(8) - 8), !value) << ((8 - end % 8) % 8)
-}
-
-/// Returns the window of `len` bits from bit `offset` on as a word, with a 1 for each bit that is
-/// `value`, shifted so that its last bit is the highest digit. `bytes` must have at most eight
-/// bytes from the byte of bit `offset` on.
-#[inline(always)]
-pub(crate) fn matches_at_end(bytes: &[u8], offset: usize, len: usize, value: bool) -> u64
-    requires some { 0 < len }
-    requires few { length bytes.now - offset / 8 ≤ 8 }
-    requires inside { offset + len ≤ 8 * length bytes.now }
-    ensures { ShowsBefore value bytes.now (offset + len) (64 - len) result }
-{
-    let word = read_u64_le(&bytes[offset / 8..]) >> (offset % 8);
-    others(word, !value) << (64 - len)
 }
 
 /// Returns a word that is 0 exactly if no bit of the `n` words from byte `at` on is `value`: it has

@@ -6,7 +6,7 @@ ghost use Rattle.vb_bits.specs.Nearest.{IsNext};
 ghost use Rattle.vb_count.specs.Hits.{hits};
 ghost use Rattle.vb_count.specs.Looks.{looks, LooksAtMost, StopsAtNext};
 
-use crate::matches::{digits_of_any, matches_at_end, matches_before, read_matches};
+use crate::matches::{digits_of_any, matches_before, read_matches};
 use crate::nearest::{Nearest, nearest_in_look};
 use vb_bits::word_at;
 use vb_count::{Glance, first_look};
@@ -40,8 +40,8 @@ pub fn next_unset(bytes: &[u8], offset: usize, len: usize, from: usize) -> Optio
 /// Returns whether any bit of the window is set, which is false for a window of no bits. The caller
 /// must prove that the window is in bounds and that `offset + len` fits in a `usize`.
 ///
-/// It reads the first eight bytes, then the last eight, and then the words between, eight at a
-/// time, up to those that have a set bit.
+/// It reads up to 64 bits as one word. Of more bits it reads the first eight bytes, then the last
+/// eight, and then the words between, eight at a time, up to those that have a set bit.
 pub fn any_set(bytes: &[u8], offset: usize, len: usize) -> bool
     requires window { InBytes bytes.now offset len }
     ensures { IsTrue result ↔ (0 < count (bits bytes.now offset len)) }
@@ -236,18 +236,12 @@ fn is_without(bytes: &[u8], offset: usize, len: usize, value: bool) -> bool
     requires window { InBytes bytes.now offset len }
     ensures { IsTrue result ↔ (count (hits value (bits bytes.now offset len)) ≡ 0) }
 {
-    if len == 0 {
-        return true;
-    }
-    if bytes.len() - offset / 8 < 8 {
-        return matches_at_end(bytes, offset, len, value) == 0;
+    if len <= 64 {
+        return read_matches(bytes, offset, len, value) == 0;
     }
     let word = others(word_at(bytes, offset / 8), !value) >> (offset % 8);
     if word != 0 {
-        return word.trailing_zeros() as usize >= len;
-    }
-    if len <= 64 - offset % 8 {
-        return true;
+        return false;
     }
     is_without_behind(bytes, offset, len, value)
 }

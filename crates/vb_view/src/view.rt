@@ -393,16 +393,17 @@ impl<'a> BitBufferView<'a> {
         previous_unset(self.bytes, self.offset, self.len, before)
     }
 
-    /// Returns whether any bit is set (false for no bits). Reads the first eight bytes, then the
-    /// last eight, then the words between, eight at once, up to those with a set bit.
+    /// Returns whether any bit is set (false for no bits). Reads up to 64 bits as one word; of more
+    /// bits the first eight bytes, then the last eight, then the words between, eight at once, up
+    /// to those with a set bit.
     pub fn any_set(&self) -> bool
         ensures { IsTrue result ↔ (0 < count (bits_of self.now)) }
     {
         any_set(self.bytes, self.offset, self.len)
     }
 
-    /// Returns whether all bits are set (true for no bits). Reads the first eight bytes, then the
-    /// last eight, then the words between, eight at once, up to those with an unset bit.
+    /// Returns whether all bits are set (true for no bits). Reads as [`any_set`](Self::any_set)
+    /// does, up to the bytes or words with an unset bit.
     pub fn all_set(&self) -> bool
         ensures { IsTrue result ↔ (count (bits_of self.now) ≡ length (bits_of self.now)) }
     {

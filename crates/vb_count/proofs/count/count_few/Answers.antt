@@ -7,6 +7,6 @@ pub returns : goal.returns
 returns c =
     omega (
       arith,
-      count-digits_below c.read_bits.result c.args.len c.read_bits.ensures.clear,
-      ap count c.read_bits.ensures.digits,
+      count-digits_below c.read_short.result c.args.len c.read_short.ensures.clear,
+      ap count c.read_short.ensures.digits,
     )

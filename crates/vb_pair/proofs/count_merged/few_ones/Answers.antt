@@ -24,7 +24,7 @@ counted g c =
     sym (count-digits_below c.low_digits.result c.args.len c.low_digits.ensures.clear)
     ∙ ap count c.low_digits.ensures.digits
     ∙ ones_of_merged g.M.Merge.bit c.args.left.now c.args.right.now _ _ c.args.len _ _ _
-    c.requires.in_word c.read_bits.ensures.digits c.read_bits-2.ensures.digits
+    c.requires.in_word c.read_short.ensures.digits c.read_short-2.ensures.digits
     c.word-word.ensures
 
 pub returns-clause-value : goal.returns-clause-value

@@ -8,7 +8,7 @@ use Rattle.vb_select.proofs.matches.read_matches.Goals as goal
 pub returns-else-value-clause-digits : goal.returns-else-value-clause-digits
 returns-else-value-clause-digits c =
     c.low_digits.ensures.digits
-    ∙ digits-bit_not w64 c.read_bits-word.result 0 c.args.count c.read_bits-word.type_inv
+    ∙ digits-bit_not w64 c.read_short-word.result 0 c.args.count c.read_short-word.type_inv
     (omega arith)
-    ∙ ap complement c.read_bits-word.ensures.digits
+    ∙ ap complement c.read_short-word.ensures.digits
     ∙ sym (matching_false c.args.value _ c.if-value.false)

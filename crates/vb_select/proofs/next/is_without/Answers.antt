@@ -1,17 +1,18 @@
 use Rattle.std.proofs.Common.{◌≡◌, inl, inr, ℕ, ◌+◌, ◌-◌, ◌*◌, ◌/◌, ◌%◌, ◌^◌, ◌<◌, ◌≤◌, Bool, not}
-use Rattle.std.proofs.Common.{List, refl, sym, ap, ◌∙◌, subst, arith, zero-add}
+use Rattle.std.proofs.Common.{List, sym, ap, ◌∙◌, subst, arith, zero-add}
 use Rattle.std.specs.Int.{trailing_zeros, w64}
-use Rattle.std.specs.Prelude.{◌↔◌}
-use Rattle.std.proofs.lemmas.Bool.{cases_lt, eqb-true, eq-eqb, leb-true, le-leb}
+use Rattle.std.specs.Prelude.{◌↔◌, count_ones}
+use Rattle.std.proofs.lemmas.Nat.{zero_from_ones}
+use Rattle.std.proofs.lemmas.Bool.{cases_lt, eqb-true, eq-eqb, false≢true}
 use Rattle.vb_bits.specs.Bits.{bit_of, bits, count}
 use Rattle.vb_bits.specs.Digits.{has_bit, digits}
 use Rattle.vb_bits.proofs.ReadLemmas.{digits_of_word}
+use Rattle.vb_bits.proofs.DigitsLemmas.{count-digits_below}
 use Rattle.vb_bits.proofs.WindowLemmas.{digits-clear}
 use Rattle.vb_count.specs.Hits.{hits}
-use Rattle.vb_count.proofs.HitsLemmas.{count-hits-bits_none}
 use Rattle.vb_walk.specs.Walks.{others}
 use Rattle.vb_select.proofs.NearestLemmas.{Shows, Shows-shifted, shifted_fits, hit, lowest_one}
-use Rattle.vb_select.proofs.NearestLemmas.{any_at, any_none, any_before, zero_if}
+use Rattle.vb_select.proofs.NearestLemmas.{any_at, any_none}
 use Rattle.vb_select.proofs.next.is_without.Goals as goal
 
 -- the word at the front
@@ -52,44 +53,32 @@ lowest_past v b o n k w shows some small few =
       ],
     )
 
-pub returns-then-len-eq0 : goal.returns-then-len-eq0
-returns-then-len-eq0 c =
-    let b = c.args.bytes.now in let v = c.args.value in let o : ℕ = c.args.offset in (
-      λ _. ap (λ n. count (hits v (bits b o n))) c.if-len-eq0.true ∙ count-hits-bits_none v b o,
-      λ _. refl,
+pub returns-then-len-le64 : goal.returns-then-len-le64
+unfolding lib.Count.ones
+returns-then-len-le64 c =
+    let w = c.read_matches in
+    let ones = count-digits_below w.result c.args.len w.ensures.clear in
+    let same = ap count w.ensures.digits in (
+      λ t. let gone : w.result ≡ 0 = eqb-true _ _ t in
+          sym same ∙ ones ∙ ap count_ones gone,
+      λ none. eq-eqb _ _ (zero_from_ones w.result (sym ones ∙ same ∙ none)),
     )
-
-pub returns-then-bytes-offset-lt8 : goal.returns-then-bytes-offset-lt8
-returns-then-bytes-offset-lt8 c =
-    let b = c.args.bytes.now in let v = c.args.value in
-    let o : ℕ = c.args.offset in let n : ℕ = c.args.len in
-    let w = c.matches_at_end in
-    let none = zero_if _ _ (any_before v b o n (64 - n) w.result w.ensures w.type_inv
-    (omega (arith, c.requires.window.inside))) in
-    (λ t. none.0 (eqb-true _ _ t), λ e. eq-eqb _ _ (none.1 e))
 
 pub returns-then-word-ne0 : goal.returns-then-word-ne0
 returns-then-word-ne0 c =
     let b = c.args.bytes.now in let v = c.args.value in
     let o : ℕ = c.args.offset in let n : ℕ = c.args.len in
     let x = c.others in
-    let past = lowest_past v b o n (64 - o % 8) (x.result / 2 ^ (o % 8))
+    let w : ℕ = x.result / 2 ^ (o % 8) in
+    let some : 0 < w = omega (arith, c.if-word-ne0.true) in
+    let small = shifted_fits x.result (o % 8) x.type_inv (omega arith) in
+    let past = lowest_past v b o n (64 - o % 8) w
     (front_shows v b o c.word_at.result x.result
     (digits_of_word b c.word_at.result (o / 8) c.word_at.ensures) c.word_at.type_inv x.ensures)
-    (omega (arith, c.if-word-ne0.true)) (shifted_fits x.result (o % 8) x.type_inv (omega arith))
-    (omega arith) in
-    (λ t. past.0 (leb-true _ _ t), λ e. le-leb _ _ (past.1 e))
-
-pub returns-then-len-offset : goal.returns-then-len-offset
-returns-then-len-offset c =
-    let b = c.args.bytes.now in let v = c.args.value in
-    let o : ℕ = c.args.offset in let n : ℕ = c.args.len in
-    let x = c.others in (
-      λ _. shown_none v b o n (64 - o % 8) (x.result / 2 ^ (o % 8))
-          (front_shows v b o c.word_at.result x.result (digits_of_word b c.word_at.result (o / 8)
-          c.word_at.ensures) c.word_at.type_inv x.ensures)
-          c.if-word-ne0.false (omega (arith, c.if-len-offset.true)),
-      λ _. refl,
+    some small (omega arith) in
+    let low = lowest_one w (64 - o % 8) some small (omega arith) in (
+      λ t. absurd (false≢true t),
+      λ none. absurd (omega (arith, past.1 none, low.0, c.if-len-le64.false)),
     )
 
 pub is_without_behind-requires-clause-none : goal.is_without_behind-requires-clause-none
