@@ -2,7 +2,7 @@
 use Rattle.std.proofs.Common.{◌≡◌, ℕ, ◌+◌, ◌-◌, ◌*◌, ◌≤◌, Bool, true, false}
 use Rattle.std.proofs.Common.{List, [], ◌∷◌, ◌++◌}
 use Rattle.std.proofs.Common.{length, take, drop, refl, sym, ap, subst, ◌∙◌, arith}
-use Rattle.std.proofs.Common.{append_assoc}
+use Rattle.std.proofs.Common.{append_assoc, zero-add}
 use Rattle.std.specs.Prelude.{slice_range}
 use Rattle.std.proofs.Math.Seq.{take-add}
 use Rattle.std.proofs.lemmas.List.{take_all, length-take, length-drop, nil_from_length, append-nil}
@@ -118,6 +118,20 @@ module _ {S T : Type 0} (shows : S → List T → Type 0) (start state : S) (mas
       ∙ ap (λ l. front ++ l) nothing ∙ append-nil front in
       subst (λ k. shows state (xs ++ kept_by (take k mask) (take k values))) end
       (subst (λ l. shows state (xs ++ l)) (sym kept) (so_far xs h))
+
+-- those that one word selects, if it has the whole mask
+pub front_word : {S T : Type 0} (shows : S → List T → Type 0) (start next : S) (mask : List Bool)
+    (values : List T) → length values ≡ length mask → (n keep : ℕ) → length mask ≡ n
+    → digits keep 0 n ≡ slice_range mask 0 (0 + n)
+    → ((xs : List T) → shows start xs → shows next (xs ++ kept_by (digits keep 0
+    (length (slice_range values 0 n))) (slice_range values 0 n)))
+    → (xs : List T) → shows start xs → shows next (xs ++ kept_by mask values)
+front_word shows start next mask values same n keep long of_mask add =
+    front_all shows start next mask values same (0 + n) (omega (arith, long))
+    (front_more shows start start mask values same 0 n keep next (omega (arith, long))
+    of_mask (subst (λ k. (xs : List _) → shows start xs → shows next (xs ++ kept_by (digits keep 0
+    (length (slice_range values 0 k))) (slice_range values 0 k))) (sym (zero-add n)) add)
+    (λ xs h. subst (shows start) (sym (append-nil xs)) h))
 
 -- the words of the mask so far
 pub record TakesWords {S T : Type 0} (shows : S → List T → Type 0) (start state : S)

@@ -6,7 +6,7 @@ ghost use Rattle.vb_view.specs.View.{bits_of};
 
 use crate::fold::{Fold, fold_word};
 use crate::summand::Summand;
-use crate::walk::{OneByOne, WordFold, fold_kept};
+use crate::walk::{OneByOne, WordFold, fold_few_or_kept};
 use crate::wide_summand::WideSummand;
 use vb_view::BitBufferView;
 
@@ -65,7 +65,7 @@ pub fn masked_wrapping_sum<T: Summand>(values: &[T], mask: BitBufferView<'_>) ->
     ensures { result
         ≡ T.wrapped (int_sum (map T.number (kept_by (bits_of mask.entry) values.now))) }
 {
-    fold_kept::<T, OneByOne<WrappingSum>>(T::zero(), values, mask)
+    fold_few_or_kept::<T, OneByOne<WrappingSum>>(T::zero(), values, mask)
 }
 
 /// Returns the exact sum of the values whose bit of the mask is true: a `u128` for unsigned types,
@@ -77,7 +77,7 @@ pub fn masked_sum<T: WideSummand>(values: &[T], mask: BitBufferView<'_>) -> T::T
     ensures { T.total_number result
         ≡ int_sum (map T.number (kept_by (bits_of mask.entry) values.now)) }
 {
-    fold_kept::<T, Sum>(T::no_total(), values, mask)
+    fold_few_or_kept::<T, Sum>(T::no_total(), values, mask)
 }
 
 /// Returns the sum of the values whose bit of the mask is true; `None` if the type has no such

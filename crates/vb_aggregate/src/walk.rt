@@ -1,7 +1,8 @@
 //! Folds of the values that a mask selects, a word of the mask at a time.
 ghost use Rattle.std.specs.Prelude.{◌≡◌, ◌*◌, ◌^◌, ◌<◌, ◌≤◌, List, ◌++◌, length, slice_range};
-ghost use Rattle.vb_bits.specs.Bits.{count};
+ghost use Rattle.vb_bits.specs.Bits.{bits, count};
 ghost use Rattle.vb_bits.specs.Digits.{digits};
+ghost use Rattle.vb_bits.specs.InBytes.{InBytes};
 ghost use Rattle.vb_bits.specs.Kept.{kept_by};
 ghost use Rattle.vb_view.specs.View.{bits_of};
 
@@ -70,6 +71,45 @@ pub(crate) fn fold_kept<T: Copy, W: WordFold<T>>(
     }
     let keep = view_word(mask, 64 * whole, n);
     W::add_word(state, &values[64 * whole..64 * whole + n], keep)
+}
+
+/// Does [`fold_kept`], and up to 64 values by one word of the mask: such a call has no loop over
+/// words, and doesn't save the registers for it.
+#[inline(always)]
+pub(crate) fn fold_few_or_kept<T: Copy, W: WordFold<T>>(
+    start: W::State,
+    values: &[T],
+    mask: BitBufferView<'_>,
+) -> W::State
+    requires same_len { length values.now ≡ length (bits_of mask) }
+    ensures { (xs : List T) → W.shows start xs
+        → W.shows result (xs ++ kept_by (bits_of mask.entry) values.now) }
+{
+    let n = values.len();
+    if n > 64 {
+        return fold_many::<T, W>(start, values, mask.inner(), mask.offset());
+    }
+    if n == 64 {
+        return W::add_word(start, &values[0..64], view_word(mask, 0, 64));
+    }
+    W::add_word(start, &values[0..n], view_word(mask, 0, n))
+}
+
+/// Does [`fold_kept`] by a mask that starts at bit `offset` of `bytes`. The parts of a view are
+/// passed in registers, and a view itself in memory.
+#[inline(never)]
+fn fold_many<T: Copy, W: WordFold<T>>(
+    start: W::State,
+    values: &[T],
+    bytes: &[u8],
+    offset: usize,
+) -> W::State
+    requires mask { InBytes bytes.now offset (length values.now) }
+    ensures { (xs : List T) → W.shows start xs
+        → W.shows result (xs ++ kept_by (bits bytes.now offset (length values.now)) values.now) }
+{
+    let mask = BitBufferView::new_with_offset(bytes, values.len(), offset);
+    fold_kept::<T, W>(start, values, mask)
 }
 
 /// Returns the first of the words `from` to `whole - 1` that has a true bit; `whole` if none has.

@@ -8,7 +8,7 @@ use Rattle.vb_aggregate.proofs.sum.masked_sum.Goals as goal
 pub returns : goal.returns
 returns g c =
     let mask = c.args.mask in
-    let all = c.fold_kept.ensures []
+    let all = c.fold_few_or_kept.ensures []
     (λ _. sum_none g.T.BitIndex.number g.T.WideSummand.reach
     (g.T.WideSummand.total_number c.no_total.result) c.no_total.ensures) (omega (
       arith,
