@@ -187,6 +187,16 @@ fn filter_values<T: Element>(out: &mut [T], values: &[T], mask: &[u8], m: usize)
     if values.len() <= 64 {
         return filter_word_into(out, values, read_word(mask, m, values.len()));
     }
+    filter_many(out, values, mask, m)
+}
+
+/// Does [`filter_values`] for more than 64 values. Not inlined, so that a call with fewer doesn't
+/// save the registers that the loop needs.
+#[inline(never)]
+fn filter_many<T: Element>(out: &mut [T], values: &[T], mask: &[u8], m: usize) -> usize
+    requires { KeptFits mask.now m (length values.now) (length out.old) }
+    ensures { Filters (bits mask.now m (length values.now)) values.now out.old out.new result }
+{
     let kept = count_ones_wide(mask, m, values.len());
     filter_to_front(out, kept, values, mask, m)
 }
