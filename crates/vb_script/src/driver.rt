@@ -19,9 +19,9 @@ use std::alloc::{AllocError, Allocator};
 /// each line. The slots are empty at the start, and are dropped at the end.
 ///
 /// Before it reads more bytes, the session writes the answers to all whole lines that it has read.
-/// It allocates memory for the sets and the answers of commands, for 65536 bytes of the input or at
-/// most twice the longest line, and once for 65536 bytes of answers. It does not allocate to print
-/// answers.
+/// It allocates memory for the sets and the answers of commands, for the bytes or numbers that a
+/// command is given (8 bytes a number) while it runs, for 65536 bytes of the input or at most twice
+/// the longest line, and once for 65536 bytes of answers. It does not allocate to print answers.
 ///
 /// A stream reports its bytes if `R.remaining` or `W.contents` is `Some`, as for a slice and a
 /// vector. Clause `ends` states how the session ended, for a source that reports its bytes. Clause

@@ -378,9 +378,10 @@ impl<A: Allocator + Clone> BitBufferMut<A> {
         }
     }
 
-    /// Removes the last bit and returns it, in constant time. Removes its byte too if no other bit
-    /// of the set is in it, as [`truncate`](Self::truncate) does. Returns `None` exactly if there
-    /// are no bits; the set is unchanged then. Offset and capacity do not change.
+    /// Removes the last bit and returns it, in constant time. Keeps the bytes that
+    /// [`truncate`](Self::truncate) to the new length keeps: those up to the end of the other bits.
+    /// Returns `None` exactly if there are no bits; the set is unchanged then. Offset and capacity
+    /// do not change.
     pub fn pop(&mut self) -> Option<bool>
         ensures last { slice_get self.old.bits (length self.old.bits - 1) ≡ result }
         ensures some { IsSome result ↔ (0 < length self.old.bits) }

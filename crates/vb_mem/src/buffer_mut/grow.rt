@@ -135,7 +135,7 @@ impl<T: Element, A: Allocator> BufferMut<T, A> {
     ///
     /// Otherwise it returns `OutOfMemory` if memory runs out. On error the buffer keeps the items
     /// up to its capacity, and the item that did not fit is lost. The iterator's size hint affects
-    /// how much memory the call requests, and never its result.
+    /// how much memory the call requests, and so whether memory runs out, but never the items.
     pub fn extend<I: IntoIterator<Item = T>>(&mut self, iter: I) -> Result<()>
         requires { IsFiniteIterable I.into_iter_gives I.IntoIter.can_next
             I.IntoIter.remaining iter }
