@@ -46,7 +46,7 @@ enum vb_comparison VB_OF_BYTES {
  * time by vectors, or 8 if they are whole numbers of 64 bits. Floats compare as by C's operators
  * and IEEE 754: with a NaN on either side or on both only VB_NOT_EQUAL holds, and 0.0 equals -0.0.
  * C converts `number` to the type of the values before the call: 2.5 becomes 2 for whole numbers;
- * gcc warns of that only by -Wconversion. compare of vortex_bits.hpp compares exactly.
+ * by default gcc doesn't warn (-Wfloat-conversion does). compare of vortex_bits.hpp is exact.
  *
  *     const double prices[] = {1.5, NAN, 0.25};
  *     uint8_t cheap[] = {0};
