@@ -380,7 +380,7 @@ fn shared(node: &Arc<Node>, start: usize, len: usize) -> Owned<ArrowArray> {
         buffers: node.buffers.clone(),
         below,
         kept: (
-            Some(node.keeper() as Arc<dyn Any + Send + Sync>),
+            Some(Arc::clone(node.keeper()) as Arc<dyn Any + Send + Sync>),
             None,
             None,
         ),

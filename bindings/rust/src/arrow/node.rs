@@ -134,8 +134,8 @@ impl Node {
 impl Node {
     /// Returns the node that keeps the buffers: this one, or the one that its array is an export
     /// of. So an export of an export keeps the first array only.
-    pub fn keeper(self: &Arc<Node>) -> Arc<Node> {
-        Arc::clone(self.origin.node.as_ref().unwrap_or(self))
+    pub fn keeper(self: &Arc<Node>) -> &Arc<Node> {
+        self.origin.node.as_ref().unwrap_or(self)
     }
 
     /// Returns the owners of the buffers that its views name, if this crate made the views.

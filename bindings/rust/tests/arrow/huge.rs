@@ -1,5 +1,6 @@
 //! Arrays of more rows or items than the interface can count: each is an error with the column's
 //! name. No export has a smaller number instead.
+use vortex_bits::Bits;
 use vortex_bits::arrow::{Array, Export};
 
 use crate::made::Tree;
@@ -137,10 +138,12 @@ fn items_beyond_offsets_of_32_bits_are_refused() {
     refused(&few, &items.replace("4294967294", "2147483648"));
 }
 
-/// Parts of one array share its items.
+/// Parts of one array and its selected rows share its items.
 #[track_caller]
 fn shared(array: &Array) {
-    let joined = Export::concat(array.field(), &times(5, array)).unwrap();
+    let rows = [(); 2].map(|()| array.filter(None::<Bits>).unwrap().into_array());
+    let parts = [&times(3, array)[..], &rows].concat();
+    let joined = Export::concat(array.field(), &parts).unwrap();
     assert_eq!(joined.into_array().len(), 5 * array.len());
 }
 

@@ -27,6 +27,7 @@ mod raw;
 mod refused;
 mod released;
 mod select;
+mod shared;
 mod sizes;
 mod stream;
 mod strict;

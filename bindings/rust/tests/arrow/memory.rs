@@ -117,15 +117,17 @@ fn selections_return_an_error_if_memory_runs_out() {
     let mut maker = Maker::new(5, false);
     let mask: Bitmap = (0..ROWS).map(|row| row % 3 > 0).collect();
     let indices: Vec<u32> = (0..20_000).map(|at| at * 7919 % 20_000).collect();
-    let mut array = |kind| {
-        let (array, schema) = maker.tree_of(kind, ROWS, 2);
-        import(array, schema).unwrap()
+    // Two equal arrays in different memory.
+    let mut equal = |kind| {
+        let trees = [
+            maker.clone().tree_of(kind, ROWS, 2),
+            maker.tree_of(kind, ROWS, 2),
+        ];
+        trees.map(|(array, schema)| import(array, schema).unwrap())
     };
     for kind in 0..KINDS {
-        let some: [Array; 3] = [(); 3].map(|()| array(kind));
-        for one in &some {
-            // The same rows imported again: the crate takes the two for different arrays.
-            let both = [one.clone(), Export::from(one.clone()).into_array()];
+        for both in [(); 3].map(|()| equal(kind)) {
+            let one = &both[0];
             let filters = refused(|| one.filter(&mask));
             let takes = refused(|| one.take(&indices));
             let joins = refused(|| Export::concat(one.field(), &both));

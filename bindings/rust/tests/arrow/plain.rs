@@ -4,6 +4,7 @@ pub fn bit(bytes: &[u8], place: usize) -> bool {
     bytes[place / 8] >> (place % 8) & 1 == 1
 }
 
+#[derive(Clone)]
 pub struct Random(pub u64);
 
 impl Random {

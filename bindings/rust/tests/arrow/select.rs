@@ -153,10 +153,13 @@ fn rows_of_several_arrays_are_those_of_a_plain_reader() {
     let mut maker = Maker::new(14, false);
     for _ in 0..rounds(1000) {
         maker.count = Count::default();
+        let (equal, _) = some(&mut maker.clone(), 2);
         let (array, _) = some(&mut maker, 2);
-        // Parts of one array, or also of the same array imported again, as if it were another one.
-        let again = Export::from(array.clone()).into_array();
-        let both = [&array, maker.one_of(&[&array, &again])];
+        // Parts of one array, or also of another one: the same imported again, or an equal one in
+        // other memory.
+        let (imported, schema) = raw_of(Export::from(array.clone()));
+        let again = import(imported, schema).unwrap();
+        let both = [&array, maker.one_of(&[&array, &again, &equal])];
         let arrays: Vec<Array> = (0..maker.below(5))
             .map(|_| {
                 let of = maker.one_of(&both);

@@ -237,11 +237,12 @@ impl Export {
     /// are no rows. If the arrays have several dictionaries, the joined one may have an item twice:
     /// rows with different indices may then be equal.
     ///
-    /// It copies the rows as [`Array::filter`] does. Slices of one array continue to share its
-    /// dictionary, the items of its list views and the buffers of its views. Otherwise it copies
-    /// the dictionaries and the items of list views of the arrays with a valid row, array by array
-    /// and each once, and adjusts the indices and offsets. The items of a joined dictionary are
-    /// then in no order, whatever the field's flags say.
+    /// It copies the rows as [`Array::filter`] does. Arrays that share memory, such as slices,
+    /// selected rows and exports of one array, continue to share the dictionary, the items of list
+    /// views and the buffers of views. Otherwise it copies the dictionaries and the items of list
+    /// views of the arrays with a valid row, array by array and each once, and adjusts the indices
+    /// and offsets. The items of a joined dictionary are then in no order, whatever the field's
+    /// flags say.
     ///
     /// ```
     /// use vortex_bits::arrow::{Export, Field};
@@ -273,8 +274,9 @@ impl Export {
     /// - If valid rows have several dictionaries, returns [`ArrowError::Take`] with the first valid
     ///   index of an array that names no item of its own dictionary. Below lists, runs and unions,
     ///   positions count from the first item that the rows of the array have.
-    /// - Returns [`ArrowError::Malformed`] if list views of several arrays are out of bounds of
-    ///   their items. Returns the errors of [`Array::texts`] for views of several arrays.
+    /// - If the arrays don't share the items of their list views, returns [`ArrowError::Malformed`]
+    ///   for a list view that is out of bounds of its items. If they don't share the buffers of
+    ///   their views, returns the errors of [`Array::texts`].
     /// - Returns the errors of `filter`.
     pub fn concat(field: &Field, arrays: &[Array]) -> Result<Export, ArrowError> {
         for array in arrays {

@@ -13,7 +13,9 @@ pub use lies::spoil;
 /// An array with its type.
 pub type Tree = (Array, Schema);
 
-/// Makes random arrays. Their buffers are exactly as long as their numbers say.
+/// Makes random arrays. Their buffers are exactly as long as their numbers say. A clone makes equal
+/// arrays in other memory.
+#[derive(Clone)]
 pub struct Maker {
     random: Random,
     /// Whether some numbers, offsets and views are wrong.

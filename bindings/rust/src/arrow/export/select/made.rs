@@ -71,7 +71,7 @@ impl Made {
     /// Keeps the owners of the buffers that the views of an array name, and of their sizes.
     pub(super) fn keep(&mut self, node: &Arc<Node>) {
         let new = || {
-            let nodes = vec![node.keeper()];
+            let nodes = vec![Arc::clone(node.keeper())];
             Arc::new(Shared {
                 nodes,
                 _sizes: None,
@@ -86,7 +86,7 @@ impl Made {
         for it in of {
             match it.node.shared() {
                 Some(shared) => nodes.extend(shared.nodes.iter().cloned()),
-                None => nodes.push(it.node.keeper()),
+                None => nodes.push(Arc::clone(it.node.keeper())),
             }
         }
         self.owners = Some(Arc::new(Shared {

@@ -4,7 +4,7 @@ use alloc::vec::Vec;
 
 use super::made::Made;
 use super::memory::{reserved, too_many, zeroed};
-use super::nodes::{Nodes, only};
+use super::nodes::{self, Nodes, only};
 use super::rows::{Rows, Run, Runs};
 use super::{fixed, put, selected, too_long};
 use crate::Bits;
@@ -61,7 +61,7 @@ pub(super) fn list_views(
 ) -> Result<Made, ArrowError> {
     let used = with_valid_rows(field, of.len(), rows, valid)?;
     let items = || used.arrays(of).map(|it| &it.node.children[0]);
-    let one = only(items());
+    let one = only(items(), nodes::items);
     if let Some(items) = one.filter(|_| used.has_all()) {
         let numbers = of.iter().map(|it| it.list_view_numbers(width));
         let numbers = numbers.map(|[offsets, sizes]| (offsets, sizes));
@@ -71,7 +71,7 @@ pub(super) fn list_views(
         made.below.push(shared(items, items.offset, items.len));
         return Ok(made);
     }
-    let items = Nodes::of(items());
+    let items = Nodes::of(items(), nodes::items);
     let before = used.each_before(&items);
     let number = items.each.iter().map(Array::len);
     let number = number.fold(0, usize::saturating_add);
@@ -151,7 +151,7 @@ pub(super) fn coded(
     let width = field.layout.widest().0;
     let used = with_valid_rows(field, of.len(), rows, valid)?;
     let dictionaries = || used.arrays(of).filter_map(|it| it.node.dictionary.as_ref());
-    if let Some(one) = only(dictionaries()) {
+    if let Some(one) = only(dictionaries(), nodes::items) {
         let mut made = Made::of([fixed::own_values(field, width, of, rows)?]);
         let Node { offset, len, .. } = **one;
         made.dictionary = Some(shared(one, offset, len));
@@ -161,7 +161,7 @@ pub(super) fn coded(
         }
         return Ok(made);
     }
-    let dictionaries = Nodes::of(dictionaries());
+    let dictionaries = Nodes::of(dictionaries(), nodes::items);
     let before = used.each_before(&dictionaries);
     let mut made = Made::of([moved_indices(field, of, rows, &before)?]);
     let all = all_rows(field, &dictionaries.each)?;

@@ -1,34 +1,77 @@
-//! Finds arrays with the same node: the buffers and children that they share are neither copied nor
+//! Finds arrays that share memory: the buffers and children that they share are neither copied nor
 //! moved.
 
 use alloc::collections::BTreeMap;
 use alloc::sync::Arc;
 use alloc::vec::Vec;
+use core::ffi::c_void;
 
 use crate::arrow::array::Array;
 use crate::arrow::node::Node;
 
-/// Returns the node if all of them are the same one; None if there are several, or none. It does
-/// not allocate.
-pub(super) fn only<'a>(mut nodes: impl Iterator<Item = &'a Arc<Node>>) -> Option<&'a Arc<Node>> {
-    let first = nodes.next()?;
-    nodes.all(|it| Arc::ptr_eq(it, first)).then_some(first)
+/// The memory of all items of a node. Nodes of one type that are equal in it have the same items as
+/// long as both live. Exports of one array are such nodes.
+#[derive(PartialEq, Eq, PartialOrd, Ord)]
+pub(super) struct Memory<'a> {
+    /// The offset and the number of the items. Buffers of no items may be at one address.
+    items: (usize, usize),
+    /// The validity in use. It is null if the array says that it has no null, whatever its buffers
+    /// have.
+    validity: *const u8,
+    buffers: &'a [*const c_void],
+    /// The memory of the children and of the dictionary.
+    below: Vec<Memory<'a>>,
+    /// The node that keeps the items, if these take no memory.
+    keeper: Option<*const Node>,
 }
 
-/// Several nodes, each of which may occur more than once.
+/// Returns the memory of all items of a node.
+pub(super) fn items(node: &Arc<Node>) -> Memory<'_> {
+    let below = node.children.iter().chain(&node.dictionary);
+    let is_nowhere = node.buffers.is_empty() && node.children.is_empty();
+    Memory {
+        items: (node.offset, node.len),
+        validity: node.validity,
+        buffers: &node.buffers,
+        below: below.map(items).collect(),
+        keeper: is_nowhere.then(|| Arc::as_ptr(node.keeper())),
+    }
+}
+
+/// Returns the buffers that the views of a node name, and the buffer of their sizes.
+pub(super) fn viewed(node: &Arc<Node>) -> &[*const c_void] {
+    &node.buffers[2..]
+}
+
+/// Returns the first node if all nodes have the same memory; None if they don't, or if there is no
+/// node. `of` returns the memory of a node. It isn't called for clones of the first node.
+pub(super) fn only<'a, K: PartialEq>(
+    mut nodes: impl Iterator<Item = &'a Arc<Node>>,
+    of: impl Fn(&'a Arc<Node>) -> K,
+) -> Option<&'a Arc<Node>> {
+    let first = nodes.next()?;
+    let is_same = |it| Arc::ptr_eq(it, first) || of(it) == of(first);
+    nodes.all(is_same).then_some(first)
+}
+
+/// Several nodes, some of which may have the same memory.
 pub(super) struct Nodes {
-    /// Each node once, whole, in the order in which they first occur.
+    /// The first node of each memory, whole, in their order.
     pub each: Vec<Array>,
-    /// The index in `each` of each given node.
+    /// For each given node the index in `each` of the one with its memory.
     pub places: Vec<usize>,
 }
 
 impl Nodes {
-    /// Returns these nodes. Looks up each one among those before it, in a tree.
-    pub(super) fn of<'a>(nodes: impl Iterator<Item = &'a Arc<Node>>) -> Nodes {
+    /// Returns these nodes. `of` returns the memory of a node. Looks up each one among those before
+    /// it, in a tree.
+    pub(super) fn of<'a, K: Ord>(
+        nodes: impl Iterator<Item = &'a Arc<Node>>,
+        of: impl Fn(&'a Arc<Node>) -> K,
+    ) -> Nodes {
         let (mut each, mut found) = (Vec::new(), BTreeMap::new());
         let place = |node: &'a Arc<Node>| {
-            *found.entry(Arc::as_ptr(node)).or_insert_with(|| {
+            *found.entry(of(node)).or_insert_with(|| {
                 each.push(Array::whole(node));
                 each.len() - 1
             })

@@ -5,7 +5,7 @@ use core::ffi::c_void;
 
 use super::made::Made;
 use super::memory::zeroed;
-use super::nodes::{Nodes, only};
+use super::nodes::{self, Nodes, only};
 use super::rows::{Rows, Run, Runs};
 use super::tested::{tested_ranges, tested_texts};
 use super::{fixed, joined, put, too_long};
@@ -193,16 +193,17 @@ pub(super) fn views(
     valid: Option<Bits<'_>>,
 ) -> Result<Made, ArrowError> {
     let width = size_of::<View>();
-    if let Some(node) = only(of.iter().map(|it| &it.node)) {
+    let nodes = || of.iter().map(|it| &it.node);
+    if let Some(node) = only(nodes(), nodes::viewed) {
         let mut views = fixed::own_values(field, width, of, rows)?;
         let nulls = valid.into_iter().flat_map(Bits::unset_indices);
         nulls.for_each(|row| views[row * width..][..width].fill(0));
         let mut made = Made::of([views]);
-        made.shared.extend_from_slice(&node.buffers[2..]);
+        made.shared.extend_from_slice(nodes::viewed(node));
         made.keep(node);
         return Ok(made);
     }
-    let nodes = Nodes::of(of.iter().map(|it| &it.node));
+    let nodes = Nodes::of(nodes(), nodes::viewed);
     // The sizes come after the buffers of texts, the validity and the views before them.
     let buffers = nodes.each.iter().map(|it| {
         let buffers = it.view_buffers();
