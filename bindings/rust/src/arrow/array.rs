@@ -14,7 +14,7 @@ use super::error::{ArrowError, Fault};
 use super::ffi::{ArrowArray, ArrowSchema, Owned};
 use super::field::Field;
 use super::layout::Layout;
-use super::node::{Node, Tree};
+use super::node::{Node, OriginOf, Tree, unknown};
 use super::primitive::{Primitive, Unaligned};
 use super::texts::View;
 use crate::bits::within;
@@ -82,19 +82,20 @@ impl Array {
         // SAFETY: the caller promises it.
         let field = unsafe { Field::read(schema.get(), 0)? };
         // SAFETY: the caller promises it.
-        unsafe { Array::of(array, &Arc::new(field)) }
+        unsafe { Array::of(array, &Arc::new(field), unknown) }
     }
 
     /// # Safety
     ///
-    /// As for [`Array::from_raw`].
+    /// As for [`Array::from_raw`], and `origin` may be called with each array of the tree.
     pub(super) unsafe fn of(
         array: Owned<ArrowArray>,
         field: &Arc<Field>,
+        origin: OriginOf,
     ) -> Result<Array, ArrowError> {
-        let owner = Arc::new(array);
+        let owner = &Arc::new(array);
         // SAFETY: the caller promises it; the node keeps the owner.
-        let node = unsafe { Node::read(owner.get(), field, Tree::foreign(&owner))? };
+        let node = unsafe { Node::read(owner.get(), field, Tree { owner, origin })? };
         Ok(Array::whole(&Arc::new(node)))
     }
 

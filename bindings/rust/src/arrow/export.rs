@@ -21,7 +21,7 @@ use super::error::ArrowError;
 use super::ffi::{ArrowArray, ArrowSchema, Below, Owned};
 use super::field::Field;
 use super::layout::Layout;
-use super::node::{Node, Origin, Tree};
+use super::node::{Node, Origin, Tree, unknown};
 use super::primitive::Primitive;
 use crate::Bitmap;
 use crate::error::expect;
@@ -253,8 +253,12 @@ impl Export {
         read: impl FnOnce(&Array) -> Result<T, ArrowError>,
     ) -> Result<T, ArrowError> {
         let (field, no_owner) = (Arc::new(self.field.clone()), Arc::new(Owned::empty()));
+        let tree = Tree {
+            owner: &no_owner,
+            origin: unknown,
+        };
         // SAFETY: the array is as the interface requires, and lives longer than the node.
-        let node = unsafe { Node::read(self.array.get(), &field, Tree::foreign(&no_owner))? };
+        let node = unsafe { Node::read(self.array.get(), &field, tree)? };
         read(&Array::whole(&Arc::new(node)))
     }
 
@@ -291,15 +295,9 @@ impl Export {
     /// doesn't read them.
     pub fn try_into_array(self) -> Result<Array, ArrowError> {
         self.field.is_shallow()?;
-        let owner = Arc::new(self.array);
-        let tree = Tree {
-            owner: &owner,
-            origin,
-        };
         // SAFETY: the array is as the interface requires, and this is its only owner. `Held::array`
         // made each array of the tree.
-        let node = unsafe { Node::read(owner.get(), &Arc::new(self.field), tree)? };
-        Ok(Array::whole(&Arc::new(node)))
+        unsafe { Array::of(self.array, &Arc::new(self.field), origin) }
     }
 }
 
@@ -359,7 +357,7 @@ impl Array {
 /// # Safety
 ///
 /// [`Held::array`] made the array, and it isn't released.
-unsafe fn origin(array: &ArrowArray) -> Origin {
+pub(super) unsafe fn origin(array: &ArrowArray) -> Origin {
     // SAFETY: the caller promises it.
     let (kept, _, owners) = unsafe { &(*array.private_data.cast::<Held>()).kept };
     let node = kept.as_ref().map(Arc::clone);

@@ -56,23 +56,22 @@ pub(super) struct Shared {
     pub _sizes: Option<AlignedBytes>,
 }
 
+/// Returns what an array shares. Each owner of such a function says with which arrays it may be
+/// called.
+pub(super) type OriginOf = unsafe fn(&ArrowArray) -> Origin;
+
+/// Returns that nothing is known. It may be called with any array, such as that of another library.
+pub(super) fn unknown(_: &ArrowArray) -> Origin {
+    Origin::default()
+}
+
 /// A tree of arrays to read.
 #[derive(Clone, Copy)]
 pub(super) struct Tree<'a> {
     /// The outermost array.
     pub owner: &'a Arc<Owned<ArrowArray>>,
-    /// Returns what an array of the tree shares. No other array may be passed.
-    pub origin: unsafe fn(&ArrowArray) -> Origin,
-}
-
-impl<'a> Tree<'a> {
-    /// A tree that may be that of another library.
-    pub fn foreign(owner: &'a Arc<Owned<ArrowArray>>) -> Tree<'a> {
-        Tree {
-            owner,
-            origin: |_| Origin::default(),
-        }
-    }
+    /// It may be called with the arrays of the tree.
+    pub origin: OriginOf,
 }
 
 // SAFETY: the pointers lead to buffers of `_owner`, which may be released on any thread.

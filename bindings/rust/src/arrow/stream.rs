@@ -16,9 +16,10 @@ use core::ptr;
 use super::array::Array;
 use super::difference::{Between, difference};
 use super::error::{ArrowError, EINVAL, Fault, StreamError};
-use super::export::Export;
+use super::export::{Export, origin};
 use super::ffi::{ArrowArray, ArrowArrayStream, ArrowSchema, Owned};
 use super::field::Field;
+use super::node::{OriginOf, unknown};
 use super::schema::c_string;
 
 /// The errno if a producer reports none, or panics.
@@ -34,6 +35,8 @@ pub struct Stream {
     raw: Owned<ArrowArrayStream>,
     field: Arc<Field>,
     is_ended: bool,
+    /// It may be called with the arrays of the stream.
+    origin: OriginOf,
 }
 
 impl Stream {
@@ -70,6 +73,7 @@ impl Stream {
             raw,
             field: Arc::new(field),
             is_ended: false,
+            origin: unknown,
         })
     }
 
@@ -92,8 +96,8 @@ impl Stream {
         if array.is_released() {
             return Ok(None);
         }
-        // SAFETY: the caller of `from_raw` promised it.
-        unsafe { Array::of(array, &self.field) }.map(Some)
+        // SAFETY: the caller of `from_raw` promised it, and it is an array of the stream.
+        unsafe { Array::of(array, &self.field, self.origin) }.map(Some)
     }
 }
 
@@ -228,7 +232,9 @@ impl ExportStream {
         let producer = unsafe { Producer::of(self.raw.as_mut_ptr()) };
         producer.field.is_shallow()?;
         // SAFETY: it is as the interface requires, and this is its only owner.
-        unsafe { Stream::from_raw(self.raw.as_mut_ptr()) }
+        let stream = unsafe { Stream::from_raw(self.raw.as_mut_ptr())? };
+        // `Held::array` made its arrays, as those of all exports.
+        Ok(Stream { origin, ..stream })
     }
 }
 

@@ -1,10 +1,10 @@
 //! Selected rows when memory runs out: each large request of a call is refused in turn. And what
-//! calls request for rows of several arrays.
+//! calls request for rows of several arrays, and what a chain of calls keeps.
 use std::alloc::{GlobalAlloc, Layout, System};
 use std::cell::Cell;
 use std::ptr;
 
-use vortex_bits::arrow::{Array, ArrowError, Export};
+use vortex_bits::arrow::{Array, ArrowError, Export, ExportStream};
 use vortex_bits::{Bitmap, Bits};
 
 use crate::export::{ReadBack, raw_of};
@@ -12,7 +12,7 @@ use crate::made::{KINDS, Maker};
 use crate::ranges::{offsets, view};
 use crate::raw::{self, Buffer, Count, Schema, import};
 
-/// Refuses large requests as the thread's [`LEFT`] and [`MOST`] say, and counts all bytes.
+/// Refuses large requests as the thread's [`LEFT`] and [`MOST`] say, and counts bytes.
 struct Refusing;
 
 /// Requests for rows have more bytes than this; those for structs have fewer.
@@ -27,6 +27,8 @@ thread_local! {
     static REFUSED: Cell<usize> = const { Cell::new(0) };
     /// The bytes of all requests.
     static ASKED: Cell<usize> = const { Cell::new(0) };
+    /// The bytes of all requests whose memory was given back.
+    static FREED: Cell<usize> = const { Cell::new(0) };
 }
 
 // SAFETY: each call is that of the system's allocator, or returns null.
@@ -44,6 +46,7 @@ unsafe impl GlobalAlloc for Refusing {
     }
 
     unsafe fn dealloc(&self, at: *mut u8, layout: Layout) {
+        FREED.with(|freed| freed.set(freed.get() + layout.size()));
         // SAFETY: the caller's.
         unsafe { System.dealloc(at, layout) }
     }
@@ -272,4 +275,30 @@ fn parts_of_one_array_of_views_share_its_buffers_once() {
         one = joined;
     }
     assert_eq!(Export::from(one).read_back().len(), 2017);
+}
+
+/// Filters an array and passes it on as a stream, 2,000 times.
+fn streamed(mut rows: Array) -> Array {
+    for _ in 0..2_000 {
+        let kept = rows.filter(Bits::new(&[0b11], 0, 2)).unwrap();
+        let stream = ExportStream::new(kept.field().clone(), [Ok(kept)]).into_stream();
+        rows = stream.unwrap().next().unwrap().unwrap();
+    }
+    rows
+}
+
+/// Of a chain of steps over shared rows only the first array stays, and a drop of the last one
+/// needs no stack for each, also if each step reads the stream of the one before.
+#[test]
+fn a_chain_of_streams_keeps_the_first_array_only() {
+    let coded = coded(Export::values([1i8, 0], None), 2);
+    for first in [coded, list_views(2), of_views(&[Some(LONG); 2])] {
+        let live = || ASKED.get().wrapping_sub(FREED.get());
+        let before = live();
+        let rows = streamed(first.clone());
+        let bytes = live().wrapping_sub(before);
+        assert!(bytes < 4096, "{bytes} bytes for {first:?}");
+        drop(rows);
+        assert_eq!(live(), before);
+    }
 }
