@@ -21,7 +21,7 @@ fn seen_at(bits: Bits<'_>, i: usize, seen: impl Fn(u64) -> u64) -> u64 {
 
 pub fn set_indices<I: Index>(bits: Bits<'_>, out: &mut [I]) -> usize {
     let (mut written, mut i) = (0, 0);
-    while written < out.len() && 64 * i < bits.len() {
+    while written < out.len() && i < bits.len().div_ceil(64) {
         let mut word = word_at(bits, i);
         while word != 0 {
             let Some(place) = out.get_mut(written) else {
@@ -42,7 +42,7 @@ pub fn set_indices<I: Index>(bits: Bits<'_>, out: &mut [I]) -> usize {
 fn slices(bits: Bits<'_>, out: &mut [Run], seen: impl Fn(u64) -> u64 + Copy) -> usize {
     let (mut written, mut i) = (0, 0);
     let (mut begun, mut last) = (None, 0);
-    while written < out.len() && 64 * i < bits.len() {
+    while written < out.len() && i < bits.len().div_ceil(64) {
         let word = seen_at(bits, i, seen);
         let mut edges = word ^ (word << 1 | last);
         last = word >> 63;
