@@ -84,8 +84,9 @@ pub enum ArrowError {
     /// A struct isn't as the interface requires.
     Malformed {
         /// The names of the columns from the outermost one on, with a point between two. A child
-        /// without a name has its index instead. For the array itself it is empty if an import
-        /// fails, otherwise its name, with which the names of its columns begin too.
+        /// without a name, or with one that can't be read, has its index instead. For the array
+        /// itself it is empty if an import fails, otherwise its name, with which the names of its
+        /// columns begin too.
         column: String,
         /// The fault of the struct.
         fault: Fault,

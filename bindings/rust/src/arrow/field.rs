@@ -303,16 +303,41 @@ unsafe fn children(
     }
     for place in 0..number {
         // SAFETY: there are `number` children.
-        let read = match unsafe { child(schema.children, place) } {
-            // SAFETY: it belongs to the parent, which isn't released.
-            Ok(child) => unsafe { Field::read(child.as_ref(), depth + 1) },
-            Err(fault) => Err(fault.into()),
-        };
-        children.push(Arc::new(
-            read.map_err(|error| error.under(&place.to_string()))?,
-        ));
+        let child = unsafe { nth_child(schema, place, depth + 1)? };
+        children.push(Arc::new(child));
     }
     Ok(children)
+}
+
+/// Reads a child. An error has its name, or its index if no name can be read.
+///
+/// # Safety
+///
+/// As for [`Field::read`], and there are more than `place` children.
+unsafe fn nth_child(schema: &ArrowSchema, place: usize, depth: usize) -> Result<Field, ArrowError> {
+    // SAFETY: the caller promises it; the child belongs to the parent, which isn't released.
+    unsafe {
+        let schema = child(schema.children, place)
+            .map_err(|fault| ArrowError::from(fault).under(&place.to_string()))?
+            .as_ref();
+        Field::read(schema, depth).map_err(|error| match own_name(schema) {
+            Some(name) => error.under(&name),
+            None => error.under(&place.to_string()),
+        })
+    }
+}
+
+/// Returns the name in a schema; None if there is none, or none that can be read.
+///
+/// # Safety
+///
+/// As for [`Field::read`].
+unsafe fn own_name(schema: &ArrowSchema) -> Option<String> {
+    // The name of a released schema may be gone.
+    schema.release?;
+    // SAFETY: the caller promises it.
+    let name = unsafe { name(schema.name) };
+    name.ok().filter(|name| !name.is_empty())
 }
 
 /// # Safety

@@ -234,7 +234,7 @@ fn columns_are_as_the_struct_asks_for() {
 }
 
 #[test]
-fn children_of_schemas_are_named_by_their_places() {
+fn children_of_schemas_are_named() {
     let schema = |spoil: fn(&mut Schema)| {
         let none = Count::default();
         let fields = vec![Schema::new("a", "l", &none), Schema::new("b", "q", &none)];
@@ -243,7 +243,7 @@ fn children_of_schemas_are_named_by_their_places() {
         let rows = Array::of(4, vec![None], vec![], None, &none);
         import(rows, schema).unwrap_err().to_string()
     };
-    assert_eq!(schema(|_| ()), "column \"1\": no type has the format \"q\"");
+    assert_eq!(schema(|_| ()), "column \"b\": no type has the format \"q\"");
     assert_eq!(schema(|it| it.n_children = -1), "n_children is -1");
     assert_eq!(
         schema(|it| it.children = ptr::null_mut()),
@@ -252,6 +252,35 @@ fn children_of_schemas_are_named_by_their_places() {
     let wanted = "n_children is 2 in place of 1";
     assert_eq!(schema(|it| it.format = c"+l".as_ptr()), wanted);
     assert_eq!(schema(|it| it.format = c"+us:7".as_ptr()), wanted);
+}
+
+#[test]
+fn children_of_schemas_without_a_name_are_named_by_their_places() {
+    let said = |name: &str, spoil: fn(&mut Schema)| {
+        let none = Count::default();
+        let mut inner = Schema::new(name, "q", &none);
+        spoil(&mut inner);
+        let lists = Schema::of("list", "+l", vec![inner], None, &none);
+        let fields = vec![Schema::new("a", "l", &none), lists];
+        let rows = Array::of(4, vec![None], vec![], None, &none);
+        let schema = Schema::of("rows", "+s", fields, None, &none);
+        import(rows, schema).unwrap_err().to_string()
+    };
+    let wanted = |child, fault| format!("column \"list.{child}\": {fault}");
+    let fault = "no type has the format \"q\"";
+    assert_eq!(said("item", |_| ()), wanted("item", fault));
+    assert_eq!(said("", |_| ()), wanted("0", fault));
+    let empty = said("item", |it| it.name = c"".as_ptr());
+    assert_eq!(empty, wanted("0", fault));
+    let not_a_text = said("item", |it| it.name = c"\xFF".as_ptr());
+    assert_eq!(not_a_text, wanted("0", "name isn't UTF-8"));
+    let no_format = said("item", |it| it.format = ptr::null());
+    assert_eq!(no_format, wanted("item", "format is null"));
+    let released = said("item", |it| {
+        // SAFETY: it isn't released.
+        unsafe { it.release.unwrap()(it) };
+    });
+    assert_eq!(released, wanted("0", "ArrowSchema is released"));
 }
 
 #[test]

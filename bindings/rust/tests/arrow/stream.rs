@@ -173,7 +173,7 @@ fn callbacks_and_schemas_that_are_missing_are_named() {
         // SAFETY: it isn't released.
         unsafe { producer(it).format = "?" };
     });
-    assert_eq!(malformed.0, "column \"0\": no type has the format \"?\"");
+    assert_eq!(malformed.0, "column \"a\": no type has the format \"?\"");
     let unfilled = said(|it| {
         // SAFETY: it isn't released; it returns 0 and no schema.
         unsafe { (producer(it).format, producer(it).errno) = ("", 0) };
