@@ -1,6 +1,7 @@
 //! Arrays and streams of the Arrow C interfaces, made by hand and compared with plain loops.
 mod blocks;
 mod cells;
+mod changing;
 mod checker;
 mod dictionary;
 mod export;

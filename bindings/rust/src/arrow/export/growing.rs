@@ -81,10 +81,11 @@ impl TextsMut {
         if !layout::is_text(texts.field().format()) {
             return Err(texts.is_not("that of texts"));
         }
-        let rows = texts.texts()?;
-        rows.validity().filter_onto(&mask, &mut self.valid);
+        // The bits are read once: their owner may return other bytes in another call.
+        let (rows, mask) = (texts.texts()?, mask.mask());
+        rows.validity().filter_onto(mask, &mut self.valid);
         let mut push = |text: Option<&[u8]>| self.push(text.unwrap_or_default());
-        match mask.mask() {
+        match mask {
             Some(mask) => mask.set_indices().for_each(|row| push(rows.get(row))),
             None => rows.iter().for_each(push),
         }

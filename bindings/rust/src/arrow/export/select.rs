@@ -164,8 +164,11 @@ impl Array {
         indices: &[I],
         validity: impl Mask,
     ) -> Result<Export, ArrowError> {
+        crate::take::one_each(indices, &validity)
+            .map_err(|error| self.not_taken(values_error(error)))?;
+        // The bits are read once: their owner may return other bytes in another call.
         let valid = validity.mask();
-        let places = self.places(indices, &validity)?;
+        let places = self.places(indices, valid)?;
         let rows = Rows::Places(&places, valid);
         let field = self.field().clone();
         let field = if rows.has_nulls() {
@@ -191,11 +194,9 @@ impl Array {
     fn places<I: BitIndex>(
         &self,
         indices: &[I],
-        validity: &impl Mask,
+        valid: Option<Bits<'_>>,
     ) -> Result<Vec<usize>, ArrowError> {
-        crate::take::one_each(indices, validity)
-            .map_err(|error| self.not_taken(values_error(error)))?;
-        let (valid, mut is_wrong) = (validity.mask(), false);
+        let mut is_wrong = false;
         let row = |index: &I| {
             let row = index.place().unwrap_or(usize::MAX);
             is_wrong |= row >= self.len;
