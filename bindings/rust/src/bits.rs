@@ -44,10 +44,8 @@ pub(crate) const fn fits(size: usize, offset: usize, len: usize) -> Result<(), O
 /// Returns the number of bits of the bytes.
 #[track_caller]
 pub(crate) fn all_bits(bytes: &[u8]) -> usize {
-    bytes
-        .len()
-        .checked_mul(8)
-        .expect("the number of bits is a usize")
+    let bits = bytes.len().checked_mul(8);
+    bits.expect("the number of bits is a usize")
 }
 
 /// Returns the index of the first bit of a range among `len` bits, and the number of its bits.
@@ -67,8 +65,9 @@ pub(crate) fn within(
     };
     let [from, to] = [start, end].map(|it| it.unwrap_or(usize::MAX));
     let is_in = from <= to && to <= len && start.and(end).is_some();
-    let error = OutOfBounds::new(from, to.saturating_sub(from), len);
-    is_in.then(|| (from, to - from)).ok_or(error)
+    let number = to.saturating_sub(from).saturating_add(end.is_none().into());
+    let error = OutOfBounds::new(from, number, len);
+    is_in.then_some((from, number)).ok_or(error)
 }
 
 impl<'a> Bits<'a> {

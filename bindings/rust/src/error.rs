@@ -3,31 +3,59 @@
 use core::error::Error;
 use core::fmt;
 
-/// The error of a window that isn't in bounds of its bytes, or whose end isn't a `usize`.
+/// The error of a window that isn't in bounds of its bytes or whose end isn't a `usize`, and of a
+/// range that starts after its end or ends after the bits or rows.
 #[derive(Clone, Copy, Debug, PartialEq, Eq, Hash)]
 #[non_exhaustive]
 pub struct OutOfBounds {
-    /// The index of the first bit.
+    /// The index of the first bit or row.
     pub offset: usize,
-    /// The number of bits in the window.
+    /// The number of bits or rows in the window; 0 if the range starts after its end, and
+    /// `usize::MAX` if the number is above that.
     pub len: usize,
-    /// The number of bits of the bytes, or of the window that was sliced.
+    /// The number of bits of the bytes, or of the window that was sliced; or the number of rows.
     pub bits: usize,
+    /// `bit` or `row`.
+    unit: &'static str,
 }
 
 impl OutOfBounds {
+    /// Returns the error of bits.
     pub(crate) const fn new(offset: usize, len: usize, bits: usize) -> Self {
-        OutOfBounds { offset, len, bits }
+        OutOfBounds {
+            offset,
+            len,
+            bits,
+            unit: "bit",
+        }
+    }
+
+    /// Returns the same error of rows.
+    pub(crate) const fn of_rows(self) -> Self {
+        OutOfBounds {
+            unit: "row",
+            ..self
+        }
     }
 }
 
 impl fmt::Display for OutOfBounds {
     fn fmt(&self, f: &mut fmt::Formatter<'_>) -> fmt::Result {
-        let OutOfBounds { offset, len, bits } = self;
-        write!(
-            f,
-            "the {len} bits from bit {offset} on are not among {bits} bits"
-        )
+        let OutOfBounds {
+            offset,
+            len,
+            bits,
+            unit,
+        } = self;
+        match len {
+            0 if offset > bits => write!(f, "{unit} {offset} is past {bits} {unit}s"),
+            // An empty window that starts there is in bounds.
+            0 => write!(f, "the range starts at {unit} {offset}, after its end"),
+            _ => write!(
+                f,
+                "the {len} {unit}s from {unit} {offset} on are not among {bits} {unit}s"
+            ),
+        }
     }
 }
 

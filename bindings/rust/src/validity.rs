@@ -146,7 +146,7 @@ impl<'a> Validity<'a> {
     ///
     /// Returns [`OutOfBounds`] if the range starts after its end, or ends after the rows.
     pub fn try_slice(self, range: impl RangeBounds<usize>) -> Result<Validity<'a>, OutOfBounds> {
-        let (start, len) = within(&range, self.len)?;
+        let (start, len) = within(&range, self.len).map_err(OutOfBounds::of_rows)?;
         let bits = self.bits.map(|bits| bits.part(start, len));
         Ok(Validity { bits, len })
     }

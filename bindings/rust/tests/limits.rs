@@ -100,6 +100,22 @@ fn slices_are_ranges_of_places() {
 }
 
 #[test]
+fn errors_tell_how_ranges_are_out_of_bounds() {
+    let bits = Bits::new(&[0; 2], 0, 10);
+    let said = |start, end| bits.try_slice(start..end).unwrap_err().to_string();
+    assert_eq!(
+        said(2, 12),
+        "the 10 bits from bit 2 on are not among 10 bits"
+    );
+    assert_eq!(said(5, 3), "the range starts at bit 5, after its end");
+    assert_eq!(said(11, 3), "bit 11 is past 10 bits");
+    for refused in [bits.slice(..8).try_slice(9..), Bits::try_new(&[0], 9, 0)] {
+        let text = refused.unwrap_err().to_string();
+        assert_eq!(text, "bit 9 is past 8 bits");
+    }
+}
+
+#[test]
 fn single_bits_have_their_ends() {
     let bits = Bits::new(&[0b1000_0001], 1, 7);
     assert_eq!(

@@ -158,11 +158,21 @@ fn ranges_after_the_greatest_index_are_out_of_bounds() {
     let all = Validity::new(None, usize::MAX);
     assert_eq!(all.try_slice(..).map(Validity::len), Ok(usize::MAX));
     assert!(all.try_slice(..=usize::MAX).is_err());
-    assert!(all.try_slice(usize::MAX..=usize::MAX).is_err());
+    let last = all.try_slice(usize::MAX..=usize::MAX).unwrap_err();
+    assert_eq!((last.offset, last.len), (usize::MAX, 1));
     let behind = (Bound::Excluded(usize::MAX), Bound::Unbounded);
     assert!(all.try_slice(behind).is_err());
     let last = (Bound::Excluded(usize::MAX - 1), Bound::Unbounded);
     assert_eq!(all.try_slice(last).map(Validity::len), Ok(0));
+}
+
+#[test]
+fn errors_of_ranges_name_rows() {
+    let rows = Validity::new(None, 4);
+    let said = |start, end| rows.try_slice(start..end).unwrap_err().to_string();
+    assert_eq!(said(3, 5), "the 2 rows from row 3 on are not among 4 rows");
+    assert_eq!(said(3, 2), "the range starts at row 3, after its end");
+    assert_eq!(said(5, 5), "row 5 is past 4 rows");
 }
 
 #[test]

@@ -397,7 +397,7 @@ impl Array {
     ///
     /// Returns [`OutOfBounds`] if the range starts after its end, or ends after the rows.
     pub fn try_slice(&self, range: impl RangeBounds<usize>) -> Result<Array, OutOfBounds> {
-        let (start, len) = within(&range, self.len)?;
+        let (start, len) = within(&range, self.len).map_err(OutOfBounds::of_rows)?;
         Ok(Array {
             node: Arc::clone(&self.node),
             start: self.start + start,

@@ -382,6 +382,10 @@ fn ranges_and_names_that_are_not_there_are_refused() {
     let array = raw::Array::values(4, None, &[1, 2, 3, 4], &Count::default());
     let array = import_as(array, "C").unwrap();
     assert_eq!(array.try_slice(2..5).unwrap_err().bits, 4);
+    let said = |start, end| array.try_slice(start..end).unwrap_err().to_string();
+    assert_eq!(said(2, 5), "the 3 rows from row 2 on are not among 4 rows");
+    assert_eq!(said(3, 2), "the range starts at row 3, after its end");
+    assert_eq!(said(5, 5), "row 5 is past 4 rows");
     assert_eq!(array.slice(2..4).slice(1..).values::<u8>(), Ok(&[4][..]));
     let rows = raw::Array::of(4, vec![None], vec![], None, &Count::default());
     let rows = import_as(rows, "+s").unwrap();
