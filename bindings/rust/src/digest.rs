@@ -5,6 +5,6 @@
 /// The output of tools/digest. tools/write-lists writes it here.
 macro_rules! digest {
     () => {
-        "6a7ab707f80d71943d89be395506db1bf70e9e7cc3564a030f42ed2a7f8f15c4"
+        "9df265060b59e561672b90d6d278778aef268f98dac1bb7dc127e364a4f8ef3b"
     };
 }

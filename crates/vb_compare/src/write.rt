@@ -29,9 +29,7 @@ pub fn write_truths<S: Truths>(out: &mut [u8], offset: usize, source: &S)
 
 /// Does [`write_truths`] for at least 64: writes those in a partial first byte, then whole words of
 /// bytes, and then those left.
-///
-/// Not inlined, so that a call with few values doesn't save the registers that the loop needs.
-#[inline(never)]
+#[inline(always)]
 fn write_many<S: Truths>(out: &mut [u8], offset: usize, source: &S)
     requires many { 64 ≤ length (S.truths source.now) }
     requires window { InBytes out.old offset (length (S.truths source.now)) }
