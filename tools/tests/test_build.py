@@ -7,7 +7,7 @@ import unittest
 from tests.test_parts import Folder
 
 PROGRAMS = ("cc", "ar", "ld", "nm", "objcopy")
-CRATES = ("vb_c", "vb_c_gather", "vb_c_values", "vb_c_compare", "vb_c_aggregate")
+CRATES = ("vb_c", "vb_c_gather", "vb_c_compare", "vb_c_aggregate")
 RT = """name=${PWD##*/}
 mkdir -p out
 echo "int vb_${name}_one(void) { return 1; }" | cc -fPIC -x c -c - -o "out/$name.o"

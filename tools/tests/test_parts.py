@@ -368,7 +368,7 @@ class Bindings(Folder):
             subprocess.run(["git", *words], cwd=self.top, check=True, capture_output=True)
 
     def test_it_stops_where_the_libraries_fail(self):
-        for crate in ("vb_c_gather", "vb_c_values", "vb_c_compare"):
+        for crate in ("vb_c_gather", "vb_c_compare", "vb_c_aggregate"):
             self.write(f"crates/{crate}/src/lib.rt", "")
         self.command("bin/rt", STOPS)
         self.commit()

@@ -5,6 +5,6 @@
 /// The output of tools/digest. tools/write-lists writes it here.
 macro_rules! digest {
     () => {
-        "9df265060b59e561672b90d6d278778aef268f98dac1bb7dc127e364a4f8ef3b"
+        "c2c5fd2f82fe9aa736628f1e0db62542683481fc6c9cdd41634e49a15b9b3709"
     };
 }

@@ -5,10 +5,10 @@ ghost use Rattle.std.specs.Simd.Lanes.{zip2};
 ghost use Rattle.vb_bits.specs.Writes.{Writes};
 ghost use Rattle.vb_c_compare.specs.Codes.{comparison_of, CompareFits};
 ghost use Rattle.vb_c_core.specs.Fits.{DoneIf};
-ghost use Rattle.vb_float.specs.Floats.{compares_floats};
+ghost use Rattle.vb_compare.specs.Floats.{compares_floats};
 
 use crate::code::{comparison_of, fits};
-use vb_float::{compare_floats_into, compare_floats_with_into};
+use vb_compare::{compare_floats_into, compare_floats_with_into};
 
 /// Writes to bit `o + k` of `out`, for each `k` below the number of values, whether `values[k]`
 /// compares with `number` by `op`, as IEEE 754 defines it: with a NaN on either side only "not

@@ -1,5 +1,5 @@
--- Contracts of a filter of bits.
-use Rattle.std.specs.Prelude.{◌≡◌, ℕ, Bool, List}
+-- Contracts of filters of bits and of values.
+use Rattle.std.specs.Prelude.{◌≡◌, ℕ, Bool, List, ◌++◌, drop}
 use Rattle.vb_bits.specs.Bits.{bits, count}
 use Rattle.vb_bits.specs.InBytes.{InBytes}
 use Rattle.vb_bits.specs.Kept.{kept_by}
@@ -16,3 +16,10 @@ pub record FiltersBitsAt (mask values : List Bool) (old new : List ℕ) (o answe
 pub record KeptFitsAt (out : List ℕ) (o : ℕ) (mask : List ℕ) (m n : ℕ) : Type 0 where
   pub by : InBytes mask m n
   pub into : InBytes out o (count (bits mask m n))
+
+-- the values that the mask selects are in front, and the result is their number; the items after
+-- them are unchanged
+pub record Filters {T : Type 0} (mask : List Bool) (values old new : List T) (answer : ℕ)
+    : Type 0 where
+  pub number : answer ≡ count mask
+  pub items : new ≡ kept_by mask values ++ drop answer old

@@ -7,7 +7,7 @@ ghost use Rattle.vb_c_core.specs.Fits.{DoneIf};
 ghost use Rattle.vb_c_gather.specs.Columns.{ColumnFits, WritesColumn, column_at};
 ghost use Rattle.vb_kleene.specs.Kleene.{and_truths, or_truths};
 
-use crate::take::valid_part;
+use crate::take_bits::valid_part;
 use vb_bits::window_fits;
 use vb_kleene::{and_kleene_into, or_kleene_into};
 use vb_view::BitBufferView;

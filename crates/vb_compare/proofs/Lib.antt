@@ -1,4 +1,5 @@
 mod BehindLemmas
+mod EightLemmas
 pub mod FewLemmas
 pub mod LaneLemmas
 pub mod TruthLemmas

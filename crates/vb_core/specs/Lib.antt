@@ -1,7 +1,9 @@
 pub mod Alignments
+pub mod ByteForm
 pub mod ElementLaws
 pub mod Elements
 pub mod ExactCounts
 pub mod Indices
 pub mod Lengths
 pub mod LittleEndian
+pub mod MakesBytes

@@ -1,8 +1,7 @@
 //! Floats by their bits, and what IEEE 754 says of two of them.
 use crate::written::Pairs;
 use std::num::{f32_from_bits_with_nan, f64_from_bits_with_nan};
-use vb_compare::Comparison;
-use vb_float::FloatLanes;
+use vb_compare::{Comparison, FloatLanes};
 
 /// A float of `f32` or `f64`, by its bits.
 pub(crate) trait ByBits: FloatLanes {

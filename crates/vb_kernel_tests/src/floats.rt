@@ -4,7 +4,7 @@ use crate::written::{ALL, ROOM, STALE, are_written, holds};
 use std::alloc::Global;
 use std::process::Abort;
 use vb_bits::window_fits;
-use vb_float::{compare_floats_into, compare_floats_with_into};
+use vb_compare::{compare_floats_into, compare_floats_with_into};
 
 /// Floats, and one rank per float.
 #[derive(Drop)]

@@ -3,7 +3,7 @@ use Rattle.std.specs.Prelude.{◌≡◌, ℕ}
 use Rattle.std.specs.Prelude.{Result, IfOk, OnErr, IsOk, IsOkUnless}
 use Rattle.vb_core.specs.declared.error.BufferError.{BufferError}
 use Rattle.vb_core.specs.declared.error.BufferError.TheVariants.{OutOfMemory}
-pub use Rattle.vb_bytes.specs.MakesBytes.{MakesBytes, ReadsBytes}
+pub use Rattle.vb_core.specs.MakesBytes.{MakesBytes, ReadsBytes}
 use Rattle.vb_mem.specs.OpenBuffer.{OpenBuffer, HasRoom}
 
 -- P holds of the value that was made, or the call returned `OutOfMemory`

@@ -2,7 +2,7 @@
 use Rattle.std.specs.Prelude.{◌≡◌, ℕ, ◌+◌, ◌*◌, ◌%◌, ◌^◌, ◌<◌, ◌≤◌, ◌⊎◌}
 use Rattle.std.specs.Prelude.{List, [], length, slice_range}
 use Rattle.std.specs.declared.ops.Range.{Range}
-use Rattle.vb_bytes.specs.ByteForm.{IsReadFrom}
+use Rattle.vb_core.specs.ByteForm.{IsReadFrom}
 use Rattle.vb_mem.specs.OpenBuffer.{OpenBuffer, over_aligned}
 
 -- a buffer that may be shared: its items, the exponents of its reported and its declared alignment,

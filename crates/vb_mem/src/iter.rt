@@ -5,8 +5,7 @@ ghost use Rattle.std.specs.Slice.Iter.{iter_rest};
 use crate::buffer::Buffer;
 use crate::buffer_mut::BufferMut;
 use std::alloc::{Allocator, Global};
-use vb_bytes::{HasItems, OwnedItems};
-use vb_core::Element;
+use vb_core::{Element, HasItems, OwnedItems};
 
 /// An iterator over the items of a buffer, by reference.
 pub type Iter<'a, T> = std::slice::Iter<'a, T>;

@@ -5,8 +5,7 @@ use bytes::Bytes;
 use std::alloc::Allocator;
 use std::fmt::Debug;
 use std::process::Abort;
-use vb_bytes::{byte_count, item_count};
-use vb_core::{Alignment, BufferError, Element, Result};
+use vb_core::{Alignment, BufferError, Element, Result, byte_count, item_count};
 use vb_mem::{Buffer, BufferMut};
 use vb_testing::{Handle, Refusing};
 

@@ -2,7 +2,8 @@
 //! with those of the kernels, edits and appended bits compared with those of plain lists; truth
 //! values that are packed, and closures that are called; what calls allocate, and by which of two
 //! allocators; what a refused request for memory leaves; and how far calls poll an iterator, or
-//! call a closure, if memory is refused or there is an error: they lose no later item.
+//! call a closure, if memory is refused or there is an error: they lose no later item. `buffer` has
+//! the tests of shared sets.
 #![tactic(auto)]
 
 pub mod alternate;
@@ -10,6 +11,8 @@ pub mod alternate;
 mod appended;
 #[cfg(test)]
 mod appender;
+#[cfg(test)]
+mod buffer;
 #[cfg(test)]
 mod called;
 #[cfg(test)]

@@ -3,7 +3,7 @@ use Rattle.std.proofs.Common.{◌≡◌, ℕ, ◌*◌, List, [], ◌∷◌, leng
 use Rattle.std.proofs.lemmas.List.{length-append}
 use Rattle.std.proofs.lemmas.List.Elements.{All-head, All-tail}
 use Rattle.std.specs.List.{All}
-use Rattle.vb_bytes.specs.ByteForm.{byteform}
+use Rattle.vb_core.specs.ByteForm.{byteform}
 use Rattle.vb_core.specs.Elements.{IsElement}
 
 module _ {T : Type 0} (size align align_exponent : ℕ) (is_in_type : T → Type 0)

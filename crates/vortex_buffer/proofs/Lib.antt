@@ -9,8 +9,8 @@ pub use Rattle.vb_bits.proofs.PlacesLemmas
 pub use Rattle.vb_bits.proofs.RunsLemmas
 pub use Rattle.vb_bits.proofs.WindowLemmas
 pub use Rattle.vb_bits.proofs.WritesLemmas
-pub use Rattle.vb_bytes.proofs.ByteForms
-pub use Rattle.vb_bytes.proofs.ReadForms
+pub use Rattle.vb_core.proofs.ByteForms
+pub use Rattle.vb_core.proofs.ReadForms
 pub use Rattle.vb_core.proofs.LengthSteps
 pub use Rattle.vb_core.proofs.Powers
 pub use Rattle.vb_pack.proofs.AnswersLemmas

@@ -22,7 +22,7 @@ pub use Rattle.vb_bits.specs.Operators
 pub use Rattle.vb_bits.specs.Runs
 pub use Rattle.vb_bits.specs.Shown
 pub use Rattle.vb_bits.specs.Writes
-pub use Rattle.vb_bytes.specs.ByteForm
+pub use Rattle.vb_core.specs.ByteForm
 pub use Rattle.vb_compare.specs.Compares
 pub use Rattle.vb_core.specs.Alignments
 pub use Rattle.vb_core.specs.ElementLaws

@@ -1,6 +1,6 @@
 //! Conversions between the items of buffers and their bytes.
 ghost use Rattle.std.specs.Prelude.{◌≡◌, ◌*◌, ◌≤◌, length};
-ghost use Rattle.vb_bytes.specs.ByteForm.{byteform};
+ghost use Rattle.vb_core.specs.ByteForm.{byteform};
 ghost use Rattle.vb_mem.specs.Makes.{MakesBytes, ReadsBytes};
 ghost use Rattle.vb_mem.specs.SharedBuffer.{ShowsMade, ShowsRead};
 
@@ -9,8 +9,7 @@ use crate::Result;
 use crate::buffer_mut::{BufferMut, DEFAULT};
 use bytes::Bytes;
 use std::alloc::Allocator;
-use vb_bytes::{bytes_of, items_of};
-use vb_core::{Alignment, Element};
+use vb_core::{Alignment, Element, bytes_of, items_of};
 
 impl<T: Element, A: Allocator + Clone> Buffer<T, A> {
     /// Returns a copy of the items' bytes as a buffer of alignment 1, over-aligned to 256 bytes.

@@ -1,7 +1,7 @@
 //! Conversions from a growing buffer.
 ghost use Rattle.std.specs.Prelude.{◌≡◌, ◌<◌, ◌≤◌, ◌⊎◌, ◌*◌, max, [], length};
 ghost use Rattle.std.specs.Prelude.{IfOk, OnOk, OnErr, IsOkAnd, IsOkUnless};
-ghost use Rattle.vb_bytes.specs.ByteForm.{byteform};
+ghost use Rattle.vb_core.specs.ByteForm.{byteform};
 ghost use Rattle.vb_mem.specs.Makes.{Makes, MakesBytes};
 ghost use Rattle.vb_mem.specs.OpenBuffer.{HoldsMade};
 ghost use Rattle.vb_mem.specs.SharedBuffer.{Shows};
@@ -10,8 +10,7 @@ use super::{BufferMut, DEFAULT};
 use crate::Result;
 use crate::buffer::Buffer;
 use std::alloc::{AllocError, Allocator};
-use vb_bytes::bytes_of;
-use vb_core::{Alignment, BufferError, Element};
+use vb_core::{Alignment, BufferError, Element, bytes_of};
 
 /// Makes a copy, as [`BufferMut::clone`] does, for code that uses std's trait.
 impl<T: Element, A: Allocator + Clone> Clone for BufferMut<T, A> {

@@ -1,7 +1,7 @@
 -- Written by tools/write-lists from tools/families/compare.txt.
 use Rattle.std.specs.Simd.Lanes.{zip2}
 use Rattle.vb_compare.proofs.TruthLemmas.{length_paired}
-use Rattle.vb_float.specs.Floats.{compares_floats}
+use Rattle.vb_compare.specs.Floats.{compares_floats}
 use Rattle.vb_c_compare.proofs.CodeLemmas.{answers_in_part}
 use Rattle.vb_c_compare.proofs.floats.vb_compare_with_f64.Goals as goal
 

@@ -1,2 +1,0 @@
-pub mod ByteForms
-pub mod ReadForms

@@ -1,2 +1,0 @@
-pub mod MakesBytes
-pub mod ByteForm

@@ -1,0 +1,12 @@
+use mir.Syntax.{w64}
+use lib.Ieee.{eq}
+use Rattle.vb_compare.proofs.EightLemmas.{digits_of_eight, clear_of_eight}
+use Rattle.vb_compare.proofs.floats.eights.EqualEight.eight.Goals as goal
+
+pub returns-clause-digits : goal.returns-clause-digits
+returns-clause-digits c =
+    digits_of_eight w64 eq c.args.left c.args.right c.fits-left.0 c.fits-right.0
+
+pub returns-clause-clear : goal.returns-clause-clear
+returns-clause-clear c =
+    clear_of_eight w64 eq c.args.left c.args.right c.fits-left.0 c.fits-right.0

@@ -1,8 +1,0 @@
--- Written by tools/write-lists from tools/families/lanes.txt.
-use mir.Syntax.{w32}
-use lib.Ieee.{lt}
-use Rattle.vb_compare.proofs.LaneLemmas.{digits_compared}
-use Rattle.vb_float.proofs.lanes.F32FloatLanes.less.Goals as goal
-
-pub returns : goal.returns
-returns c = digits_compared w32 lt c.args.left c.args.right c.fits-left.0 c.fits-right.0
