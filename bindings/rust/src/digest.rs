@@ -5,6 +5,6 @@
 /// The output of tools/digest. tools/write-lists writes it here.
 macro_rules! digest {
     () => {
-        "c2c5fd2f82fe9aa736628f1e0db62542683481fc6c9cdd41634e49a15b9b3709"
+        "94ecc66e18975a6655c9f9b41f4d21be1682ede3ac94f6501fc6fe0319ef60fc"
     };
 }

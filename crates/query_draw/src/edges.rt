@@ -68,9 +68,9 @@ fn is_skewed(least: f64, greatest: f64, mean: f64) -> bool {
     least >= 0.0 && greatest / start >= DECADES && mean - least < (greatest - least) / BINS
 }
 
-/// Returns the number at which each bin of whole numbers begins, from the least on. The last bin
-/// has no end. The bins have equal width, or grow with the numbers if these are skewed
-/// (`is_skewed`).
+/// Returns the number at which each bin of whole numbers begins: the first one at the least number,
+/// or below it. The last bin has no end. The bins have equal width, or grow with the numbers if
+/// these are skewed (`is_skewed`).
 pub fn wholes(alloc: Global, least: i64, greatest: i64, mean: f64) -> Result<Vec<i64>, AllocError> {
     let (low, high) = (nearest_i64_to_f64(least), nearest_i64_to_f64(greatest));
     if is_skewed(low, high, mean) {
@@ -144,7 +144,8 @@ fn span_of_wholes(all: &[i64], least: i64, greatest: i64) -> (usize, usize) {
     (first, end.saturating_sub(first))
 }
 
-/// Returns the number at which each bin of floats begins, as [`wholes`] does.
+/// Returns the number at which each bin of floats begins, as [`wholes`] does, but in bins of equal
+/// width if the least is 0.
 pub fn floats(alloc: Global, least: f64, greatest: f64, mean: f64) -> Result<Vec<f64>, AllocError> {
     if least > 0.0 && is_skewed(least, greatest, mean) {
         return growing_floats(alloc, least, greatest);

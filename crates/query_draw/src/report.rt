@@ -68,7 +68,8 @@ impl<'a> Report<'a> {
         shown(self.alloc, base, 200)
     }
 
-    /// Returns how many rows there are, and how many are kept if there is a condition.
+    /// Returns how many rows and columns there are, and how many rows are kept if there is a
+    /// condition.
     pub fn counts(&self) -> Text {
         let alloc = self.alloc;
         let rows = counted(alloc, self.survey.rows, "row")?;

@@ -69,8 +69,8 @@ pub struct Options {
 impl Options {
     /// Returns the options of a command line without the program's name; None for `--help`.
     ///
-    /// Fails if there is no file or more than one, and if an option is unknown or lacks a value or
-    /// has an invalid one.
+    /// Fails if there is no file or more than one, and if an option is unknown, lacks a value, has
+    /// an invalid one, or doesn't fit the others.
     pub fn parse(alloc: Global, words: &[String]) -> Result<Option<Options>> {
         let mut parser = Parser::new(alloc);
         for word in words {

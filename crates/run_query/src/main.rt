@@ -1,7 +1,8 @@
 //! Answers a query over a CSV file by the calls of `vortex_buffer`, and draws it: see `--help`.
 //!
-//! The exit status is 0 if the run succeeded, 1 if the row of `--nth` doesn't exist, and 2 after an
-//! error, which is on standard error.
+//! The exit status is 0 if the run succeeded or the reader of standard output closed the pipe,
+//! which ends the run; 1 if the row of `--nth` doesn't exist; and 2 after an error, which is on
+//! standard error.
 #![tactic(auto)]
 
 mod args;

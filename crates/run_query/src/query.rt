@@ -186,7 +186,7 @@ pub fn histogram_column(options: &Options, table: &Table) -> Result<Option<usize
     Ok(Some(table.find(name.as_str(), source, 0)?))
 }
 
-/// Fails if an output would overwrite the CSV file.
+/// Fails if an output would overwrite the CSV file, and if two outputs have the same file.
 pub fn check_outputs<R: Files + AllocGlobal>(rt: &R, options: &Options) -> Result<()> {
     for path in [&options.out, &options.svg] {
         if let Some(path) = path {

@@ -138,7 +138,7 @@ impl<'a, R: Files + Print + Eprint + AllocGlobal + Drop> Run<'a, R> {
         Err(source.wrong(self.rt.alloc(), 0, TEXT_COLUMN))
     }
 
-    /// Reads the file once for standard output and for the files of `--out` and `--svg`.
+    /// Reads the file for standard output and for the files of `--out` and `--svg`.
     fn pass(&self, outputs: &mut Outputs<R::File>) -> Result<()> {
         self.add_values(outputs)?;
         self.open_out(outputs)?;
@@ -180,7 +180,7 @@ impl<'a, R: Files + Print + Eprint + AllocGlobal + Drop> Run<'a, R> {
         }
     }
 
-    /// Writes the header line as it is in the file.
+    /// Writes the header fields of the columns that are written.
     fn write_header(&self, outputs: &mut Outputs<R::File>) -> Result<()> {
         if !self.table.format().has_header {
             return Ok(());

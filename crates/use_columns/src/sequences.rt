@@ -6,7 +6,7 @@ ghost use Rattle.use_columns.specs.Sequences.{greater_of};
 use std::alloc::Allocator;
 use vortex_buffer::{Buffer, Result, trusted_len};
 
-/// Returns half of each value. Returns `OutOfMemory` before it reads a value if memory runs out.
+/// Returns half of each value. Returns `OutOfMemory` if memory runs out.
 pub fn halved<A: Allocator + Clone>(alloc: A, values: &[u32]) -> Result<Buffer<u32, A>>
     ensures { Makes (λ b. b.list ≡ map (λ value. value / 2) values.now) result }
 {
@@ -14,8 +14,8 @@ pub fn halved<A: Allocator + Clone>(alloc: A, values: &[u32]) -> Result<Buffer<u
     Buffer::from_trusted_len_iter(alloc, halves)
 }
 
-/// Returns half of each value after the first `n`; there may be none. Returns `OutOfMemory` before
-/// it reads a value if memory runs out.
+/// Returns half of each value after the first `n`; there may be none. Returns `OutOfMemory` if
+/// memory runs out.
 pub fn rest_halved<A: Allocator + Clone>(
     alloc: A,
     values: &[u32],
@@ -29,7 +29,7 @@ pub fn rest_halved<A: Allocator + Clone>(
 }
 
 /// Returns the greater of the two values at each index of two columns of the same length. Returns
-/// `OutOfMemory` before it reads a value if memory runs out.
+/// `OutOfMemory` if memory runs out.
 pub fn greater<A: Allocator + Clone>(
     alloc: A,
     left: &[u32],

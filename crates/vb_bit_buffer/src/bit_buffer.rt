@@ -380,7 +380,7 @@ impl<A: Allocator + Clone> BitBuffer<A> {
     }
 
     /// Returns the index of the last true bit, or `None` if no bit is true. Reads the last word,
-    /// and then blocks of eight words before it, up to the word that has the bit.
+    /// and then words before it, eight at once, up to those that have the bit.
     pub fn last_set_index(&self) -> Option<usize>
         ensures { result ≡ last_place self.now.bits }
     {
@@ -388,7 +388,7 @@ impl<A: Allocator + Clone> BitBuffer<A> {
     }
 
     /// Returns the index of the first true bit at or after `from`, or `None` if there is none;
-    /// there is none if `from` is at least the length. Reads up to the word that has the bit: the
+    /// there is none if `from` is at least the length. Reads up to the words that have the bit: the
     /// first two words a word at a time, then four words at once. To visit all true bits,
     /// [`set_indices`](Self::set_indices) is faster.
     ///

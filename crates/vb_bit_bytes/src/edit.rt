@@ -29,7 +29,7 @@ pub fn fill<A: Allocator + Clone>(bytes: &mut ByteBufferMut<A>, start: usize, en
     fill_bits(bytes.as_mut_slice(), start, end, v);
 }
 
-/// Negates the `len` bits from bit `offset` on, eight bytes at a time.
+/// Negates the `len` bits from bit `offset` on, 32 bytes at a time.
 pub fn negate<A: Allocator + Clone>(bytes: &mut ByteBufferMut<A>, offset: usize, len: usize)
     requires window { InBytes bytes.old.list offset len }
     ensures bits { Writes bytes.old.list bytes.new.list offset

@@ -8,8 +8,9 @@ use thiserror::Error;
 /// except for `OutOfMemory`, when.
 #[derive(Clone, Copy, Debug, PartialEq, Eq, Hash, Error)]
 pub enum BufferError {
-    /// An allocation failed, the requested capacity is more than `isize::MAX` bytes, a length
-    /// exceeds `usize::MAX`, or a storage already has the maximum number of owners.
+    /// An allocation or a clone of an allocator failed, the requested capacity is more than
+    /// `isize::MAX` bytes, a length exceeds `usize::MAX`, or a storage already has the maximum
+    /// number of owners.
     #[error("out of memory")]
     OutOfMemory,
     /// The number of bytes passed as an alignment is 0.

@@ -136,8 +136,8 @@ impl<A: Allocator> Counts<A> {
 
 impl<A: Allocator + Clone> Counts<A> {
     /// Returns a copy. If there are any counts, allocates once, from a copy of the allocator, with
-    /// capacity for the counts of `room` bits; else doesn't allocate. Returns `OutOfMemory` if that
-    /// fails, and no other error.
+    /// capacity for the counts of `room` bits; else doesn't allocate. Returns `OutOfMemory` if the
+    /// allocation or the allocator's clone fails, and no other error.
     pub fn copy(&self, room: usize) -> Result<Self>
         ensures numbers { IfOk result (λ c. c.numbers ≡ self.now.numbers) }
         ensures room { IfOk result (λ c. 0 < length self.now.numbers

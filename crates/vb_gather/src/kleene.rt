@@ -35,8 +35,8 @@ use vb_view::BitBufferView;
 /// them with the validity by `and`.
 ///
 /// Returns `OutOfMemory` if memory runs out. Allocates with `alloc`: the bytes of both sets before
-/// it reads a bit, and the counts of their owners after the last one. It takes one pass over the
-/// words of the bits.
+/// it reads a bit, and the counts of their owners after the last one. Reads each bit once, four
+/// words at a time.
 pub fn and_kleene<A: Allocator + Clone>(
     alloc: A,
     left: BitBufferView<'_>,

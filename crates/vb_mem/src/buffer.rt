@@ -207,7 +207,8 @@ impl<T: Element, A: Allocator + Clone> Buffer<T, A> {
     }
 
     /// Returns the items of `range` as a buffer that reports the alignment of an item and shares
-    /// this buffer's storage. `range` must be in bounds. Returns the errors of [`Buffer::slice`].
+    /// this buffer's storage, unless it is empty. `range` must be in bounds. Returns the errors of
+    /// [`Buffer::slice`].
     pub fn slice_unaligned(&self, range: Range<usize>) -> Result<Self>
         requires order { range.start ≤ range.end }
         requires within { range.end ≤ length self.now.list }

@@ -167,8 +167,9 @@ impl<A: Allocator + Clone> BitBufferMut<A> {
     }
 
     /// Converts the set to one that can be shared, in the same storage, from the byte of the first
-    /// bit on. Takes constant time. Allocates the count of owners. Returns `OutOfMemory` if memory
-    /// runs out, and drops the set then.
+    /// bit on; if there are no bytes from there on, it releases the storage. Takes constant time.
+    /// Allocates the count of owners. Returns `OutOfMemory` if memory runs out, and drops the set
+    /// then.
     ///
     /// ```rust
     /// let rows = BitBufferMut::new_set(alloc, 4)?;

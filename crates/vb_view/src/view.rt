@@ -350,7 +350,7 @@ impl<'a> BitBufferView<'a> {
     }
 
     /// Returns the index of the last set bit; `None` if no bit is set. Reads the last word, and
-    /// then blocks of eight words before it, up to the word that has the bit.
+    /// then words before it, eight at once, up to those that have the bit.
     pub fn last_set_index(&self) -> Option<usize>
         ensures { result ≡ last_place (bits_of self.now) }
     {

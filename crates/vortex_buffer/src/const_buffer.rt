@@ -136,9 +136,9 @@ impl<T: Element, const N: usize, A: Allocator + Clone> ConstBuffer<T, N, A> {
 
     /// Returns the items of `buffer`, aligned to `N` bytes and reporting `N`. `N` must be a power
     /// of two and at least the alignment of an item. If [`Buffer::is_aligned`] is true for `N`
-    /// bytes, the buffer keeps its storage, and the call does not allocate and does not fail.
-    /// Otherwise it copies the items, over-aligned to 256 bytes. Returns `OutOfMemory` if memory
-    /// for the copy runs out, and drops the buffer then.
+    /// bytes, the buffer keeps its storage, unless it is empty, and the call does not allocate and
+    /// does not fail. Otherwise it copies the items, over-aligned to 256 bytes. Returns
+    /// `OutOfMemory` if memory for the copy runs out, and drops the buffer then.
     pub fn align_from(buffer: Buffer<T, A>) -> Result<Self>
         requires power { IsPower N }
         requires at_least { T.ALIGN ≤ N }

@@ -3,8 +3,8 @@
 //! The result has the offset of the left operand, and only the bytes of its window. If the left
 //! operand is passed by value and is the only owner of its storage, the operator overwrites its
 //! bytes in place, and allocates only the count of owners. Otherwise it copies the bytes, and
-//! allocates these too. All memory comes from the left operand's allocator. The operators compare
-//! the lengths before they allocate.
+//! allocates these too. Bytes come from the left operand's allocator, and the count of owners from
+//! that of their storage. The operators compare the lengths before they allocate.
 ghost use Rattle.std.specs.Prelude.{◌≡◌, ◌≢◌, ◌≤◌, [], length, IsOk, IsErrOf};
 ghost use Rattle.vb_bits.specs.Bits.{count};
 ghost use Rattle.vb_bits.specs.Operators.{combined_by};
@@ -43,9 +43,8 @@ impl<A: Allocator + Clone> BitBuffer<A> {
 
     /// Returns the bits that are true in this set and false in `right`. Overwrites the storage if
     /// this set is the only owner; otherwise it copies the bytes. Allocates the count of owners,
-    /// and the bytes of such a copy, with this set's allocator. Returns `LengthMismatch` exactly if
-    /// the lengths differ. Otherwise it returns `OutOfMemory` if memory runs out. Drops this set on
-    /// error.
+    /// and such a copy with this set's allocator. Returns `LengthMismatch` exactly if the lengths
+    /// differ. Otherwise it returns `OutOfMemory` if memory runs out. Drops this set on error.
     pub fn into_bitand_not(self, right: &Self) -> Result<Self>
         ensures { GivesCombined BitOp.AndNot self right.now result }
     {
@@ -249,9 +248,9 @@ impl<A: Allocator + Clone> BitBuffer<A> {
 }
 
 /// Returns the bits that are true in both sets. Overwrites the left operand's storage if it is the
-/// only owner; otherwise it copies the bytes. Allocates such a copy and the count of owners with
-/// the left operand's allocator. Returns `LengthMismatch` exactly if the lengths differ. Otherwise
-/// it returns `OutOfMemory` if memory runs out. Drops both sets on error.
+/// only owner; otherwise it copies the bytes. Allocates such a copy with the left operand's
+/// allocator, and the count of owners. Returns `LengthMismatch` exactly if the lengths differ.
+/// Otherwise it returns `OutOfMemory` if memory runs out. Drops both sets on error.
 impl<A: Allocator + Clone> BitAnd<BitBuffer<A>> for BitBuffer<A> {
     ghost use Rattle.vb_bit_buffer.specs.Gives.{GivesCombined};
     ghost use Rattle.vb_bits.specs.declared.zip.BitOp.TheVariants.{And};
@@ -268,9 +267,9 @@ impl<A: Allocator + Clone> BitAnd<BitBuffer<A>> for BitBuffer<A> {
 }
 
 /// Returns the bits that are true in both sets. Overwrites the left operand's storage if it is the
-/// only owner; otherwise it copies the bytes. Allocates such a copy and the count of owners with
-/// the left operand's allocator. Returns `LengthMismatch` exactly if the lengths differ. Otherwise
-/// it returns `OutOfMemory` if memory runs out. Drops the left operand on error.
+/// only owner; otherwise it copies the bytes. Allocates such a copy with the left operand's
+/// allocator, and the count of owners. Returns `LengthMismatch` exactly if the lengths differ.
+/// Otherwise it returns `OutOfMemory` if memory runs out. Drops the left operand on error.
 impl<A: Allocator + Clone> BitAnd<&BitBuffer<A>> for BitBuffer<A> {
     ghost use Rattle.vb_bit_buffer.specs.Gives.{GivesCombined};
     ghost use Rattle.vb_bits.specs.declared.zip.BitOp.TheVariants.{And};
@@ -320,8 +319,8 @@ impl<A: Allocator + Clone> BitAnd<&BitBuffer<A>> for &BitBuffer<A> {
 }
 
 /// Returns the bits that are true in at least one of the sets. Overwrites the left operand's
-/// storage if it is the only owner; otherwise it copies the bytes. Allocates such a copy and the
-/// count of owners with the left operand's allocator. Returns `LengthMismatch` exactly if the
+/// storage if it is the only owner; otherwise it copies the bytes. Allocates such a copy with the
+/// left operand's allocator, and the count of owners. Returns `LengthMismatch` exactly if the
 /// lengths differ. Otherwise it returns `OutOfMemory` if memory runs out. Drops both sets on error.
 impl<A: Allocator + Clone> BitOr<BitBuffer<A>> for BitBuffer<A> {
     ghost use Rattle.vb_bit_buffer.specs.Gives.{GivesCombined};
@@ -339,8 +338,8 @@ impl<A: Allocator + Clone> BitOr<BitBuffer<A>> for BitBuffer<A> {
 }
 
 /// Returns the bits that are true in at least one of the sets. Overwrites the left operand's
-/// storage if it is the only owner; otherwise it copies the bytes. Allocates such a copy and the
-/// count of owners with the left operand's allocator. Returns `LengthMismatch` exactly if the
+/// storage if it is the only owner; otherwise it copies the bytes. Allocates such a copy with the
+/// left operand's allocator, and the count of owners. Returns `LengthMismatch` exactly if the
 /// lengths differ. Otherwise it returns `OutOfMemory` if memory runs out. Drops the left operand on
 /// error.
 impl<A: Allocator + Clone> BitOr<&BitBuffer<A>> for BitBuffer<A> {
@@ -373,8 +372,8 @@ impl<A: Allocator + Clone> BitOr<&BitBuffer<A>> for &BitBuffer<A> {
 }
 
 /// Returns the bits that are true in exactly one of the sets. Overwrites the left operand's storage
-/// if it is the only owner; otherwise it copies the bytes. Allocates such a copy and the count of
-/// owners with the left operand's allocator. Returns `LengthMismatch` exactly if the lengths
+/// if it is the only owner; otherwise it copies the bytes. Allocates such a copy with the left
+/// operand's allocator, and the count of owners. Returns `LengthMismatch` exactly if the lengths
 /// differ. Otherwise it returns `OutOfMemory` if memory runs out. Drops the left operand on error.
 impl<A: Allocator + Clone> BitXor<&BitBuffer<A>> for BitBuffer<A> {
     ghost use Rattle.vb_bit_buffer.specs.Gives.{GivesCombined};
@@ -406,7 +405,7 @@ impl<A: Allocator + Clone> BitXor<&BitBuffer<A>> for &BitBuffer<A> {
 }
 
 /// Negates each bit. Overwrites the set's storage if it is the only owner; otherwise it copies the
-/// bytes. Allocates such a copy and the count of owners with the set's allocator. Returns
+/// bytes. Allocates such a copy with the set's allocator, and the count of owners. Returns
 /// `OutOfMemory` if memory runs out, and drops the set then.
 impl<A: Allocator + Clone> Not for BitBuffer<A> {
     ghost use Rattle.vb_bit_buffer.specs.Gives.{GivesNegated};

@@ -44,8 +44,8 @@ impl<T: Element, A: Allocator> Buffer<T, A> {
     }
 
     /// Returns the same buffer with `alignment` as its reported alignment, which must be at least
-    /// the alignment of an item. Does not allocate. Returns `NotAligned` exactly if
-    /// [`Buffer::is_aligned`] is false for it, and drops the buffer then.
+    /// the alignment of an item. Does not allocate. An empty buffer releases its storage. Returns
+    /// `NotAligned` exactly if [`Buffer::is_aligned`] is false for it, and drops the buffer then.
     pub fn ensure_aligned(self, alignment: Alignment) -> Result<Self>
         requires { T.align_exponent ≤ alignment }
         ensures ok { IfOk result (Shows self.list alignment self.place self.declared) }
@@ -111,9 +111,9 @@ impl<T: Element, A: Allocator + Clone> Buffer<T, A> {
 
     /// Returns the same items with `alignment` as the reported alignment, which must be at least
     /// the alignment of an item. If [`Buffer::is_aligned`] is true for it, the buffer keeps its
-    /// storage, and the call does not allocate and does not fail. Otherwise it copies the items,
-    /// over-aligned to 256 bytes. Returns `OutOfMemory` if memory for the copy runs out, and drops
-    /// the buffer then.
+    /// storage, unless it is empty, and the call does not allocate and does not fail. Otherwise it
+    /// copies the items, over-aligned to 256 bytes. Returns `OutOfMemory` if memory for the copy
+    /// runs out, and drops the buffer then.
     pub fn aligned(self, alignment: Alignment) -> Result<Self>
         requires { T.align_exponent ≤ alignment }
         ensures ok { IfOk result (λ b. (b.list ≡ self.list) × (b.alignment ≡ alignment)) }

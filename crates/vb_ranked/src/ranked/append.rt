@@ -21,9 +21,10 @@ impl<A: Allocator + Clone> Ranked<A> {
     /// returns `OutOfMemory` if memory runs out. The set and its capacity are unchanged on error.
     /// If the set has bits, and the length plus `n` is at most [`capacity`](Self::capacity), the
     /// call does not allocate, succeeds, and the capacity does not change. If a set without bits
-    /// has this capacity, the call may allocate the counts alone. Otherwise it allocates the counts
-    /// for the new capacity, and twice the bytes, but at least 8, and more if `n` bits need them.
-    /// No clause states the capacity of the counts.
+    /// has this capacity, the call may allocate the counts alone. Otherwise it allocates twice the
+    /// bytes that the bits need, but at least 8, and more if `n` bits need them; and the counts for
+    /// the new capacity, unless there is space for them. No clause states the capacity of the
+    /// counts.
     pub fn reserve(&mut self, n: usize) -> Result<()>
         ensures keeps { self.new ≡ record self.old { room = self.new.room } }
         ensures room { OnOk result (length self.old.bits + n ≤ self.new.room) }
@@ -44,8 +45,8 @@ impl<A: Allocator + Clone> Ranked<A> {
     /// `OutOfMemory` if memory runs out. The set and its capacity are unchanged on error. If the
     /// set has bits, and fewer than its [`capacity`](BitBufferMut::capacity), the call does not
     /// allocate, succeeds, and the capacity does not change. The first bit may allocate the counts
-    /// for the set's capacity. If the set is full, the call allocates the counts for the new
-    /// capacity, and twice the bytes, but at least 8.
+    /// for the set's capacity. If the set is full, the call allocates twice the bytes, but at least
+    /// 8, and the counts for the new capacity, unless there is space for them.
     pub fn append(&mut self, v: bool) -> Result<()>
         ensures ok { OnOk result (AddsBits (v ∷ []) self.old self.new) }
         ensures grows { KeepsStart self.old self.new }

@@ -17,8 +17,8 @@ const PACKED_BITS: usize = 512;
 
 #[tactic(auto, using(vb_bit_bytes::proofs::BytesLemmas::edits))]
 impl<A: Allocator + Clone> BitBufferMut<A> {
-    /// Appends the truth values of a slice. Packs them in blocks, as
-    /// [`from_bools`](Self::from_bools) does.
+    /// Appends the truth values of a slice. Packs 512 at a time, as
+    /// [`from_bools`](Self::from_bools) packs all.
     ///
     /// Returns `TooManyBits` if the offset and both lengths together exceed `usize::MAX`. Otherwise
     /// it returns `OutOfMemory` if memory runs out. The set and its capacity are unchanged on

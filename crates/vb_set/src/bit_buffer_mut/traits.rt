@@ -25,7 +25,7 @@ impl<A: Allocator + Clone> fmt::Debug for BitBufferMut<A> {
     }
 }
 
-/// Negates every bit in place, eight bytes at a time. Does not allocate, and changes no bit outside
+/// Negates every bit in place, 32 bytes at a time. Does not allocate, and changes no bit outside
 /// the set.
 #[tactic(auto, using(vb_bit_bytes::proofs::BytesLemmas::edits))]
 impl<A: Allocator + Clone> Not for BitBufferMut<A> {
