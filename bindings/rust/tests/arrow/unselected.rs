@@ -1,4 +1,8 @@
-//! Offsets of texts and lists between the selected rows: no error depends on them.
+//! Offsets of texts and lists between the selected rows: no error depends on them, and a take of
+//! few rows of a slice doesn't read them.
+#[cfg(not(miri))]
+use std::time::{Duration, Instant};
+
 use vortex_bits::Bits;
 use vortex_bits::arrow::{Array, ArrowError, Export};
 
@@ -183,4 +187,39 @@ fn the_dictionary_stays_if_no_row_is_selected() {
         error.to_string(),
         "it has 2 items, of which its parent wants 9"
     );
+}
+
+/// The least time of some calls.
+#[cfg(not(miri))]
+fn least<T>(call: impl Fn() -> T) -> Duration {
+    let time = |_| {
+        let start = Instant::now();
+        call();
+        start.elapsed()
+    };
+    (0..8).map(time).min().unwrap()
+}
+
+#[cfg(not(miri))]
+#[test]
+fn a_take_of_few_rows_of_a_slice_reads_few_offsets() {
+    let none = Count::default();
+    let ends: Vec<i32> = (0..1 << 18)
+        .map(|row| i32::from(row == (1 << 18) - 1))
+        .collect();
+    let texts = import(texts_of("u", &ends), Schema::new("", "u", &none)).unwrap();
+    let items = raw::Array::values(1, None, &[7], &none);
+    let buffers = vec![None, Some(ints(&ends))];
+    let len = i64::try_from(ends.len()).unwrap() - 1;
+    let lists = raw::Array::of(len, buffers, vec![items], None, &none);
+    let items = vec![Schema::new("item", "C", &none)];
+    let lists = import(lists, Schema::of("", "+l", items, None, &none)).unwrap();
+    for rows in [texts, lists] {
+        // No call tests the offsets of the whole array.
+        let rows = rows.slice(1..);
+        let few = [5, rows.len() - 1];
+        assert_eq!(rows.take(&few).unwrap().len(), 2);
+        let [some, all] = [least(|| rows.take(&few)), least(|| rows.ranges().map(drop))];
+        assert!(10 * some < all, "{some:?} for two rows, {all:?} for all");
+    }
 }

@@ -47,7 +47,7 @@ impl Array {
 
     fn offsets(&self) -> Result<Ranges<'_>, ArrowError> {
         let ranges = self.untested_ranges()?;
-        if !self.node.ascends.load(Ordering::Relaxed) {
+        if !self.is_tested() {
             ranges.ascend().map_err(|fault| self.malformed(fault))?;
             if self.len == self.node.len {
                 self.node.ascends.store(true, Ordering::Relaxed);
@@ -55,6 +55,16 @@ impl Array {
         }
         self.ends_with_all()?;
         Ok(ranges)
+    }
+
+    /// Returns whether a call for the whole array has tested all offsets.
+    fn is_tested(&self) -> bool {
+        self.node.ascends.load(Ordering::Relaxed)
+    }
+
+    /// Returns whether each call tests the offsets of all rows again: these are a slice.
+    pub(in crate::arrow) fn is_tested_again(&self) -> bool {
+        !self.is_tested() && self.len < self.node.len
     }
 
     /// Returns the range of each row, without a test. The caller must test the rows whose ranges it

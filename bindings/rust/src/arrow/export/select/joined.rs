@@ -1,12 +1,10 @@
 //! Copies rows of texts of one array one by one. It is faster than copying by runs, unless the runs
 //! are long.
 
-use core::slice;
-
 use super::made::Made;
 use super::memory::with_room;
 use super::rows::Rows;
-use super::tested::tested_texts;
+use super::tested;
 use super::variable::long;
 use crate::arrow::array::Array;
 use crate::arrow::error::ArrowError;
@@ -39,9 +37,7 @@ pub(super) fn rows(
     if by_runs {
         return Ok(None);
     }
-    let joined = of.joined();
-    let (ranges, bytes) =
-        joined.or_else(|_| tested_texts(field, slice::from_ref(of), rows).map(|it| it[0]))?;
+    let (ranges, bytes) = tested::texts_of(field, of, rows)?;
     let rows = Chosen { rows, valid };
     let made = match ranges.offsets() {
         Offsets::Narrow(offsets) => copied(field, offsets, bytes, rows),

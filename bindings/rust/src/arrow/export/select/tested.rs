@@ -1,8 +1,11 @@
-//! Tests the offsets of the selected texts or lists alone, if those of all rows don't pass the tests:
-//! rows that aren't selected cause no error.
+//! Tests the offsets of texts or lists before their rows are copied. It tests the selected rows
+//! alone if they are few rows of slices, or if those of all rows don't pass the tests: rows that
+//! aren't selected cause no error.
 
 use alloc::vec::Vec;
+use core::slice;
 
+use super::SPARSE;
 use super::memory::reserved;
 use super::rows::Rows;
 use crate::arrow::array::Array;
@@ -10,24 +13,44 @@ use crate::arrow::error::{ArrowError, Fault};
 use crate::arrow::field::Field;
 use crate::arrow::ranges::Ranges;
 
-/// Returns the ranges of each array. Those of rows that aren't selected are arbitrary.
-#[cold]
-pub(super) fn tested_ranges<'a>(
+/// Ranges, and the bytes that they are in.
+type Joined<'a> = (Ranges<'a>, &'a [u8]);
+
+/// Returns the ranges of the lists of each array. Those of rows that aren't selected are arbitrary.
+pub(super) fn lists<'a>(
     field: &Field,
     of: &'a [Array],
     rows: Rows<'_>,
 ) -> Result<Vec<Ranges<'a>>, ArrowError> {
+    if !are_few(of, rows) {
+        if let Ok(ranges) = of.iter().map(Array::ranges).collect() {
+            return Ok(ranges);
+        }
+    }
     ends(field, of, rows)?;
     of.iter().map(Array::untested_ranges).collect()
 }
 
-/// Returns the ranges and the bytes of each array, as [`tested_ranges`] does.
-#[cold]
-pub(super) fn tested_texts<'a>(
+/// Returns the ranges and the bytes of the texts of each array, as [`lists`] does.
+pub(super) fn texts<'a>(
     field: &Field,
     of: &'a [Array],
     rows: Rows<'_>,
-) -> Result<Vec<(Ranges<'a>, &'a [u8])>, ArrowError> {
+) -> Result<Vec<Joined<'a>>, ArrowError> {
+    if !are_few(of, rows) {
+        if let Ok(joined) = of.iter().map(Array::joined).collect() {
+            return Ok(joined);
+        }
+    }
+    selected_texts(field, of, rows)
+}
+
+/// Tests the selected rows alone, and returns what [`texts`] does.
+fn selected_texts<'a>(
+    field: &Field,
+    of: &'a [Array],
+    rows: Rows<'_>,
+) -> Result<Vec<Joined<'a>>, ArrowError> {
     let ends = ends(field, of, rows)?;
     let texts = of.iter().zip(ends).map(|(one, end)| {
         // SAFETY: `end` is 0, or that of a slice that passed the tests.
@@ -35,6 +58,29 @@ pub(super) fn tested_texts<'a>(
         Ok((one.untested_ranges()?, bytes))
     });
     texts.collect()
+}
+
+/// Returns those of one array.
+pub(super) fn texts_of<'a>(
+    field: &Field,
+    of: &'a Array,
+    rows: Rows<'_>,
+) -> Result<Joined<'a>, ArrowError> {
+    let one = slice::from_ref(of);
+    if !are_few(one, rows) {
+        if let Ok(joined) = of.joined() {
+            return Ok(joined);
+        }
+    }
+    selected_texts(field, one, rows).map(|it| it[0])
+}
+
+/// Returns whether a test of the selected rows, one by one, is faster than one of all rows of
+/// slices. The rows of a whole array are tested once.
+fn are_few(of: &[Array], rows: Rows<'_>) -> bool {
+    let slices = of.iter().filter(|it| it.is_tested_again());
+    let all = slices.map(Array::len).fold(0, usize::saturating_add);
+    rows.len() <= all / SPARSE
 }
 
 /// Tests the selected rows, one run after the other. Returns for each array the greatest end of

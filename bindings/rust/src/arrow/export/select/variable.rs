@@ -7,8 +7,7 @@ use super::made::Made;
 use super::memory::zeroed;
 use super::nodes::{self, Nodes, only};
 use super::rows::{Rows, Run, Runs};
-use super::tested::{tested_ranges, tested_texts};
-use super::{fixed, joined, put, too_long};
+use super::{fixed, joined, put, tested, too_long};
 use crate::Bits;
 use crate::arrow::array::Array;
 use crate::arrow::error::{ArrowError, Fault};
@@ -31,8 +30,7 @@ pub(super) fn texts(
             return Ok(made);
         }
     }
-    let joined = of.iter().map(Array::joined).collect::<Result<Vec<_>, _>>();
-    let joined = joined.or_else(|_| tested_texts(field, of, rows))?;
+    let joined = tested::texts(field, of, rows)?;
     let (ranges, bytes): (Vec<_>, Vec<_>) = joined.into_iter().unzip();
     let copied = |valid| {
         let (offsets, parts) = offsets(field, width, &ranges, rows, valid)?;
@@ -54,8 +52,7 @@ pub(super) fn lists(
     rows: Rows<'_>,
     valid: Option<Bits<'_>>,
 ) -> Result<Made, ArrowError> {
-    let ranges = of.iter().map(Array::ranges).collect::<Result<Vec<_>, _>>();
-    let ranges = ranges.or_else(|_| tested_ranges(field, of, rows))?;
+    let ranges = tested::lists(field, of, rows)?;
     let (offsets, parts) = offsets(field, width, &ranges, rows, valid)?;
     let mut made = Made::of([offsets]);
     made.items(field, 0, of, parts)?;
