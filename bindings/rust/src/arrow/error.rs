@@ -397,8 +397,21 @@ impl Error for ArrowError {}
 
 impl ArrowError {
     /// Returns the error with the parent's name before the column's.
-    pub(super) fn under(mut self, parent: &str) -> ArrowError {
-        let column = match &mut self {
+    pub(super) fn under(self, parent: &str) -> ArrowError {
+        self.renamed(|column| {
+            let point = if column.is_empty() { "" } else { "." };
+            alloc::format!("{parent}{point}{column}")
+        })
+    }
+
+    /// Returns the error with another column.
+    pub(super) fn of(self, column: &str) -> ArrowError {
+        self.renamed(|_| column.into())
+    }
+
+    /// Replaces the column, if the error has one.
+    fn renamed(mut self, new: impl FnOnce(&str) -> String) -> ArrowError {
+        match &mut self {
             ArrowError::Malformed { column, .. }
             | ArrowError::Type { column, .. }
             | ArrowError::Format { column, .. }
@@ -408,16 +421,14 @@ impl ArrowError {
             | ArrowError::Memory { column, .. }
             | ArrowError::Mask { column, .. }
             | ArrowError::TooLong { column, .. }
-            | ArrowError::LongTexts { column, .. } => column,
+            | ArrowError::LongTexts { column, .. } => *column = new(column),
             ArrowError::Stream { .. }
             | ArrowError::NoColumn { .. }
             | ArrowError::TakeBits(_)
             | ArrowError::BadIndex(_)
             | ArrowError::OutOfBounds(_)
-            | ArrowError::Group(_) => return self,
-        };
-        let point = if column.is_empty() { "" } else { "." };
-        *column = alloc::format!("{parent}{point}{column}");
+            | ArrowError::Group(_) => (),
+        }
         self
     }
 }

@@ -5,6 +5,7 @@ use vortex_bits::{Bitmap, Bits, TakeValuesError};
 use crate::export::{ReadBack, counts_of};
 use crate::ranges::offsets;
 use crate::raw::{self, Buffer, Count, Schema, import};
+use crate::unseen::ints;
 
 fn of(
     format: &str,
@@ -247,4 +248,56 @@ fn null_rows_above_a_dictionary_without_items_are_refused() {
         told(rows.take_valid(&[0u8], Bits::new(&[0], 0, 1))),
         "column \"a\": index 0 at position 0 names none of 0 values"
     );
+}
+
+/// A batch of two rows, the second of which is wrong, in one column of a format with this name.
+fn with_wrong_row(format: &str, name: &str) -> Array {
+    let none = Count::default();
+    let bytes = |bytes: &[u8]| Some(Buffer::new(bytes, 0));
+    let (buffers, child, items) = match format {
+        "u" => (
+            vec![None, Some(ints(&[0, 3, 1])), bytes(b"abcd")],
+            None,
+            None,
+        ),
+        "vu" => (vec![None, bytes(&[99; 32]), bytes(&[0; 8])], None, None),
+        "c" => (vec![None, bytes(&[0, 5])], None, Some("C")),
+        "+l" => (vec![None, Some(ints(&[0, 1, 9]))], Some("C"), None),
+        "+vl" => {
+            let [offsets, sizes] = [[0, 9], [1, 1]].map(|it| Some(ints(&it)));
+            (vec![None, offsets, sizes], Some("C"), None)
+        }
+        "+us:0" => (vec![bytes(&[0, 4])], Some("C"), None),
+        _ => (vec![bytes(&[0, 4]), Some(ints(&[0, 0]))], Some("C"), None),
+    };
+    let below = |_: &str| raw::Array::values(2, None, &[7; 2], &none);
+    let field = |format| Schema::new("", format, &none);
+    let column = raw::Array::of(
+        2,
+        buffers,
+        child.map(below).into_iter().collect(),
+        items.map(below),
+        &none,
+    );
+    let of = child.map(field).into_iter().collect();
+    let of = Schema::of(name, format, of, items.map(field), &none);
+    let batch = raw::Array::of(2, vec![None], vec![column], None, &none);
+    imported((batch, Schema::of("", "+s", vec![of], None, &none)))
+}
+
+#[test]
+fn errors_of_joined_rows_name_the_columns_of_the_field() {
+    for format in ["u", "vu", "c", "+l", "+vl", "+us:0", "+ud:0"] {
+        for (wanted, text) in [("", "column \"0\": "), ("b", "column \"b\": ")] {
+            let field = with_wrong_row(format, wanted).field().clone();
+            let said = ["", "a", wanted].map(|name| {
+                let both = [(); 2].map(|()| with_wrong_row(format, name));
+                told(Export::concat(&field, &both))
+            });
+            assert!(
+                said.iter().all(|it| it.starts_with(text)),
+                "{format}: {said:?}"
+            );
+        }
+    }
 }

@@ -265,6 +265,8 @@ impl Export {
     ///
     /// # Errors
     ///
+    /// Errors name the columns as the field does.
+    ///
     /// - Returns [`ArrowError::Field`] if an array doesn't have the type of the field, or has a
     ///   null and the field allows none. Nulls in dictionaries and in the items of lists, runs and
     ///   unions count even if no row has them.
@@ -339,6 +341,11 @@ fn selected(field: &Field, of: &[Array], rows: Rows<'_>) -> Result<Owned<ArrowAr
         (Layout::Union { .. }, _) => unions::dense(field, of, rows)?,
     };
     Ok(made.array(rows.len(), nulls))
+}
+
+/// Returns a function that names the column in an error of an array, which may have another name.
+fn of_column(field: &Field) -> impl Fn(ArrowError) -> ArrowError + '_ {
+    |error| error.of(&field.name)
 }
 
 /// Returns an error of a child with the names of the child and of the column.

@@ -6,7 +6,7 @@ use super::made::Made;
 use super::memory::{reserved, too_many, zeroed};
 use super::nodes::{self, Nodes, only};
 use super::rows::{Rows, Run, Runs};
-use super::{fixed, put, selected, too_long};
+use super::{fixed, of_column, put, selected, too_long};
 use crate::Bits;
 use crate::arrow::array::Array;
 use crate::arrow::error::{ArrowError, Fault};
@@ -80,7 +80,8 @@ pub(super) fn list_views(
     }
     let mut offsets = zeroed(field, rows.len(), width)?;
     let mut sizes = zeroed(field, rows.len(), width)?;
-    move_lists(of, width, rows, valid, &before, [&mut offsets, &mut sizes])?;
+    let moved = move_lists(of, width, rows, valid, &before, [&mut offsets, &mut sizes]);
+    moved.map_err(of_column(field))?;
     let mut made = Made::of([offsets, sizes]);
     if let Some(items) = one {
         made.below.push(shared(items, items.offset, items.len));
@@ -157,7 +158,7 @@ pub(super) fn coded(
         made.dictionary = Some(shared(one, offset, len));
         // If there is no item, no row can name one.
         if len == 0 && rows.has_nulls() && !field.is_nullable() {
-            return Err(of[0].lost(0, 0, 0));
+            return Err(of_column(field)(of[0].lost(0, 0, 0)));
         }
         return Ok(made);
     }
@@ -251,7 +252,8 @@ fn moved_indices(
             put(&mut moved, at + row - run.start, width, index);
             Ok(())
         })
-    })?;
+    })
+    .map_err(of_column(field))?;
     Ok(moved)
 }
 

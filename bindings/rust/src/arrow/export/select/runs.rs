@@ -5,7 +5,7 @@ use alloc::vec::Vec;
 use super::made::{Made, Nulls};
 use super::memory::{push, zeroed};
 use super::rows::{Rows, Run, Runs};
-use super::{put, too_long, whole};
+use super::{of_column, put, too_long, whole};
 use crate::arrow::array::Array;
 use crate::arrow::error::{ArrowError, Fault};
 use crate::arrow::field::Field;
@@ -36,7 +36,8 @@ pub(super) fn runs(field: &Field, of: &[Array], rows: Rows<'_>) -> Result<Made, 
     rows.each(|before, run| match run.of {
         Some(one) => kept.add_rows(field, (one, &of[one], &ends[one]), before, run),
         None => kept.add(field, None, before + run.len),
-    })?;
+    })
+    .map_err(of_column(field))?;
     let mut numbers = zeroed(field, kept.ends.len(), width)?;
     for (place, end) in kept.ends.iter().enumerate() {
         put(&mut numbers, place, width, *end);

@@ -5,9 +5,9 @@
 use alloc::vec::Vec;
 use core::slice;
 
-use super::SPARSE;
 use super::memory::reserved;
 use super::rows::Rows;
+use super::{SPARSE, of_column};
 use crate::arrow::array::Array;
 use crate::arrow::error::{ArrowError, Fault};
 use crate::arrow::field::Field;
@@ -57,7 +57,8 @@ fn selected_texts<'a>(
         let bytes = unsafe { one.bytes_up_to(end)? };
         Ok((one.untested_ranges()?, bytes))
     });
-    texts.collect()
+    let texts: Result<_, _> = texts.collect();
+    texts.map_err(of_column(field))
 }
 
 /// Returns those of one array.
@@ -97,7 +98,8 @@ fn ends(field: &Field, of: &[Array], rows: Rows<'_>) -> Result<Vec<usize>, Arrow
         let ranges = ranges.map_err(|error| after(run.start, error))?;
         ends[one] = ranges.end().max(ends[one]);
         Ok(())
-    })?;
+    })
+    .map_err(of_column(field))?;
     Ok(ends)
 }
 

@@ -5,7 +5,7 @@ use alloc::vec::Vec;
 use super::made::Made;
 use super::memory::zeroed;
 use super::rows::{Rows, Run, Runs};
-use super::{put, too_long};
+use super::{of_column, put, too_long};
 use crate::arrow::array::Array;
 use crate::arrow::error::{ArrowError, Fault};
 use crate::arrow::field::Field;
@@ -62,7 +62,8 @@ pub(super) fn sparse(field: &Field, of: &[Array], rows: Rows<'_>) -> Result<Made
         out.copy_from_slice(&one.type_ids()[run.start..][..run.len]);
         let mut rows = (run.start..).zip(&*out);
         rows.try_for_each(|(row, id)| ids.child(one, row, *id).map(drop))
-    })?;
+    })
+    .map_err(of_column(field))?;
     let mut made = Made::of([types]);
     made.columns(field, of, rows)?;
     Ok(made)
@@ -96,7 +97,8 @@ pub(super) fn dense(field: &Field, of: &[Array], rows: Rows<'_>) -> Result<Made,
             let id = ids.of_nulls(field)?;
             kept.add(field, row, (id, 0), Run { of, start, len })
         }),
-    })?;
+    })
+    .map_err(of_column(field))?;
     let Dense {
         types,
         offsets,

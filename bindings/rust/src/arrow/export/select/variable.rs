@@ -7,7 +7,7 @@ use super::made::Made;
 use super::memory::zeroed;
 use super::nodes::{self, Nodes, only};
 use super::rows::{Rows, Run, Runs};
-use super::{fixed, joined, put, tested, too_long};
+use super::{fixed, joined, of_column, put, tested, too_long};
 use crate::Bits;
 use crate::arrow::array::Array;
 use crate::arrow::error::{ArrowError, Fault};
@@ -204,7 +204,7 @@ pub(super) fn views(
     // The sizes come after the buffers of texts, the validity and the views before them.
     let buffers = nodes.each.iter().map(|it| {
         let buffers = it.view_buffers();
-        buffers.map_err(|fault| it.malformed(fault))
+        buffers.map_err(|fault| ArrowError::from(fault).of(&field.name))
     });
     let buffers = buffers.collect::<Result<Vec<_>, _>>()?;
     let before = nodes.before(|it| it.node.buffers.len() - 3);
@@ -241,7 +241,8 @@ fn moved_views(
         for (at, row) in (at..).zip(run.start..run.start + run.len) {
             if valid.is_none_or(|valid| valid[at]) {
                 let text = viewed(&views[row], buffers);
-                let text = text.ok_or_else(|| of[one].malformed(Fault::View(row)))?;
+                let text = text.ok_or_else(|| of[one].malformed(Fault::View(row)));
+                let text = text.map_err(of_column(field))?;
                 let view = moved_view(field, views[row], text.len(), before)?;
                 moved[at * size_of::<View>()..][..size_of::<View>()].copy_from_slice(&view);
             }
