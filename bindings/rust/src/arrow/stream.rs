@@ -178,7 +178,8 @@ pub struct ExportStream {
 
 impl ExportStream {
     /// Returns a stream of these batches. The iterator makes each batch when the consumer requests
-    /// it.
+    /// it. The stream ends with the first None of the iterator, even if later calls would return
+    /// more.
     ///
     /// Each batch must have the names and the types of `field`. A column that may have nulls in
     /// `field` may be one without nulls in a batch. The reverse is allowed too, if no row is null
@@ -198,7 +199,7 @@ impl ExportStream {
     {
         let producer = Box::new(Producer {
             field,
-            batches: Box::new(batches.into_iter()),
+            batches: Box::new(batches.into_iter().fuse()),
             error: CString::default(),
         });
         let mut raw = ArrowArrayStream {

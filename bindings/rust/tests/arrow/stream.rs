@@ -242,6 +242,28 @@ fn exported_streams_give_their_schema_and_batches() {
     assert_eq!(all.collect::<Vec<_>>(), [vec![1, 2], vec![], vec![3]]);
 }
 
+/// A consumer may ask again, after its own end of a loop.
+#[test]
+fn exported_streams_end_once() {
+    let mut calls = 0;
+    let batches = std::iter::from_fn(move || {
+        calls += 1;
+        (calls != 2).then(|| Ok(batch(&[calls])))
+    });
+    let mut raw = ExportStream::new(field(), batches).into_raw();
+    let mut array = vortex_bits::arrow::ArrowArray::empty();
+    for is_end in [false, true, true, true] {
+        // SAFETY: neither struct is released before these calls, unless it is the end.
+        unsafe {
+            assert_eq!(raw.get_next.unwrap()(&raw mut raw, &raw mut array), 0);
+            assert_eq!(array.release.is_none(), is_end);
+            array.release.inspect(|release| release(&raw mut array));
+        }
+    }
+    // SAFETY: it isn't released.
+    unsafe { raw.release.unwrap()(&raw mut raw) };
+}
+
 #[test]
 fn exported_streams_say_what_is_wrong() {
     let full = |errno| {
