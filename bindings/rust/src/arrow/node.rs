@@ -300,10 +300,17 @@ unsafe fn runs(children: &[Arc<Node>], wanted: usize) -> Result<(), Fault> {
     let (last, width) = (ends.offset + number - 1, ends.field.layout.widest().0);
     // SAFETY: there is a number for each run.
     let end = unsafe { ends.number_at(last, width) };
-    match usize::try_from(end) {
-        Ok(end) if end >= wanted => Ok(()),
+    match row_of(end) {
+        Some(row) if row >= wanted => Ok(()),
         _ => Err(Fault::Runs { end, wanted }),
     }
+}
+
+/// Returns the row before which a run ends; None if the end is negative. If a `usize` can't hold
+/// it, returns `usize::MAX`, which is behind all rows too.
+pub(super) fn row_of(end: i64) -> Option<usize> {
+    let end = u64::try_from(end).ok()?;
+    Some(usize::try_from(end).unwrap_or(usize::MAX))
 }
 
 /// Reads a child, and tests that it has at least `wanted` items.

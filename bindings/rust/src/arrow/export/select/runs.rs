@@ -10,6 +10,7 @@ use crate::arrow::array::Array;
 use crate::arrow::error::{ArrowError, Fault};
 use crate::arrow::field::Field;
 use crate::arrow::layout::{Kind, Layout};
+use crate::arrow::node::row_of;
 
 /// The index of an array, and of a value in it; None for a null row.
 type Value = Option<(usize, usize)>;
@@ -86,7 +87,7 @@ fn run_at(of: &Array, ends: &Array, item: usize) -> Result<(usize, usize), Arrow
     let width = ends.node.field.layout.widest().0;
     // SAFETY: there is an end for each run.
     let end = |run: usize| unsafe { ends.node.number_at(ends.start + run, width) };
-    let is_behind = |run: usize| usize::try_from(end(run)).is_ok_and(|it| it > item);
+    let is_behind = |run: usize| row_of(end(run)).is_some_and(|it| it > item);
     let (mut low, mut high) = (0, ends.len());
     while low < high {
         let middle = low.midpoint(high);
@@ -97,8 +98,8 @@ fn run_at(of: &Array, ends: &Array, item: usize) -> Result<(usize, usize), Arrow
         }
     }
     let last = if low < ends.len() { end(low) } else { 0 };
-    match usize::try_from(last) {
-        Ok(last) if last > item => Ok((low, last - item)),
+    match row_of(last) {
+        Some(row) if row > item => Ok((low, row - item)),
         _ => Err(of.malformed(Fault::Runs {
             end: last,
             wanted: item + 1,
