@@ -65,7 +65,8 @@ pub(crate) fn within(
     };
     let [from, to] = [start, end].map(|it| it.unwrap_or(usize::MAX));
     let is_in = from <= to && to <= len && start.and(end).is_some();
-    let number = to.saturating_sub(from).saturating_add(end.is_none().into());
+    let has_last = start.is_some() && end.is_none();
+    let number = to.saturating_sub(from).saturating_add(has_last.into());
     let error = OutOfBounds::new(from, number, len);
     is_in.then_some((from, number)).ok_or(error)
 }

@@ -8,7 +8,7 @@ use core::fmt;
 #[derive(Clone, Copy, Debug, PartialEq, Eq, Hash)]
 #[non_exhaustive]
 pub struct OutOfBounds {
-    /// The index of the first bit or row.
+    /// The index of the first bit or row; `usize::MAX` if the index is above that.
     pub offset: usize,
     /// The number of bits or rows in the window; 0 if the range starts after its end, and
     /// `usize::MAX` if the number is above that.

@@ -160,8 +160,10 @@ fn ranges_after_the_greatest_index_are_out_of_bounds() {
     assert!(all.try_slice(..=usize::MAX).is_err());
     let last = all.try_slice(usize::MAX..=usize::MAX).unwrap_err();
     assert_eq!((last.offset, last.len), (usize::MAX, 1));
-    let behind = (Bound::Excluded(usize::MAX), Bound::Unbounded);
-    assert!(all.try_slice(behind).is_err());
+    for end in [Bound::Unbounded, Bound::Included(usize::MAX)] {
+        let behind = all.try_slice((Bound::Excluded(usize::MAX), end));
+        assert_eq!(behind.unwrap_err().len, 0);
+    }
     let last = (Bound::Excluded(usize::MAX - 1), Bound::Unbounded);
     assert_eq!(all.try_slice(last).map(Validity::len), Ok(0));
 }
