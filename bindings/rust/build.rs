@@ -4,6 +4,7 @@
 //! `proved` the last two are errors. An archive that it would link is always an error if it is
 //! built from other sources than `src/digest.rs` names.
 use std::env;
+use std::ffi::OsString;
 use std::fs;
 use std::path::{Path, PathBuf};
 
@@ -61,7 +62,7 @@ fn watch(folder: &Path) {
 }
 
 fn link(folder: &Path) {
-    if env::var_os("VORTEX_BITS_NATIVE").is_some() {
+    if named_folder().is_some() {
         let folder = folder.display();
         println!("cargo::warning=VORTEX_BITS_NATIVE: the archives are those in {folder}");
     }
@@ -110,7 +111,12 @@ fn named(archive: &[u8], level: &str) -> Option<String> {
 
 fn folder() -> PathBuf {
     let own = PathBuf::from(env::var_os("CARGO_MANIFEST_DIR").unwrap_or_default());
-    own.join(env::var_os("VORTEX_BITS_NATIVE").unwrap_or_else(|| "native".into()))
+    own.join(named_folder().unwrap_or_else(|| "native".into()))
+}
+
+/// The folder that `VORTEX_BITS_NATIVE` names. An empty variable names none.
+fn named_folder() -> Option<OsString> {
+    env::var_os("VORTEX_BITS_NATIVE").filter(|it| !it.is_empty())
 }
 
 /// The version that is in the names of archives and functions, so that a program may have two.

@@ -53,6 +53,10 @@ class BuildScript(unittest.TestCase):
         folder = self.crate / "elsewhere"
         self.assertIn(f"no {folder}/libvortex_bits", self.build(VORTEX_BITS_NATIVE="elsewhere"))
 
+    def test_an_empty_variable_names_no_folder(self):
+        own = self.crate / "native"
+        self.assertIn(f"no {own}/libvortex_bits", self.build(VORTEX_BITS_NATIVE=""))
+
 
 if __name__ == "__main__":
     unittest.main()
