@@ -46,7 +46,8 @@ fn main() {
 }
 
 /// Runs this script again when the archives change, or when their folder gets some. Cargo would run
-/// it at each build if it watched a file that is missing.
+/// it at each build if it watched a file that is missing, so it doesn't see a new folder: the
+/// warning says what to do then.
 fn watch(folder: &Path) {
     let archives = LEVELS.map(|level| archive(folder, level));
     let watched: &[PathBuf] = if archives.iter().all(|it| it.is_file()) {
@@ -77,8 +78,11 @@ fn say_missing(archive: &Path) {
     let missing = archive.display();
     if wants_proved() {
         println!("cargo::error=feature `proved`: no {missing}, which bindings/build makes");
-    } else {
-        println!("cargo::warning=no {missing}: without both archives no proved code runs");
+        return;
+    }
+    println!("cargo::warning=no {missing}: without both archives no proved code runs");
+    if !archive.parent().is_some_and(Path::is_dir) {
+        println!("cargo::warning=once their folder is there: `cargo clean -p vortex_bits`");
     }
 }
 

@@ -57,6 +57,22 @@ class BuildScript(unittest.TestCase):
         own = self.crate / "native"
         self.assertIn(f"no {own}/libvortex_bits", self.build(VORTEX_BITS_NATIVE=""))
 
+    def test_a_missing_folder_is_seen_after_the_command_of_the_warning(self):
+        command, folder = "cargo clean -p vortex_bits", self.crate / "elsewhere"
+        self.assertNotIn(command, self.build())
+        self.assertIn(command, self.build(VORTEX_BITS_NATIVE="elsewhere"))
+        folder.mkdir()
+        subprocess.run(
+            [*command.split(), "--offline"],
+            cwd=self.crate,
+            env={**os.environ, "CARGO_TARGET_DIR": str(self.target)},
+            capture_output=True,
+            check=True,
+        )
+        said = self.build(VORTEX_BITS_NATIVE="elsewhere")
+        self.assertIn("Compiling vortex_bits", said)
+        self.assertNotIn(command, said)
+
 
 if __name__ == "__main__":
     unittest.main()
