@@ -3,6 +3,7 @@
 
 mod blocks;
 mod chunks;
+mod counted;
 mod places;
 mod runs;
 mod words;

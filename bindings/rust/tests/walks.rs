@@ -50,3 +50,55 @@ fn items_beyond_the_first_ones_are_not_looked_for() {
         "{some:?} for what is there, {all:?} for one more"
     );
 }
+
+#[test]
+fn bits_are_counted_once_for_all_items_from_the_end() {
+    let bytes = vec![0b0101_0101; 1 << 16];
+    let bits = Bits::from_bytes(&bytes);
+    let [some, all] = [64, 6_400].map(|number| {
+        least(|| {
+            let set = black_box(bits).set_indices().enumerate().rev();
+            let set = set.take(number).fold(0, |found, (k, index)| {
+                assert_eq!(index, 2 * k);
+                found + 1
+            });
+            let unset = black_box(bits).unset_indices().skip(1).rev();
+            let unset = unset.take(number).fold(0, |found, _| found + 1);
+            assert_eq!([set, unset], [number; 2]);
+        })
+    });
+    assert!(
+        all < 20 * some,
+        "{some:?} for the last 64 indices, {all:?} for 6,400"
+    );
+}
+
+#[test]
+fn lengths_follow_both_ends() {
+    let bytes: Vec<u8> = (0..=255).cycle().take(1_000).collect();
+    let bits = Bits::new(&bytes, 3, 7_990);
+    for (set, len) in [(true, bits.count_ones()), (false, bits.count_zeros())] {
+        let (mut ones, mut zeros) = (bits.set_indices(), bits.unset_indices());
+        let mut left = if set { ones.len() } else { zeros.len() };
+        assert_eq!(left, len);
+        for step in 0_usize.. {
+            let from_end = step % 7 > 2;
+            let index = match (set, from_end) {
+                (true, false) => ones.next(),
+                (true, true) => ones.next_back(),
+                (false, false) => zeros.next(),
+                (false, true) => zeros.next_back(),
+            };
+            let Some(index) = index else { break };
+            assert_eq!(bits.get(index), Some(set));
+            left -= 1;
+            let [this, copy] = if set {
+                [ones.len(), ones.clone().count()]
+            } else {
+                [zeros.len(), zeros.clone().count()]
+            };
+            assert_eq!([this, copy], [left; 2]);
+        }
+        assert_eq!(left, 0);
+    }
+}

@@ -1,5 +1,6 @@
 //! Finds the items of a window in blocks.
 
+use super::counted::Counted;
 use crate::Bits;
 
 /// The number of items in a block.
@@ -27,6 +28,8 @@ pub struct Blocks<'a, F: Find> {
     found: [F::Item; ROOM],
     next: usize,
     filled: usize,
+    /// The number of items in the bits that it hasn't searched.
+    unfound: Counted,
 }
 
 impl<'a, F: Find> Blocks<'a, F> {
@@ -39,6 +42,7 @@ impl<'a, F: Find> Blocks<'a, F> {
             found: [F::Item::default(); ROOM],
             next: 0,
             filled: 0,
+            unfound: Counted::new(),
         }
     }
 
@@ -76,12 +80,27 @@ impl<'a, F: Find> Blocks<'a, F> {
         self.filled - self.next
     }
 
+    /// Returns the number of items in the bits that it hasn't searched, which `count` counts.
+    #[cfg(vortex_bits_native)]
+    #[inline]
+    pub fn unfound(&self, count: impl FnOnce(Bits<'_>) -> usize) -> usize {
+        self.unfound.get(|| count(self.rest()))
+    }
+
+    /// Subtracts the items in bits that were removed.
+    #[cfg(vortex_bits_native)]
+    #[inline]
+    pub fn subtract(&mut self, items: impl FnOnce() -> usize) {
+        self.unfound.subtract(items);
+    }
+
     /// Fills the next block, and returns whether it found an item.
     fn refill(&mut self) -> bool {
         let rest = self.rest();
         self.base = self.end;
         self.next = 0;
         self.filled = F::find(rest, &mut self.found);
+        self.unfound.subtract(|| self.filled);
         self.end = match self.found.last() {
             Some(&last) if self.filled == ROOM => self.base + F::end(last),
             _ => self.bits.len(),

@@ -6,6 +6,7 @@ use core::fmt;
 use core::iter::FusedIterator;
 use core::mem;
 
+use super::counted::Counted;
 use crate::{Bits, portable};
 
 /// The indices of the set bits.
@@ -55,7 +56,7 @@ mod by_blocks {
 
         #[inline]
         pub fn left(&self) -> usize {
-            self.front.found() + self.front.rest().count_ones() + self.back.len()
+            self.front.found() + self.front.unfound(Bits::count_ones) + self.back.len()
         }
 
         #[inline]
@@ -75,6 +76,7 @@ mod by_blocks {
                 let start = rest.len() - len;
                 self.front.cut(base + start);
                 self.back = Left::new(base + start, portable::only_word(rest.part(start, len)));
+                self.front.subtract(|| self.back.len());
             }
             self.back.last()
         }
@@ -147,6 +149,8 @@ struct ByWords<'a, const VALUE: bool> {
     /// The index after the word in `front`.
     end: usize,
     back: Left,
+    /// The number of indices between the two words.
+    between: Counted,
 }
 
 impl<'a, const VALUE: bool> ByWords<'a, VALUE> {
@@ -157,6 +161,7 @@ impl<'a, const VALUE: bool> ByWords<'a, VALUE> {
             front: Left::default(),
             end: 0,
             back: Left::default(),
+            between: Counted::new(),
         }
     }
 
@@ -189,20 +194,22 @@ impl<'a, const VALUE: bool> ByWords<'a, VALUE> {
         }
         self.front = self.word(self.end, len);
         self.end += len;
+        self.between.subtract(|| self.front.len());
         true
     }
 
-    /// Returns the number of indices left. Counts the bits.
+    /// Returns the number of indices left. The first call counts the bits.
     #[inline]
     fn left(&self) -> usize {
-        let rest = self.rest();
-        let found = self.front.len() + self.back.len();
-        found
-            + if VALUE {
+        let count = || {
+            let rest = self.rest();
+            if VALUE {
                 rest.count_ones()
             } else {
                 rest.count_zeros()
             }
+        };
+        self.front.len() + self.between.get(count) + self.back.len()
     }
 
     #[inline]
@@ -225,6 +232,7 @@ impl<'a, const VALUE: bool> ByWords<'a, VALUE> {
             let start = self.bits.len() - len;
             self.back = self.word(start, len);
             self.bits = self.bits.part(0, start);
+            self.between.subtract(|| self.back.len());
         }
         self.back.last()
     }
@@ -267,7 +275,7 @@ macro_rules! indices {
                 self.0.next()
             }
 
-            /// Returns the number of indices left. Counts the bits.
+            /// Returns the number of indices left. The first call counts the bits.
             #[inline]
             fn size_hint(&self) -> (usize, Option<usize>) {
                 let left = self.0.left();
