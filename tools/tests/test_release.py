@@ -26,7 +26,8 @@ BUILDS_VBITS = "#!/bin/sh\nmkdir -p out && echo vbits >out/vbits\n"
 
 class Release(unittest.TestCase):
     def setUp(self):
-        folder = tempfile.TemporaryDirectory()
+        # The path has what a shell or a flag could divide.
+        folder = tempfile.TemporaryDirectory(prefix="a folder's, ")
         self.addCleanup(folder.cleanup)
         self.top = Path(folder.name)
         rust = self.top / "bindings" / "rust"
@@ -104,7 +105,7 @@ class Release(unittest.TestCase):
             self.program(f"tools/{name}", FAILS)
         self.commit()
         lines = self.release().stdout.splitlines()
-        for name in ("C by pkg-config", "C by pkg-config, shared"):
+        for name in ("sums of the files in dist", "C by pkg-config", "C by pkg-config, shared"):
             self.assertIn(f"ok      {name}", lines)
         version = "0.0.0-r0"
         self.assertEqual((self.top / f"dist/vbits-{version}-x86-64-v3").read_text(), "vbits\n")
