@@ -107,7 +107,7 @@ impl fmt::Display for QueryError {
         };
         let before = &text[..self.at];
         let start = before.rfind('\n').map_or(0, |end| end + 1);
-        let line = text[start..].lines().next().unwrap_or_default();
+        let line = text[start..].split('\n').next().unwrap_or_default();
         let line: String = line.chars().map(visible).collect();
         let spaces = " ".repeat(text[start..self.at].chars().count());
         write!(f, "{option}: {}\n  {line}\n  {spaces}^", self.wrong)

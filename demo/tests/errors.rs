@@ -68,7 +68,11 @@ fn errors_of_the_file_name_the_line_and_the_column() {
 }
 
 /// Options that don't fit the parcels, and the error.
-const BAD_QUERIES: [(&[&str], &str); 9] = [
+const BAD_QUERIES: [(&[&str], &str); 10] = [
+    (
+        &["--where", "city ! 1\r\nor days = 1"],
+        "--where: '!' begins no word of a condition\n  city ! 1\u{240D}\n       ^",
+    ),
     (
         &["--where", "weight > 1 and size = 2"],
         "--where: there is no column \"size\"; the columns are parcel, city, weight, cents, \
