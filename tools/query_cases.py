@@ -167,6 +167,7 @@ PICTURES = [
     ("t.csv", "n\n" + "".join(f"{i * 9 ** 18}\n" for i in range(-60, 61)),
      ["--where", "n > 0 or n < -9e18"]),
     ("t.csv", "n\n" + "".join(f"{i}\n" for i in range(487)), ["--where", "n <> 7 and n <> 250"]),
+    ("t.csv", "n\n" + "".join(f"{2 ** 63 - i}\n" for i in range(1, 101)), []),
     ("t.csv", "n\n", ["--where", "n is null"]),
 ]
 

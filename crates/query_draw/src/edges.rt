@@ -1,6 +1,6 @@
 //! The edges of a histogram's bins: 1, 2 or 5 times a power of ten, or multiples of that.
 use std::alloc::{AllocError, Global};
-use std::num::{nearest_i64_to_f64, saturating_f64_to_i64};
+use std::num::{nearest_i64_to_f64, nearest_u64_to_f64, saturating_f64_to_i64};
 
 /// The most bins of equal width, about.
 const BINS: f64 = 16.0;
@@ -76,7 +76,8 @@ pub fn wholes(alloc: Global, least: i64, greatest: i64, mean: f64) -> Result<Vec
     if is_skewed(low, high, mean) {
         return growing_wholes(alloc, least, greatest);
     }
-    let width = (high - low) / BINS;
+    // Two large numbers may round to the same float.
+    let width = nearest_u64_to_f64(greatest.abs_diff(least)) / BINS;
     let width = if width < 1.0 { 1.0 } else { width };
     let step = Step::above(alloc, width)?.whole().unwrap_or(i64::MAX);
     even_wholes(

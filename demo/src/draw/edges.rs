@@ -110,7 +110,8 @@ fn wholes(
         let all: Vec<i64> = std::iter::once(0).chain(steps).collect();
         return between(&all, least, greatest);
     }
-    let width = (greatest as f64 - least as f64) / BINS;
+    // Two large numbers may round to the same float.
+    let width = greatest.abs_diff(least) as f64 / BINS;
     let step = Step::above(width.max(1.0)).whole().unwrap_or(i64::MAX);
     let (step, least) = (i128::from(step), i128::from(least));
     let first = least.div_euclid(step) * step;
@@ -214,6 +215,11 @@ mod tests {
         assert_eq!(of_wholes(i64::MAX, i64::MAX, 0.0), ["9223372036854775807"]);
         assert_eq!(of_wholes(i64::MIN, i64::MIN, 0.0), ["-9223372036854775808"]);
         assert_eq!(of_wholes(1, i64::MAX, 5.0).len(), 29);
+        assert_eq!(
+            of_wholes(i64::MAX - 47, i64::MAX, 0.0)[..2],
+            ["9223372036854775760", "9223372036854775765"]
+        );
+        assert_eq!(of_wholes(i64::MIN, i64::MIN + 500, 0.0).len(), 11);
     }
 
     #[test]
