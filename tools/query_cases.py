@@ -327,8 +327,8 @@ def like_demo(seed: int, table: Table, file: bytes, given: list[str]) -> list[Qu
 
 
 def more() -> list[Query]:
-    """Cases of columns of one name, columns to write, standard input, short rows, pictures, and
-    means."""
+    """Cases of columns of one name, columns to write, standard input, short rows, pictures, means,
+    and marks."""
     row = [["1", "x", "2.5", "", "z"]]
     of_names = {"t.csv": written([NAMED, *row])}
     columns = [Query(f"--columns {it}", ["t.csv", "--rows", "--columns", it],
@@ -344,7 +344,9 @@ def more() -> list[Query]:
     means = [Query(f"the mean of {values}", ["t.csv", "--select", "avg(a)"],
                    f"avg(a)\n{mean}\n".encode(), files={"t.csv": written([["a", "b"], *(
                        [value, "0"] for value in values)])}) for values, mean in MEANS]
-    return [*columns, *alike, *short, *pictures, *means, *of_input()]
+    marked = Query("a mark of UTF-16", ["t.csv", "--rows", "--no-header", "--columns", "c2"],
+                   b'"\xff\xfex"\n', files={"t.csv": b"1,\xff\xfex\n"})
+    return [*columns, *alike, *short, *pictures, *means, marked, *of_input()]
 
 
 def alike_text(option: str, name: str, count: int, first: int, second: int, pointed: str) -> str:

@@ -13,9 +13,9 @@ pub const LONGEST_ROW: usize = 16 << 20;
 /// The greatest number of fields of a row.
 pub const MOST_FIELDS: usize = 1 << 20;
 
-const BYTE_ORDER_MARK: &[u8] = &[0xEF, 0xBB, 0xBF];
+pub(crate) const BYTE_ORDER_MARK: &[u8] = &[0xEF, 0xBB, 0xBF];
 /// The first bytes of files in UTF-16.
-const UTF_16: [&[u8]; 2] = [&[0xFE, 0xFF], &[0xFF, 0xFE]];
+pub(crate) const UTF_16: [&[u8]; 2] = [&[0xFE, 0xFF], &[0xFF, 0xFE]];
 
 /// The bytes that separate and quote fields.
 #[derive(Clone, Copy, Debug, PartialEq, Eq)]

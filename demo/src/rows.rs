@@ -2,7 +2,7 @@
 
 use std::io::{self, Write};
 
-use crate::csv::Dialect;
+use crate::csv::{BYTE_ORDER_MARK, Dialect, UTF_16};
 
 /// Rows of a file, as the bytes of their fields one after the other.
 #[derive(Debug)]
@@ -148,10 +148,11 @@ fn write_field(out: &mut impl Write, dialect: Dialect, field: &[u8]) -> io::Resu
     out.write_all(&[quote])
 }
 
-/// Returns whether a field needs quotes to be read back unchanged. A byte-order mark would be
-/// skipped at the beginning of a file.
+/// Returns whether a field needs quotes to be read back unchanged. At the beginning of a file a
+/// byte-order mark would be skipped, and one of UTF-16 would be an error.
 fn needs_quotes(field: &[u8], delimiter: u8, quote: u8) -> bool {
-    field.starts_with("\u{FEFF}".as_bytes())
+    field.starts_with(BYTE_ORDER_MARK)
+        || UTF_16.iter().any(|mark| field.starts_with(mark))
         || field
             .iter()
             .any(|byte| [delimiter, quote, b'\n', b'\r'].contains(byte))

@@ -147,6 +147,15 @@ fn a_header_line_is_copied_as_it_is() {
     assert_eq!(output.stdout, b"a,,\xE4\n1,2,3\n");
 }
 
+/// A file that begins with such a mark is refused.
+#[test]
+fn a_field_with_a_mark_of_utf_16_is_quoted() {
+    let folder = Folder::new("marks");
+    let file = folder.file("in.csv", b"1,\xFF\xFEx\n2,\xFE\xFF\n");
+    let output = run(&file, &["--no-header", "--rows", "--columns", "c2"]);
+    assert_eq!(output.stdout, b"\"\xFF\xFEx\"\n\"\xFE\xFF\"\n");
+}
+
 #[test]
 fn columns_of_one_name() {
     let folder = Folder::new("twice");

@@ -8,7 +8,8 @@ use std::io::{self, Read};
 /// The number of bytes that are read at once.
 const BUFFER: usize = 65_536;
 
-const BYTE_ORDER_MARK: &[u8] = &[0xEF, 0xBB, 0xBF];
+/// The first bytes of some files in UTF-8.
+pub const BYTE_ORDER_MARK: &[u8] = &[0xEF, 0xBB, 0xBF];
 
 /// A reader of the rows of an input.
 #[derive(Drop)]
@@ -99,7 +100,7 @@ impl<R: Read + Drop> Reader<R> {
     }
 }
 
-/// Returns whether a file begins with the byte-order mark of UTF-16, in either byte order.
-fn starts_as_utf16(start: &[u8]) -> bool {
+/// Returns whether bytes begin with the byte-order mark of UTF-16, in either byte order.
+pub fn starts_as_utf16(start: &[u8]) -> bool {
     matches!(start, [0xFE, 0xFF, ..] | [0xFF, 0xFE, ..])
 }

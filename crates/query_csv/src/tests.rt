@@ -93,9 +93,10 @@ fn errors_name_their_line_and_field(rt: HostRuntime) {
 #[test]
 fn fields_are_quoted_where_they_need_it(rt: HostRuntime) -> Result<(), Fail> {
     let mut out = Vec::new(rt.alloc());
-    let fields: [&[u8]; 4] = [b"a", b"b,c", b"d\"e", b""];
+    let fields: [&[u8]; 5] = [b"a", b"b,c", b"d\"e", b"", &[0xFF, 0xFE]];
     write_row(&mut out, COMMAS, &fields)?;
-    assert_eq!(rt; out.as_slice(), b"a,\"b,c\",\"d\"\"e\",\n".as_slice());
+    let wanted = b"a,\"b,c\",\"d\"\"e\",,\"\xFF\xFE\"\n".as_slice();
+    assert_eq!(rt; out.as_slice(), wanted);
     drop(out);
     Ok(())
 }

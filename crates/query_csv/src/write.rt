@@ -1,4 +1,5 @@
 //! Rows written as CSV.
+use crate::reader::{BYTE_ORDER_MARK, starts_as_utf16};
 use crate::splitter::Dialect;
 use std::io::{self, Write};
 
@@ -40,10 +41,10 @@ fn write_quoted<W: Write>(out: &mut W, quote: u8, field: &[u8]) -> io::Result<()
     out.write_all(&[quote])
 }
 
-/// Returns whether a field needs quotes to be read back unchanged. This includes a byte-order mark,
-/// which would be skipped at the beginning of a file.
+/// Returns whether a field needs quotes to be read back unchanged. At the beginning of a file a
+/// byte-order mark would be skipped, and one of UTF-16 would be an error.
 fn needs_quotes(field: &[u8], delimiter: u8, quote: u8) -> bool {
-    if field.starts_with("\u{FEFF}".as_bytes()) {
+    if field.starts_with(BYTE_ORDER_MARK) || starts_as_utf16(field) {
         return true;
     }
     for byte in field {
