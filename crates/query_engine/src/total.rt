@@ -90,7 +90,7 @@ impl Floats {
         Range::Float {
             least: self.least,
             greatest: self.greatest,
-            mean: self.sum.value() / nearest_u64_to_f64(count),
+            mean: self.sum.mean(nearest_u64_to_f64(count)),
         }
     }
 }
@@ -103,53 +103,100 @@ fn greatest(before: f64, number: f64) -> f64 {
     if number > before { number } else { before }
 }
 
-/// A sum of floats that keeps the digits which each step rounds away (Neumaier's).
+/// The unit of large numbers in a [`Sum`], a power of two.
+const UNIT: f64 = 18_446_744_073_709_551_616.0;
+
+/// The greatest number that isn't large, `f64::MAX / UNIT`: sums of fewer than `UNIT` such numbers
+/// don't overflow.
+const LARGEST: f64 = 9.745314011399998e288;
+
+/// A sum of finite floats, which overflows only in the end.
 #[derive(Clone, Copy)]
 pub struct Sum {
-    high: f64,
-    low: f64,
+    /// The sum of numbers up to [`LARGEST`].
+    small: Part,
+    /// The sum of the larger ones, in units of [`UNIT`].
+    large: Part,
 }
 
 impl Sum {
     /// Returns the sum of no number.
     pub fn nothing() -> Sum {
         Sum {
-            high: 0.0,
-            low: 0.0,
+            small: Part::nothing(),
+            large: Part::nothing(),
         }
     }
 
     /// Returns the sum with one more number.
     pub fn plus(self, number: f64) -> Sum {
+        let Sum { small, large } = self;
+        if number.abs() <= LARGEST {
+            let small = small.plus(number);
+            Sum { small, large }
+        } else {
+            let large = large.plus(number / UNIT);
+            Sum { small, large }
+        }
+    }
+
+    /// Returns the sum of both.
+    pub fn joined(self, other: Sum) -> Sum {
+        Sum {
+            small: self.small.joined(other.small),
+            large: self.large.joined(other.large),
+        }
+    }
+
+    /// Returns the sum, rounded; infinite if it is beyond the range of floats.
+    pub fn value(self) -> f64 {
+        self.mean(1.0)
+    }
+
+    /// Returns the sum divided by a number of values, rounded.
+    pub fn mean(self, count: f64) -> f64 {
+        let Sum { small, large } = self;
+        if large.value() == 0.0 {
+            return small.value() / count;
+        }
+        let sum = large.plus(small.high / UNIT).plus(small.low / UNIT);
+        sum.value() / count * UNIT
+    }
+}
+
+/// A sum of floats that keeps the digits which each step rounds away (Neumaier's).
+#[derive(Clone, Copy)]
+struct Part {
+    high: f64,
+    low: f64,
+}
+
+impl Part {
+    fn nothing() -> Part {
+        Part {
+            high: 0.0,
+            low: 0.0,
+        }
+    }
+
+    fn plus(self, number: f64) -> Part {
         let high = self.high + number;
         let lost = if self.high.abs() >= number.abs() {
             (self.high - high) + number
         } else {
             (number - high) + self.high
         };
-        Sum {
+        Part {
             high,
             low: self.low + lost,
         }
     }
 
-    /// Returns the sum of both.
-    pub fn joined(self, other: Sum) -> Sum {
-        let joined = self.plus(other.high);
-        // The rounding error of an infinite sum is NaN.
-        if other.high.is_finite() {
-            joined.plus(other.low)
-        } else {
-            joined
-        }
+    fn joined(self, other: Part) -> Part {
+        self.plus(other.high).plus(other.low)
     }
 
-    /// Returns the sum, rounded; infinite if it is beyond the range of floats.
-    pub fn value(self) -> f64 {
-        if self.high.is_finite() {
-            self.high + self.low
-        } else {
-            self.high
-        }
+    fn value(self) -> f64 {
+        self.high + self.low
     }
 }
