@@ -7,6 +7,8 @@ from pathlib import Path
 
 COMMAND = Path(__file__).resolve().parent.parent / "vendor"
 SOURCE = "crates/vb_bits/src/lib.rt"
+# The checksum of an empty file.
+EMPTY = "e3b0c44298fc1c149afbf4c8996fb92427ae41e4649b934ca495991b7852b855"
 
 
 class Vendor(unittest.TestCase):
@@ -39,10 +41,19 @@ class Vendor(unittest.TestCase):
         record = self.top / "vortex_buffer.vendored"
         gone = self.top / "crates/vb_bits/src/gone.rt"
         gone.write_text("")
-        empty = "e3b0c44298fc1c149afbf4c8996fb92427ae41e4649b934ca495991b7852b855"
-        record.write_text(record.read_text() + f"{empty}  crates/vb_bits/src/gone.rt\n")
+        record.write_text(record.read_text() + f"{EMPTY}  crates/vb_bits/src/gone.rt\n")
         self.assertEqual(self.vendor(), (0, ""))
         self.assertFalse(gone.exists())
+
+    def test_a_crate_that_is_no_longer_needed_leaves_no_folder(self):
+        self.vendor()
+        record = self.top / "vortex_buffer.vendored"
+        gone = self.top / "crates/gone/src/lib.rt"
+        gone.parent.mkdir(parents=True)
+        gone.write_text("")
+        record.write_text(record.read_text() + f"{EMPTY}  crates/gone/src/lib.rt\n")
+        self.assertEqual(self.vendor(), (0, ""))
+        self.assertFalse((self.top / "crates/gone").exists())
 
     def test_changes_by_hand_are_refused(self):
         self.vendor()
