@@ -1,12 +1,14 @@
 //! Indices and runs of set bits, written to the caller's memory.
-ghost use Rattle.std.specs.Prelude.{◌≡◌, ◌^◌, ◌≤◌, length, map};
+ghost use Rattle.std.specs.Prelude.{◌≡◌, ◌^◌, ◌<◌, ◌≤◌, length, map};
 ghost use Rattle.vb_bits.specs.Bits.{bits, places};
+ghost use Rattle.vb_bits.specs.Digits.{digits};
 ghost use Rattle.vb_bits.specs.InBytes.{InBytes};
 ghost use Rattle.vb_bits.specs.Runs.{runs};
 ghost use Rattle.vb_c.specs.Filled.{run_of};
 ghost use Rattle.vb_c_core.specs.Fits.{DoneIf};
 ghost use Rattle.vb_bits.specs.Fills.{Fills};
 
+use vb_bits::read_short;
 use vb_walk::{BitIndexIterator, BitSliceIterator};
 
 /// A run of set bits.
@@ -32,11 +34,23 @@ pub extern "C" fn vb_set_indices(
     requires window { InBytes bytes.now offset len }
     ensures { Fills (places (bits bytes.now offset len)) out.old out.new result }
 {
+    if out.len() < len {
+        return first_indices(out, bytes, offset, len);
+    }
+    if len > 64 {
+        return all_indices(out, bytes, offset, len);
+    }
+    word_indices(out, read_short(bytes, offset, len), len)
+}
+
+/// Does [`vb_set_indices`] if `out` may have fewer items than there are indices.
+#[inline(never)]
+fn first_indices(out: &mut [usize], bytes: &[u8], offset: usize, len: usize) -> usize
+    requires window { InBytes bytes.now offset len }
+    ensures { Fills (places (bits bytes.now offset len)) out.old out.new result }
+{
     if out.is_empty() {
         return 0;
-    }
-    if out.len() >= len {
-        return all_indices(out, bytes, offset, len);
     }
     let mut written = 0;
     for place in BitIndexIterator::new(bytes, offset, len) {
@@ -50,7 +64,7 @@ pub extern "C" fn vb_set_indices(
 }
 
 /// Does [`vb_set_indices`] if `out` has an item for each bit, without testing whether it is full.
-#[inline(always)]
+#[inline(never)]
 fn all_indices(out: &mut [usize], bytes: &[u8], offset: usize, len: usize) -> usize
     requires window { InBytes bytes.now offset len }
     requires room { len ≤ length out.old }
@@ -60,6 +74,25 @@ fn all_indices(out: &mut [usize], bytes: &[u8], offset: usize, len: usize) -> us
     for place in BitIndexIterator::new(bytes, offset, len) {
         out[written] = place;
         written += 1;
+    }
+    written
+}
+
+/// Writes the indices of the set digits among the `len` digits of `word` as [`vb_set_indices`]
+/// does. There must be at most 64, and `out` must have an item for each.
+#[inline(always)]
+fn word_indices(out: &mut [usize], word: u64, len: usize) -> usize
+    requires few { len ≤ 64 }
+    requires clear { word < 2 ^ len }
+    requires room { len ≤ length out.old }
+    ensures { Fills (places (digits word 0 len)) out.old out.new result }
+{
+    let mut written = 0;
+    let mut left = word;
+    while left != 0 {
+        out[written] = left.trailing_zeros() as usize;
+        written += 1;
+        left &= left - 1;
     }
     written
 }
@@ -76,11 +109,24 @@ pub extern "C" fn vb_set_indices_u32(
     requires named { len ≤ 2 ^ 32 }
     ensures { Fills (places (bits bytes.now offset len)) out.old out.new result }
 {
+    if out.len() < len {
+        return first_indices_u32(out, bytes, offset, len);
+    }
+    if len > 64 {
+        return all_indices_u32(out, bytes, offset, len);
+    }
+    word_indices_u32(out, read_short(bytes, offset, len), len)
+}
+
+/// Does [`vb_set_indices_u32`] if `out` may have fewer items than there are indices.
+#[inline(never)]
+fn first_indices_u32(out: &mut [u32], bytes: &[u8], offset: usize, len: usize) -> usize
+    requires window { InBytes bytes.now offset len }
+    requires named { len ≤ 2 ^ 32 }
+    ensures { Fills (places (bits bytes.now offset len)) out.old out.new result }
+{
     if out.is_empty() {
         return 0;
-    }
-    if out.len() >= len {
-        return all_indices_u32(out, bytes, offset, len);
     }
     let mut written = 0;
     for place in BitIndexIterator::new(bytes, offset, len) {
@@ -95,7 +141,7 @@ pub extern "C" fn vb_set_indices_u32(
 
 /// Does [`vb_set_indices_u32`] if `out` has an item for each bit, without testing whether it is
 /// full.
-#[inline(always)]
+#[inline(never)]
 fn all_indices_u32(out: &mut [u32], bytes: &[u8], offset: usize, len: usize) -> usize
     requires window { InBytes bytes.now offset len }
     requires named { len ≤ 2 ^ 32 }
@@ -106,6 +152,25 @@ fn all_indices_u32(out: &mut [u32], bytes: &[u8], offset: usize, len: usize) -> 
     for place in BitIndexIterator::new(bytes, offset, len) {
         out[written] = place as u32;
         written += 1;
+    }
+    written
+}
+
+/// Writes the indices of the set digits among the `len` digits of `word` as [`vb_set_indices_u32`]
+/// does. There must be at most 64, and `out` must have an item for each.
+#[inline(always)]
+fn word_indices_u32(out: &mut [u32], word: u64, len: usize) -> usize
+    requires few { len ≤ 64 }
+    requires clear { word < 2 ^ len }
+    requires room { len ≤ length out.old }
+    ensures { Fills (places (digits word 0 len)) out.old out.new result }
+{
+    let mut written = 0;
+    let mut left = word;
+    while left != 0 {
+        out[written] = left.trailing_zeros();
+        written += 1;
+        left &= left - 1;
     }
     written
 }

@@ -2,7 +2,7 @@ use Rattle.std.proofs.Common.{◌+◌, ◌++◌, ◌∷◌, [], sym, ap, ◌∙�
 use Rattle.std.proofs.lemmas.List.{append_assoc, length-append, length-set}
 use Rattle.vb_bits.proofs.FillsLemmas.{set_next}
 use Rattle.vb_c.proofs.FilledLemmas.{Fills-full}
-use Rattle.vb_c.proofs.walk.vb_set_indices.Goals as goal
+use Rattle.vb_c.proofs.walk.first_indices.Goals as goal
 
 pub loop-place-preserved : goal.loop-place-preserved
 loop-place-preserved c =

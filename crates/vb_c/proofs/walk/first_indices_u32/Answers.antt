@@ -3,7 +3,7 @@ use Rattle.std.proofs.lemmas.List.Elements.{All-rest}
 use Rattle.std.proofs.lemmas.List.{append_assoc, length-append, length-set}
 use Rattle.vb_bits.proofs.FillsLemmas.{set_next}
 use Rattle.vb_c.proofs.FilledLemmas.{Fills-full}
-use Rattle.vb_c.proofs.walk.vb_set_indices_u32.Goals as goal
+use Rattle.vb_c.proofs.walk.first_indices_u32.Goals as goal
 
 pub loop-place-preserved : goal.loop-place-preserved
 loop-place-preserved c =
