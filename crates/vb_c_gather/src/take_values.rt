@@ -17,6 +17,7 @@ use vb_view::BitBufferView;
 
 /// Writes the values at the indices to the front of `out`. Returns the first position that counts
 /// and whose index is out of range, if there is one.
+#[inline(always)]
 fn take_values<T: Element, I: BitIndex>(
     out: &mut [T],
     values: &[T],
