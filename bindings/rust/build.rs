@@ -82,7 +82,9 @@ fn say_missing(archive: &Path) {
     }
     println!("cargo::warning=no {missing}: without both archives no proved code runs");
     if !archive.parent().is_some_and(Path::is_dir) {
-        println!("cargo::warning=once their folder is there: `cargo clean -p vortex_bits`");
+        let watched = own_folder().join("Cargo.toml");
+        let watched = watched.display();
+        println!("cargo::warning=once their folder is there: `touch {watched}`");
     }
 }
 
@@ -114,8 +116,11 @@ fn named(archive: &[u8], level: &str) -> Option<String> {
 }
 
 fn folder() -> PathBuf {
-    let own = PathBuf::from(env::var_os("CARGO_MANIFEST_DIR").unwrap_or_default());
-    own.join(named_folder().unwrap_or_else(|| "native".into()))
+    own_folder().join(named_folder().unwrap_or_else(|| "native".into()))
+}
+
+fn own_folder() -> PathBuf {
+    PathBuf::from(env::var_os("CARGO_MANIFEST_DIR").unwrap_or_default())
 }
 
 /// The folder that `VORTEX_BITS_NATIVE` names. An empty variable names none.

@@ -19,11 +19,11 @@ class BuildScript(unittest.TestCase):
         shutil.copytree(CRATE, self.crate, ignore=left_out)
         self.target = Path(folder.name) / "target"
 
-    def build(self, **variables: str) -> str:
+    def build(self, profile: str = "dev", **variables: str) -> str:
         """Builds the crate, and returns what cargo prints."""
         kept = {name: it for name, it in os.environ.items() if name != "VORTEX_BITS_NATIVE"}
         ended = subprocess.run(
-            ["cargo", "build", "--offline"],
+            ["cargo", "build", "--offline", "--profile", profile],
             cwd=self.crate,
             env={**kept, **variables, "CARGO_TARGET_DIR": str(self.target)},
             capture_output=True,
@@ -58,20 +58,15 @@ class BuildScript(unittest.TestCase):
         self.assertIn(f"no {own}/libvortex_bits", self.build(VORTEX_BITS_NATIVE=""))
 
     def test_a_missing_folder_is_seen_after_the_command_of_the_warning(self):
-        command, folder = "cargo clean -p vortex_bits", self.crate / "elsewhere"
+        command = f"touch {self.crate}/Cargo.toml"
         self.assertNotIn(command, self.build())
-        self.assertIn(command, self.build(VORTEX_BITS_NATIVE="elsewhere"))
-        folder.mkdir()
-        subprocess.run(
-            [*command.split(), "--offline"],
-            cwd=self.crate,
-            env={**os.environ, "CARGO_TARGET_DIR": str(self.target)},
-            capture_output=True,
-            check=True,
-        )
-        said = self.build(VORTEX_BITS_NATIVE="elsewhere")
-        self.assertIn("Compiling vortex_bits", said)
-        self.assertNotIn(command, said)
+        for profile in ("dev", "release"):
+            self.assertIn(command, self.build(profile, VORTEX_BITS_NATIVE=profile))
+            (self.crate / profile).mkdir()
+            subprocess.run(command.split(), check=True)
+            said = self.build(profile, VORTEX_BITS_NATIVE=profile)
+            self.assertIn("Compiling vortex_bits", said)
+            self.assertNotIn(command, said)
 
 
 if __name__ == "__main__":
