@@ -1,4 +1,5 @@
-//! Walks stop once they have the requested number of items, whatever follows.
+//! Walks stop once they have the requested number of items, whatever follows, and count the bits at
+//! most once for their lengths.
 use std::hint::black_box;
 use std::time::{Duration, Instant};
 
@@ -53,7 +54,7 @@ fn items_beyond_the_first_ones_are_not_looked_for() {
 
 #[test]
 fn bits_are_counted_once_for_all_items_from_the_end() {
-    let bytes = vec![0b0101_0101; 1 << 19];
+    let bytes = vec![0b0101_0101; 1 << 20];
     let bits = Bits::from_bytes(&bytes);
     let [some, all] = [64, 640].map(|number| {
         least(|| {
