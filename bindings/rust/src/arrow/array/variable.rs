@@ -62,7 +62,8 @@ impl Array {
         self.node.ascends.load(Ordering::Relaxed)
     }
 
-    /// Returns whether each call tests the offsets of all rows again: these are a slice.
+    /// Returns whether each call tests the offsets of these rows again: they are a slice, and no call
+    /// for the whole array has tested all offsets.
     pub(in crate::arrow) fn is_tested_again(&self) -> bool {
         !self.is_tested() && self.len < self.node.len
     }

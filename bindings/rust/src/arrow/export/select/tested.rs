@@ -61,7 +61,7 @@ fn selected_texts<'a>(
     texts.map_err(of_column(field))
 }
 
-/// Returns those of one array.
+/// Returns the ranges and the bytes of the texts of one array, as [`texts`] does.
 pub(super) fn texts_of<'a>(
     field: &Field,
     of: &'a Array,
@@ -76,8 +76,8 @@ pub(super) fn texts_of<'a>(
     selected_texts(field, one, rows).map(|it| it[0])
 }
 
-/// Returns whether a test of the selected rows, one by one, is faster than one of all rows of
-/// slices. The rows of a whole array are tested once.
+/// Returns whether the rows are at most one in [`SPARSE`] of those of slices. It is then faster to
+/// test the rows one by one. The rows of a whole array are tested once for all calls.
 fn are_few(of: &[Array], rows: Rows<'_>) -> bool {
     let slices = of.iter().filter(|it| it.is_tested_again());
     let all = slices.map(Array::len).fold(0, usize::saturating_add);
