@@ -460,6 +460,7 @@ fn errors_print_once() {
 fn windows_and_bitmaps_may_cross_threads() {
     fn crosses<T: Send + Sync>() {}
     crosses::<(Bits<'_>, BitsMut<'_>, iter::ChunksMut<'_>)>();
+    crosses::<(iter::SetIndices<'_>, iter::UnsetIndices<'_>)>();
     crosses::<(Ranks<'_>, Validity<'_>)>();
     crosses::<(Bitmap, BitmapMut, Ranked<Vec<u8>>)>();
 }
