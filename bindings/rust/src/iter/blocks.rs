@@ -83,7 +83,7 @@ impl<'a, F: Find> Blocks<'a, F> {
     /// Returns the number of items in the bits that it hasn't searched, which `count` counts.
     #[cfg(vortex_bits_native)]
     #[inline]
-    pub fn unfound(&self, count: impl FnOnce(Bits<'_>) -> usize) -> usize {
+    pub fn unfound(&self, count: impl FnOnce(Bits<'a>) -> usize) -> usize {
         self.unfound.get(|| count(self.rest()))
     }
 

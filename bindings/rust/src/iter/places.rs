@@ -56,7 +56,7 @@ mod by_blocks {
 
         #[inline]
         pub fn left(&self) -> usize {
-            self.front.found() + self.front.unfound(|rest| rest.count_ones()) + self.back.len()
+            self.front.found() + self.front.unfound(Bits::count_ones) + self.back.len()
         }
 
         #[inline]
