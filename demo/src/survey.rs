@@ -199,7 +199,10 @@ impl Seen {
         }
     }
 
-    #[allow(clippy::cast_precision_loss, reason = "numbers of a column of floats are floats")]
+    #[allow(
+        clippy::cast_precision_loss,
+        reason = "numbers of a column of floats are floats"
+    )]
     fn range(&self, kind: Kind) -> Option<Range> {
         let mean = self.sum / self.numbers as f64;
         match kind {
