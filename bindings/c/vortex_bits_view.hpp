@@ -61,6 +61,7 @@ private:
     Item *items_ = nullptr;
     std::size_t count_ = 0;
 };
+template <class Item> view(Item *, std::size_t) -> view<Item>;
 template <class Item> inline constexpr bool is_borrowed<view<Item>> = true;
 
 namespace detail {
