@@ -157,7 +157,7 @@ public:
 
     /*
      * Calls `f` with the index of each set bit, in ascending order. If `f` returns a bool, the walk
-     * ends at the first false; any other result is ignored.
+     * ends at the first false; any other result is ignored. It looks for 64 set bits at once.
      */
     template <class F> void for_each_set(F f) const
     {
@@ -168,7 +168,7 @@ public:
 
     /*
      * Calls `f` with the start and the end of each maximal run of set bits. If `f` returns a bool,
-     * the walk ends at the first false; any other result is ignored.
+     * the walk ends at the first false; any other result is ignored. It looks for 64 runs at once.
      */
     template <class F> void for_each_run(F f) const
     {
