@@ -84,7 +84,7 @@ fn say_missing(archive: &Path) {
     if !archive.parent().is_some_and(Path::is_dir) {
         let watched = own_folder().join("Cargo.toml");
         let watched = watched.display();
-        println!("cargo::warning=once their folder is there: `touch {watched}`");
+        println!("cargo::warning=once their folder is there: `touch '{watched}'`");
     }
 }
 

@@ -58,12 +58,12 @@ class BuildScript(unittest.TestCase):
         self.assertIn(f"no {own}/libvortex_bits", self.build(VORTEX_BITS_NATIVE=""))
 
     def test_a_missing_folder_is_seen_after_the_command_of_the_warning(self):
-        command = f"touch {self.crate}/Cargo.toml"
+        command = f"touch '{self.crate}/Cargo.toml'"
         self.assertNotIn(command, self.build())
         for profile in ("dev", "release"):
             self.assertIn(command, self.build(profile, VORTEX_BITS_NATIVE=profile))
             (self.crate / profile).mkdir()
-            subprocess.run(command.split(), check=True)
+            subprocess.run(command, shell=True, check=True)
             said = self.build(profile, VORTEX_BITS_NATIVE=profile)
             self.assertIn("Compiling vortex_bits", said)
             self.assertNotIn(command, said)
