@@ -29,7 +29,9 @@ impl Random {
     }
 
     fn bytes(&mut self, words: usize) -> Vec<u8> {
-        (0..words).flat_map(|_| self.number().to_le_bytes()).collect()
+        (0..words)
+            .flat_map(|_| self.number().to_le_bytes())
+            .collect()
     }
 }
 
@@ -75,7 +77,11 @@ impl Pages {
         let values = random.bytes(values);
         let bytes = ByteBuffer::from(random.bytes(bits));
         let runs = runs_page(random, bits * 64, 200);
-        Pages { values, random: bytes, runs }
+        Pages {
+            values,
+            random: bytes,
+            runs,
+        }
     }
 }
 
@@ -179,7 +185,11 @@ fn rows_kept(
 
 fn index(rounds: u32, random: &mut Random, digest: &mut Digest) {
     for round in 0..rounds {
-        let rows = if round % 8 == 7 { 10_000_000 } else { 1_000_000 + random.below(1_000_000) };
+        let rows = if round % 8 == 7 {
+            10_000_000
+        } else {
+            1_000_000 + random.below(1_000_000)
+        };
         let sets: Vec<_> = (0..22)
             .map(|kind| {
                 let page = page(kind, (rows.div_ceil(64) + 8) * 64, random);

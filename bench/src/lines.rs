@@ -54,7 +54,11 @@ fn run(line: &str, slots: &mut [Option<BitBufferMut>; 16], out: &mut impl Write)
     let written = match command {
         "import" => {
             let (offset, len) = (number(words.next())?, number(words.next())?);
-            *slot = Some(BitBufferMut::from_buffer(bytes(words.next()?)?, offset, len));
+            *slot = Some(BitBufferMut::from_buffer(
+                bytes(words.next()?)?,
+                offset,
+                len,
+            ));
             writeln!(out, "ok")
         }
         "full" => {
@@ -71,7 +75,11 @@ fn run(line: &str, slots: &mut [Option<BitBufferMut>; 16], out: &mut impl Write)
         "get" => {
             let set = slot.as_ref()?;
             let place = number(words.next())?;
-            writeln!(out, "{}", u8::from((place < set.len()).then(|| set.value(place))?))
+            writeln!(
+                out,
+                "{}",
+                u8::from((place < set.len()).then(|| set.value(place))?)
+            )
         }
         "select" => match slot.as_ref()?.as_view().select(number(words.next())?) {
             Some(place) => writeln!(out, "{place}"),
@@ -79,7 +87,11 @@ fn run(line: &str, slots: &mut [Option<BitBufferMut>; 16], out: &mut impl Write)
         },
         "countrange" => {
             let (start, end) = (number(words.next())?, number(words.next())?);
-            writeln!(out, "{}", slot.as_ref()?.as_view().slice(start..end).true_count())
+            writeln!(
+                out,
+                "{}",
+                slot.as_ref()?.as_view().slice(start..end).true_count()
+            )
         }
         "bits" => bits(slot.as_ref()?, out),
         _ => return None,

@@ -208,7 +208,10 @@ impl Table {
             }
             parts[row / batch].push_random(&mut random, id);
         }
-        let batches = parts.iter().map(Rows::batch).collect::<Result<Vec<_>, _>>()?;
+        let batches = parts
+            .iter()
+            .map(Rows::batch)
+            .collect::<Result<Vec<_>, _>>()?;
         let field = batches[0].field().clone();
         let stream = ExportStream::new(field, batches.into_iter().map(Ok));
         let batches = stream.into_stream()?.collect::<Result<_, _>>()?;

@@ -115,12 +115,15 @@ fn grown(bench: &mut Bench) {
             ))));
         bench.row(row.at_most_ns_an_item(0.8));
         let ours = move || unsafe { calls::bench_appender(bools.as_ptr(), MILLION, room) };
-        let row = Row::new("`append` of an appender, a million bits", Contender::of(ours))
-            .items(MILLION)
-            .how(how)
-            .upstream(upstream!(Contender::of(move || crate::upstream::append(
-                bools, room
-            ))));
+        let row = Row::new(
+            "`append` of an appender, a million bits",
+            Contender::of(ours),
+        )
+        .items(MILLION)
+        .how(how)
+        .upstream(upstream!(Contender::of(move || crate::upstream::append(
+            bools, room
+        ))));
         bench.row(row.at_most_ns_an_item(0.8));
     }
     for before in [0, 3] {
