@@ -5,6 +5,6 @@
 /// The output of tools/digest. tools/write-lists writes it here.
 macro_rules! digest {
     () => {
-        "29ad91e1d97790cea45b321d7e1eb84f5c01da1524ef0865bc4cb88b30c8133c"
+        "daa7530d98e97bc8a760efdd3f57fe59fa60f66d8727232550a148d3c2f9f3e7"
     };
 }

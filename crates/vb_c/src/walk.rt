@@ -34,6 +34,9 @@ pub extern "C" fn vb_set_indices(
     requires window { InBytes bytes.now offset len }
     ensures { Fills (places (bits bytes.now offset len)) out.old out.new result }
 {
+    if out.is_empty() {
+        return 0;
+    }
     if out.len() < len {
         return first_indices(out, bytes, offset, len);
     }
@@ -43,15 +46,13 @@ pub extern "C" fn vb_set_indices(
     word_indices(out, read_short(bytes, offset, len), len)
 }
 
-/// Does [`vb_set_indices`] if `out` may have fewer items than there are indices.
+/// Does [`vb_set_indices`] if `out` has an item, and may have fewer than there are indices.
 #[inline(never)]
 fn first_indices(out: &mut [usize], bytes: &[u8], offset: usize, len: usize) -> usize
+    requires room { 0 < length out.old }
     requires window { InBytes bytes.now offset len }
     ensures { Fills (places (bits bytes.now offset len)) out.old out.new result }
 {
-    if out.is_empty() {
-        return 0;
-    }
     let mut written = 0;
     for place in BitIndexIterator::new(bytes, offset, len) {
         out[written] = place;
@@ -109,6 +110,9 @@ pub extern "C" fn vb_set_indices_u32(
     requires named { len ≤ 2 ^ 32 }
     ensures { Fills (places (bits bytes.now offset len)) out.old out.new result }
 {
+    if out.is_empty() {
+        return 0;
+    }
     if out.len() < len {
         return first_indices_u32(out, bytes, offset, len);
     }
@@ -118,16 +122,14 @@ pub extern "C" fn vb_set_indices_u32(
     word_indices_u32(out, read_short(bytes, offset, len), len)
 }
 
-/// Does [`vb_set_indices_u32`] if `out` may have fewer items than there are indices.
+/// Does [`vb_set_indices_u32`] if `out` has an item, and may have fewer than there are indices.
 #[inline(never)]
 fn first_indices_u32(out: &mut [u32], bytes: &[u8], offset: usize, len: usize) -> usize
+    requires room { 0 < length out.old }
     requires window { InBytes bytes.now offset len }
     requires named { len ≤ 2 ^ 32 }
     ensures { Fills (places (bits bytes.now offset len)) out.old out.new result }
 {
-    if out.is_empty() {
-        return 0;
-    }
     let mut written = 0;
     for place in BitIndexIterator::new(bytes, offset, len) {
         out[written] = place as u32;
