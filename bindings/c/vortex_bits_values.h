@@ -1,8 +1,7 @@
 /*
  * Values of 1, 2, 4, 8 or 16 bytes, selected by a mask, also in place, or by indices, or scattered
- * by a mask.
- * vortex_bits.h includes this file; its first comment states what the caller must ensure for every
- * call.
+ * by a mask. vortex_bits.h includes this file; its first comment states what the caller must ensure
+ * for every call.
  */
 #ifndef VORTEX_BITS_VALUES_H
 #define VORTEX_BITS_VALUES_H
