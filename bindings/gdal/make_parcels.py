@@ -70,7 +70,8 @@ def make(file: Path, rows: int) -> None:
 def main() -> int:
     words = sys.argv[1:]
     # isdigit() also holds for digits that int() doesn't read, as a superscript.
-    if len(words) not in (1, 2) or not all(re.fullmatch("[0-9]{1,18}", it) for it in words[1:]):
+    are_numbers = all(re.fullmatch("[0-9]{1,18}", it) for it in words[1:])
+    if len(words) not in (1, 2) or words[0].startswith("-") or not are_numbers:
         print(__doc__)
         return 2
     make(Path(words[0]), int(words[1]) if len(words) == 2 else 120)
