@@ -81,7 +81,7 @@ pub(crate) mod sealed {
 ///
 /// # Panics
 ///
-/// If `mask` isn't as long as the values.
+/// Panics if `mask` isn't as long as the values.
 #[doc(alias("sum", "total"))]
 #[inline]
 #[must_use]
@@ -103,7 +103,7 @@ pub fn masked_float_sum<T: Float>(values: &[T], mask: impl Mask) -> T {
 ///
 /// # Panics
 ///
-/// If `mask` isn't as long as the values.
+/// Panics if `mask` isn't as long as the values.
 #[doc(alias("min", "minimum"))]
 #[inline]
 #[must_use]
@@ -124,7 +124,7 @@ pub fn masked_float_min<T: Float>(values: &[T], mask: impl Mask) -> Option<T> {
 ///
 /// # Panics
 ///
-/// If `mask` isn't as long as the values.
+/// Panics if `mask` isn't as long as the values.
 #[doc(alias("max", "maximum"))]
 #[inline]
 #[must_use]
