@@ -8,7 +8,7 @@ use crate::{Mask, Value, kernels};
     message = "values of `{Self}` are neither summed nor ordered",
     label = "values are whole numbers",
     note = "for floats call `values::masked_float_min`, `masked_float_max` and `masked_float_sum`",
-    note = "those of another type go by their places: `mask.set_indices().map(|row| values[row])`"
+    note = "select those of another type by index: `mask.set_indices().map(|row| values[row])`"
 )]
 pub trait Summand: Value + Ord + sealed::Summand {}
 
@@ -233,7 +233,7 @@ pub(crate) mod sealed {
 ///
 /// # Panics
 ///
-/// If `mask` isn't as long as the values.
+/// Panics if `mask` isn't as long as the values.
 #[doc(alias("sum", "total"))]
 #[inline]
 #[must_use]
@@ -255,7 +255,7 @@ pub fn masked_sum<T: WideSummand>(values: &[T], mask: impl Mask) -> T::Total {
 ///
 /// # Panics
 ///
-/// If `mask` isn't as long as the values.
+/// Panics if `mask` isn't as long as the values.
 #[doc(alias("sum", "sum_checked", "checked_add"))]
 #[inline]
 #[must_use]
@@ -276,7 +276,7 @@ pub fn masked_checked_sum<T: WideSummand>(values: &[T], mask: impl Mask) -> Opti
 ///
 /// # Panics
 ///
-/// If `mask` isn't as long as the values.
+/// Panics if `mask` isn't as long as the values.
 #[doc(alias("sum", "wrapping_add"))]
 #[inline]
 #[must_use]
@@ -298,7 +298,7 @@ pub fn masked_wrapping_sum<T: Summand>(values: &[T], mask: impl Mask) -> T {
 ///
 /// # Panics
 ///
-/// If `mask` isn't as long as the values.
+/// Panics if `mask` isn't as long as the values.
 #[doc(alias("min", "minimum"))]
 #[inline]
 #[must_use]
@@ -319,7 +319,7 @@ pub fn masked_min<T: Summand>(values: &[T], mask: impl Mask) -> Option<T> {
 ///
 /// # Panics
 ///
-/// If `mask` isn't as long as the values.
+/// Panics if `mask` isn't as long as the values.
 #[doc(alias("max", "maximum"))]
 #[inline]
 #[must_use]

@@ -247,7 +247,7 @@ impl Bitmap {
     /// use vortex_bits::Bitmap;
     ///
     /// let refused = Bitmap::try_from_indices(5, &[4, -1]).unwrap_err();
-    /// assert_eq!(refused.to_string(), "index -1 at position 1 is no place of 5 bits");
+    /// assert_eq!(refused.to_string(), "index -1 at position 1 names none of 5 bits");
     /// ```
     ///
     /// # Errors

@@ -244,7 +244,7 @@ impl<'a> BitsMut<'a> {
     pub fn set(&mut self, place: usize, value: bool) {
         assert!(
             place < self.len,
-            "place {place} is not among {} bits",
+            "index {place} is not among {} bits",
             self.len
         );
         let bit = self.offset + place;
@@ -367,7 +367,7 @@ impl<'a> BitsMut<'a> {
     pub fn copy_within(&mut self, source: impl RangeBounds<usize>, dest: usize) {
         let (all, (from, len)) = (self.len, expect(within(&source, self.len)));
         let fits = dest <= all && len <= all - dest;
-        assert!(fits, "no place for {len} of {all} bits from {dest} on");
+        assert!(fits, "{len} bits from index {dest} on end past {all} bits");
         kernels::copy_within(&mut self.written(), from, dest, len);
     }
 

@@ -112,7 +112,7 @@ impl Error for TakeError {}
 fn no_place(f: &mut fmt::Formatter<'_>, position: usize, index: i128, len: usize) -> fmt::Result {
     write!(
         f,
-        "index {index} at position {position} is no place of {len} bits"
+        "index {index} at position {position} names none of {len} bits"
     )
 }
 
@@ -258,12 +258,12 @@ pub enum SplitError {
 impl fmt::Display for SplitError {
     fn fmt(&self, f: &mut fmt::Formatter<'_>) -> fmt::Result {
         match self {
-            SplitError::Past { place, len } => write!(f, "place {place} is past {len} bits"),
+            SplitError::Past { place, len } => write!(f, "index {place} is past {len} bits"),
             SplitError::WithinByte { place, bit } => {
                 let byte = bit / 8;
                 write!(
                     f,
-                    "place {place} is bit {bit} of the bytes, within byte {byte}"
+                    "index {place} is bit {bit} of the bytes, within byte {byte}"
                 )
             }
         }

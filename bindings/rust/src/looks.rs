@@ -112,7 +112,7 @@ impl Bits<'_> {
         match self.get(place) {
             Some(true) => &true,
             Some(false) => &false,
-            None => panic!("place {place} is not among {} bits", self.len()),
+            None => panic!("index {place} is not among {} bits", self.len()),
         }
     }
 }

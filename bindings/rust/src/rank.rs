@@ -201,5 +201,5 @@ impl<'a> Ranks<'a> {
 #[inline(never)]
 #[track_caller]
 fn past(place: usize, len: usize) -> ! {
-    panic!("place {place} is past {len} bits")
+    panic!("index {place} is past {len} bits")
 }

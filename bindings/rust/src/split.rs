@@ -53,7 +53,7 @@ impl BitsMut<'_> {
     /// let mut bits = BitsMut::new(&mut bytes, 3, 10);
     /// assert!(bits.try_split_at_mut(5).is_ok());
     /// let refused = bits.try_split_at_mut(6).unwrap_err();
-    /// assert_eq!(refused.to_string(), "place 6 is bit 9 of the bytes, within byte 1");
+    /// assert_eq!(refused.to_string(), "index 6 is bit 9 of the bytes, within byte 1");
     /// ```
     #[inline]
     pub fn try_split_at_mut(

@@ -322,7 +322,7 @@ impl Validity<'_> {
     /// use vortex_bits::{TakeError, Validity};
     ///
     /// let refused = Validity::new(None, 4).try_take(&[3u32, 4]).unwrap_err();
-    /// assert_eq!(refused.to_string(), "index 4 at position 1 is no place of 4 bits");
+    /// assert_eq!(refused.to_string(), "index 4 at position 1 names none of 4 bits");
     /// ```
     ///
     /// # Errors

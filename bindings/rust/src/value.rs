@@ -7,7 +7,7 @@
 #[diagnostic::on_unimplemented(
     message = "values of `{Self}` are neither filtered nor taken",
     label = "values are whole numbers, floats, or arrays of these",
-    note = "those of another type go by their places: `mask.set_indices().map(|row| &values[row])`"
+    note = "select those of another type by index: `mask.set_indices().map(|row| &values[row])`"
 )]
 pub trait Value: sealed::Value {}
 

@@ -124,7 +124,7 @@ fn single_bits_have_their_ends() {
     );
     assert_eq!(bits.get(usize::MAX), None);
     assert!(bits[6] && !bits[5]);
-    let past = Some("place 7 is not among 7 bits".to_string());
+    let past = Some("index 7 is not among 7 bits".to_string());
     assert_eq!(panics(|| assert!(bits[7])), past);
     let mut bytes = [0];
     assert_eq!(panics(|| BitsMut::new(&mut bytes, 1, 7).set(7, true)), past);
@@ -144,8 +144,9 @@ fn bits_and_values_move_only_within_their_window() {
         assert_eq!(copy, [0x5A; 2]);
         text
     };
-    let no_room =
-        |bits: usize, dest: usize| Some(format!("no place for {bits} of 9 bits from {dest} on"));
+    let no_room = |bits: usize, dest: usize| {
+        Some(format!("{bits} bits from index {dest} on end past 9 bits"))
+    };
     assert_eq!(refused(0..9, 1), no_room(9, 1));
     assert_eq!(refused(4..6, 8), no_room(2, 8));
     assert_eq!(refused(2..2, 10), no_room(0, 10));
@@ -242,7 +243,7 @@ fn takes_want_a_bit_for_each_index_and_name_the_first_bad_one() {
     let text = panics(|| bits.take_into(&[15u64], BitsMut::new(&mut [0], 0, 1)));
     assert_eq!(
         text.as_deref(),
-        Some("index 15 at position 0 is no place of 15 bits")
+        Some("index 15 at position 0 names none of 15 bits")
     );
 }
 
@@ -263,7 +264,7 @@ fn ranks_want_a_table_and_places_of_the_window() {
     assert_eq!(ranks.try_rank(1598), None);
     assert_eq!(
         panics(|| assert_eq!(ranks.rank(1598), 0)).unwrap(),
-        "place 1598 is past 1597 bits"
+        "index 1598 is past 1597 bits"
     );
     assert_eq!([ranks.select(0), ranks.select(800)], [Some(1), None]);
     assert_eq!(ranks.select_unset(usize::MAX), None);
@@ -396,7 +397,7 @@ fn bitmaps_grow_in_aligned_bytes_and_share_what_they_had() {
     rows.truncate(20_000);
     assert_eq!(rows.len(), 10_000);
     let text = panics(|| rows.set(10_000, true));
-    assert_eq!(text.as_deref(), Some("place 10000 is not among 10000 bits"));
+    assert_eq!(text.as_deref(), Some("index 10000 is not among 10000 bits"));
 }
 
 #[test]
@@ -447,7 +448,7 @@ fn errors_print_once() {
     ];
     let texts = [
         "the 8 bits from bit 1 on are not among 8 bits",
-        "index 9 at position 7 is no place of 8 bits",
+        "index 9 at position 7 names none of 8 bits",
         "a table of 0 entries for 1 blocks",
     ];
     for (error, text) in errors.into_iter().zip(texts) {

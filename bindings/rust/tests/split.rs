@@ -117,12 +117,12 @@ fn splits_within_a_byte_or_past_the_end_are_refused_by_name() {
     let far = bits.try_split_at_mut(usize::MAX).unwrap_err();
     assert_eq!(
         far.to_string(),
-        format!("place {} is past 30 bits", usize::MAX)
+        format!("index {} is past 30 bits", usize::MAX)
     );
     let texts = [14, 12, 31].map(|mid| panics(|| _ = bits.split_at_mut(mid)).unwrap());
-    assert_eq!(texts[0], "place 14 is bit 25 of the bytes, within byte 3");
-    assert_eq!(texts[1], "place 12 is bit 23 of the bytes, within byte 2");
-    assert_eq!(texts[2], "place 31 is past 30 bits");
+    assert_eq!(texts[0], "index 14 is bit 25 of the bytes, within byte 3");
+    assert_eq!(texts[1], "index 12 is bit 23 of the bytes, within byte 2");
+    assert_eq!(texts[2], "index 31 is past 30 bits");
     for of in [0, 4, 12, usize::MAX] {
         let text = panics(|| _ = bits.chunks_mut(of));
         assert_eq!(text, Some(format!("parts of {of} bits aren't whole bytes")));

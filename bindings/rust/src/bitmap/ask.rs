@@ -375,7 +375,7 @@ impl<B: AsRef<[u8]>> Bitmap<B> {
     /// use vortex_bits::Bitmap;
     ///
     /// let refused = Bitmap::from([true, false]).try_take(&[1u32, 2]).unwrap_err();
-    /// assert_eq!(refused.to_string(), "index 2 at position 1 is no place of 2 bits");
+    /// assert_eq!(refused.to_string(), "index 2 at position 1 names none of 2 bits");
     /// ```
     ///
     /// # Errors

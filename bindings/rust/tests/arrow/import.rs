@@ -303,7 +303,7 @@ fn indices_and_their_dictionary_are_reached() {
     let error = valid.try_take(indices).unwrap_err();
     assert_eq!(
         error.to_string(),
-        "index -1 at position 1 is no place of 3 bits"
+        "index -1 at position 1 names none of 3 bits"
     );
     let of = rows.slice(2..);
     let taken = valid.take_valid(of.values::<i8>().unwrap(), of.validity().unwrap());

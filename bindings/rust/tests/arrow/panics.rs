@@ -95,7 +95,7 @@ fn refusals_of_windows_are_errors_of_streams() {
     );
     assert_eq!(
         said[1],
-        "errno 22: index 3 at position 0 is no place of 3 bits"
+        "errno 22: index 3 at position 0 names none of 3 bits"
     );
     assert_eq!(
         said[2],
@@ -103,7 +103,7 @@ fn refusals_of_windows_are_errors_of_streams() {
     );
     assert_eq!(
         said[3],
-        "errno 22: index 9 at position 0 is no place of 9 bits"
+        "errno 22: index 9 at position 0 names none of 9 bits"
     );
     assert_eq!(said[4], "errno 22: code 5 of row 1 names none of 2 groups");
     let error = ArrowError::from(grouped());

@@ -242,8 +242,8 @@ fn refused(which: usize) -> Result<(), ArrowError> {
 fn refusals_of_windows_and_values_are_errors_of_arrays() {
     let texts = [
         "index 1 at position 0 names none of 1 values",
-        "index 3 at position 0 is no place of 3 bits",
-        "index 3 at position 0 is no place of 3 bits",
+        "index 3 at position 0 names none of 3 bits",
+        "index 3 at position 0 names none of 3 bits",
         "the 2 rows from row 1 on are not among 1 rows",
     ];
     for (which, text) in texts.into_iter().enumerate() {
