@@ -102,6 +102,8 @@ WRONG = [
      '--where: "1x" isn\'t a number\n  size = 1x\n         ^\n'),
     (["t.csv", "--where", "size ! 1\r\nor rank = 1"],
      "--where: '!' begins no word of a condition\n  size ! 1\u240d\n       ^\n"),
+    (["t.csv", "--select", "sum(", "--where", "size >"],
+     "--where: a column, a number or a text is wanted here\n  size >\n        ^\n"),
     (["t.csv", "--select", "sum(size"], '--select: ")" is wanted here\n  sum(size\n          ^\n'),
 ]
 # Files that aren't CSV, and their messages.

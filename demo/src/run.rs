@@ -100,7 +100,8 @@ impl<'a> Query<'a> {
         let condition = options
             .condition
             .as_ref()
-            .map(|text| query::condition(text).map_err(|error| error.of("--where", text)));
+            .map(|text| query::condition(text).map_err(|error| error.of("--where", text)))
+            .transpose()?;
         let answers = match &options.print {
             Print::Answers(text) => {
                 query::selection(text).map_err(|error| error.of("--select", text))?
@@ -113,7 +114,7 @@ impl<'a> Query<'a> {
             .map(|text| query::column_names(text).map_err(|error| error.of("--columns", text)));
         Ok(Query {
             options,
-            condition: condition.transpose()?,
+            condition,
             answers,
             columns: columns.transpose()?,
         })

@@ -68,7 +68,7 @@ fn errors_of_the_file_name_the_line_and_the_column() {
 }
 
 /// Options that don't fit the parcels, and the error.
-const BAD_QUERIES: [(&[&str], &str); 10] = [
+const BAD_QUERIES: [(&[&str], &str); 11] = [
     (
         &["--where", "city ! 1\r\nor days = 1"],
         "--where: '!' begins no word of a condition\n  city ! 1\u{240D}\n       ^",
@@ -115,6 +115,10 @@ const BAD_QUERIES: [(&[&str], &str); 10] = [
     ),
     (
         &["--where", "cents >"],
+        "--where: a column, a number or a text is wanted here\n  cents >\n         ^",
+    ),
+    (
+        &["--where", "cents >", "--select", "sum("],
         "--where: a column, a number or a text is wanted here\n  cents >\n         ^",
     ),
 ];
