@@ -102,9 +102,9 @@ pub(crate) fn make_room_for<A: Allocator + Clone>(
 /// Does the work of [`make_room_for`] for at least one bit if the set is too full or has no bits.
 /// Allocates nothing for the counts if they already have the space.
 ///
-/// A set that is too full gets at least twice the bytes, so that a bit takes amortized constant
-/// time. The call allocates the counts first, so that the capacity of the set does not change if
-/// that fails.
+/// A set that is too full gets capacity for at least twice the bits, so that a bit takes amortized
+/// constant time. The call allocates the counts first, so that the capacity of the set does not
+/// change if that fails.
 #[cold]
 fn ask_for_room<A: Allocator + Clone>(
     set: &mut BitBufferMut<A>,

@@ -21,10 +21,10 @@ impl<A: Allocator + Clone> Ranked<A> {
     /// returns `OutOfMemory` if memory runs out. The set and its capacity are unchanged on error.
     /// If the set has bits, and the length plus `n` is at most [`capacity`](Self::capacity), the
     /// call does not allocate, succeeds, and the capacity does not change. If a set without bits
-    /// has this capacity, the call may allocate the counts alone. Otherwise it allocates twice the
-    /// bytes that the bits need, but at least 8, and more if `n` bits need them; and the counts for
-    /// the new capacity, unless there is space for them. No clause states the capacity of the
-    /// counts.
+    /// has this capacity, the call may allocate the counts alone. Otherwise it allocates the bytes
+    /// of twice the bits (offset plus length), but at least 8 bytes, and more if `n` bits need
+    /// them; and the counts for the new capacity, unless there is space for them. No clause states
+    /// the capacity of the counts.
     pub fn reserve(&mut self, n: usize) -> Result<()>
         ensures keeps { self.new ≡ record self.old { room = self.new.room } }
         ensures room { OnOk result (length self.old.bits + n ≤ self.new.room) }
