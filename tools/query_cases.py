@@ -61,6 +61,9 @@ WRONG = [
     (["t.csv", "--histogram", "name"],
      "--histogram: this column is text; one of numbers is wanted; --type COLUMN=float" + READS +
      "\n  name\n  ^\n"),
+    (["t.csv", "--rows", "--svg", "picture.svg", "--histogram", "name"],
+     "--histogram: this column is text; one of numbers is wanted; --type COLUMN=float" + READS +
+     "\n  name\n  ^\n"),
     (["t.csv", "--type", "name=whole"],
      't.csv:2: column "name": "a" is not a whole number of 64 bits, the type of this column\n'),
     (["t.csv", "--columns", "size"],

@@ -70,6 +70,8 @@ pub fn run(options: &Options) -> Result<Outcome, Error> {
         columns,
         histogram,
     };
+    // An error of the histogram's column comes before the header of the rows.
+    run.histogram()?;
     match &options.print {
         Print::Report => run.report(),
         Print::Answers(_) => run.answers(&query.answers, &list),

@@ -131,6 +131,16 @@ fn errors_of_a_query_point_at_their_place() {
     }
 }
 
+#[test]
+fn an_error_of_the_histogram_comes_before_the_rows() {
+    let folder = Folder::new("histogram");
+    let picture = folder.path("picture.svg");
+    let picture = ["--svg", picture.to_str().unwrap(), "--histogram", "city"];
+    let output = run(Path::new(PARCELS), &[&["--rows"][..], &picture].concat());
+    assert_eq!(output.status.code(), Some(2));
+    assert_eq!(String::from_utf8(output.stdout).unwrap(), "");
+}
+
 /// Options that fit no file, and the error.
 const BAD_OPTIONS: [(&[&str], &str); 14] = [
     (&["--size"], "there is no option --size"),
