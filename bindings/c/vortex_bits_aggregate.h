@@ -1,7 +1,6 @@
 /*
- * Sum, minimum and maximum of the values that a mask selects, and counts and sums by group.
- * vortex_bits.h includes this file; its first comment states what the caller must ensure for every
- * call.
+ * Sum, minimum and maximum of values that a mask selects; counts and sums by group. vortex_bits.h
+ * includes this file; its first comment states what the caller must ensure for every call.
  *
  * Value k is selected if bit `mask_offset + k` of `mask` is set; the mask must have one bit for
  * each of the `values_count` values. Each call processes 64 values at a time, skips them if none is
@@ -18,9 +17,10 @@ extern "C" {
 
 /*
  * A signed number of 128 bits: low + high * 2^64. If `high` is 0, the number is `low`; if `high` is
- * negative, so is the number. As an __int128, a vb_i128 `it` is
- * (__int128)((unsigned __int128)it.high << 64 | it.low), with __extension__ before each type if
- * -Wpedantic is set.
+ * negative, so is the number. As an __int128, with __extension__ for -Wpedantic:
+ *
+ *     const vb_i128 it = {UINT64_MAX, -1};
+ *     assert(__extension__ (__int128)((unsigned __int128)it.high << 64 | it.low) == -1);
  */
 typedef struct {
     uint64_t low;
