@@ -179,6 +179,8 @@ WHOLE = {"unsigned": UNSIGNED, "signed": SIGNED}
 VALUES = [U8, U16, U32, U64, U128]
 INDICES = [U8, U16, U32, U64]
 COMPARED = [*INDICES, I8, I16, I32, I64, *FLOATS]
+# The types of the indices that C writes to memory, by the ending of its functions' names.
+LISTED = {"": USIZE, "_u32": U32}
 # The types of codes of groups in C and C++.
 CODES = [U8, U16, U32]
 # The types that C has sums of, and the same by the name of the file that has them.

@@ -5,6 +5,6 @@
 /// The output of tools/digest. tools/write-lists writes it here.
 macro_rules! digest {
     () => {
-        "daa7530d98e97bc8a760efdd3f57fe59fa60f66d8727232550a148d3c2f9f3e7"
+        "076afe725b8e18f2fb854bb1a2ae385acab68b93bbef61d54c5c761706b123b1"
     };
 }

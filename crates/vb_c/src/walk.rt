@@ -1,3 +1,4 @@
+// Written in part by tools/write-lists from tools/families/indices.txt.
 //! Indices and runs of set bits, written to the caller's memory.
 ghost use Rattle.std.specs.Prelude.{◌≡◌, ◌^◌, ◌<◌, ◌≤◌, length, map};
 ghost use Rattle.vb_bits.specs.Bits.{bits, places};

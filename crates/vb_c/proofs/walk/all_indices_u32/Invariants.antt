@@ -1,3 +1,4 @@
+-- Written by tools/write-lists from tools/families/indices.txt.
 use Rattle.std.proofs.Common.{◌≡◌, ◌+◌, ◌<◌, ◌≤◌, ◌++◌, length, drop}
 use Rattle.std.specs.List.{All}
 use Rattle.vb_bits.specs.Bits.{bits, places}

@@ -1,3 +1,4 @@
+-- Written by tools/write-lists from tools/families/indices.txt.
 use Rattle.std.proofs.Common.{◌≡◌, ◌<◌, ◌++◌, length, drop}
 use Rattle.vb_bits.specs.Bits.{bits, places}
 use Rattle.vb_c.proofs.walk.first_indices.Given as goal

@@ -1,3 +1,4 @@
+-- Written by tools/write-lists from tools/families/indices.txt.
 use Rattle.std.proofs.Common.{◌+◌, ◌<◌, ◌++◌, ◌∷◌, [], sym, ap, ◌∙◌, arith}
 use Rattle.std.proofs.lemmas.List.Elements.{All-rest}
 use Rattle.std.proofs.lemmas.List.{append_assoc, length-append, length-set}

@@ -1,3 +1,4 @@
+-- Written by tools/write-lists from tools/families/indices.txt.
 use Rattle.vb_c.proofs.OnesLemmas.{WritesOnes}
 use Rattle.vb_c.proofs.walk.word_indices.Given as goal
 

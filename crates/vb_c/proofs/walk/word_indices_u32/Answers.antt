@@ -1,3 +1,4 @@
+-- Written by tools/write-lists from tools/families/indices.txt.
 use Rattle.std.proofs.Common.{◌<◌, arith}
 use Rattle.vb_c.proofs.OnesLemmas.{writes_none, writes_one, writes_all, room_for_one}
 use Rattle.vb_c.proofs.walk.word_indices_u32.Goals as goal
