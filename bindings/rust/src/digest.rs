@@ -5,6 +5,6 @@
 /// The output of tools/digest. tools/write-lists writes it here.
 macro_rules! digest {
     () => {
-        "076afe725b8e18f2fb854bb1a2ae385acab68b93bbef61d54c5c761706b123b1"
+        "58070124df72c13ff3f775573ae746c63ab4f47be8aee139eeef8baedb9c7aa0"
     };
 }

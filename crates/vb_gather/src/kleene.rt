@@ -1,3 +1,4 @@
+// Written in part by tools/write-lists from tools/families/kleene.txt.
 //! Three-valued logic on truth values that may be null.
 ghost use Rattle.std.specs.Prelude.{◌≡◌, [], ◌∷◌, length};
 ghost use Rattle.std.specs.Option.{ForSome, option_map};

@@ -1,3 +1,4 @@
+// Written in part by tools/write-lists from tools/families/kleene.txt.
 //! `and` and `or` of truth values that may be null, into bits.
 ghost use Rattle.std.specs.Prelude.{◌≡◌, true, length, map, is_some};
 ghost use Rattle.std.specs.Option.{ForSome, option_map};

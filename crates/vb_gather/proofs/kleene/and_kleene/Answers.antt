@@ -1,3 +1,4 @@
+-- Written by tools/write-lists from tools/families/kleene.txt.
 use Rattle.vb_view.specs.View.{bits_of}
 use Rattle.vb_kleene.specs.Kleene.{and_truths}
 use Rattle.vb_gather.proofs.KleeneLemmas.{column_made}

@@ -1,3 +1,4 @@
+-- Written by tools/write-lists from tools/families/kleene.txt.
 use Rattle.std.proofs.Common.{◌≡◌, [], ◌∷◌, length, None, Some, sym, subst, ◌∙◌}
 use Rattle.std.specs.Option.{ForSome, option_map}
 use Rattle.vb_view.specs.View.{bits_of}

@@ -1,3 +1,4 @@
+-- Written by tools/write-lists from tools/families/kleene.txt.
 use Rattle.std.proofs.Common.{not, ap, ◌∙◌}
 use Rattle.vb_kleene.proofs.ColumnLemmas.{answered_by, answered_known}
 use Rattle.vb_kleene.proofs.KleeneLemmas.{and_combined, trues_of, valid_of}
