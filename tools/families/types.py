@@ -190,8 +190,9 @@ SUMMED = {name: [it for it in AGGREGATED if it in numbers] for name, numbers in 
 OPTIONAL = [*AGGREGATED, *FLOATS]
 # The least and the greatest value: the name of the call, the word for it, and its definition.
 EXTREMES = [("min", "least", "LeastOf"), ("max", "greatest", "GreatestOf")]
-# The same of floats, with the order in which the result is the first number.
-FLOAT_EXTREMES = [("min", "least", "upwards"), ("max", "greatest", "downwards")]
+# The same of floats, with the order in which the result is the first number, and where a number is
+# that precedes another one in it.
+FLOAT_EXTREMES = [("min", "least", "upwards", "below"), ("max", "greatest", "downwards", "above")]
 # The types that processors have vectors of.
 LANES = {name: [it for it in numbers if it.bits < 128] for name, numbers in WHOLE.items()}
 # The comparisons of floats, by the name of the call and by that of IEEE 754.

@@ -1,3 +1,4 @@
+// Written in part by tools/write-lists from tools/families/masked_floats.txt.
 //! The least and the greatest number among the floats that a mask selects.
 ghost use Rattle.std.specs.Prelude.{◌≡◌, List, ◌++◌, length, IsTrue, MatchOption};
 ghost use Rattle.vb_aggregate.specs.Floats.{AreNan, IsFirstNumber, IsFirstSoFar};

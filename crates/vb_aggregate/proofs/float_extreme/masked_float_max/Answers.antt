@@ -1,3 +1,4 @@
+-- Written by tools/write-lists from tools/families/masked_floats.txt.
 use Rattle.std.proofs.Common.{[], sym, ◌∙◌}
 use Rattle.vb_bits.specs.Kept.{kept_by}
 use Rattle.vb_view.specs.View.{bits_of}

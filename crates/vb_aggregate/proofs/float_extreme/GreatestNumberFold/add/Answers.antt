@@ -1,3 +1,4 @@
+-- Written by tools/write-lists from tools/families/masked_floats.txt.
 use Rattle.std.proofs.Common.{sym, ◌∙◌}
 use Rattle.std.proofs.lemmas.Bool.{false≢true}
 use Rattle.vb_aggregate.proofs.FloatsLemmas.{first_taken, first_passed, first_stays_one}

@@ -1,3 +1,4 @@
+-- Written by tools/write-lists from tools/families/masked_floats.txt.
 use Rattle.vb_aggregate.proofs.FloatsLemmas.{NoneFound}
 use Rattle.vb_aggregate.specs.Floats.{downwards}
 use Rattle.vb_aggregate.proofs.float_extreme.GreatestNumberSearch.stays.Given as goal

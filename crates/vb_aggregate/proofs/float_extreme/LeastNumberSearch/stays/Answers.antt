@@ -1,3 +1,4 @@
+-- Written by tools/write-lists from tools/families/masked_floats.txt.
 use Rattle.std.proofs.Common.{◌<◌, length, sym, ◌∙◌, arith}
 use Rattle.vb_aggregate.proofs.FloatsLemmas.{found_more, found_none}
 use Rattle.vb_aggregate.specs.Floats.{upwards}

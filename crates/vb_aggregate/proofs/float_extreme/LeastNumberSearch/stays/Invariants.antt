@@ -1,3 +1,4 @@
+-- Written by tools/write-lists from tools/families/masked_floats.txt.
 use Rattle.vb_aggregate.proofs.FloatsLemmas.{NoneFound}
 use Rattle.vb_aggregate.specs.Floats.{upwards}
 use Rattle.vb_aggregate.proofs.float_extreme.LeastNumberSearch.stays.Given as goal
