@@ -197,6 +197,24 @@ FLOAT_EXTREMES = [("min", "least", "upwards", "below"), ("max", "greatest", "dow
 LANES = {name: [it for it in numbers if it.bits < 128] for name, numbers in WHOLE.items()}
 # The comparisons of floats, by the name of the call and by that of IEEE 754.
 FLOAT_TESTS = {"equal": "eq", "not_equal": "ne", "less": "lt", "less_or_equal": "le"}
+# The comparisons of floats that are types: the name, the call that has the result, its sides, and
+# the words of docstrings.
+FLOAT_COMPARISONS = [
+    ("Equal", "equal", "left", "right", "two values are equal"),
+    ("NotEqual", "not_equal", "left", "right", "two values aren't equal"),
+    ("Less", "less", "left", "right", "left value is less than the right one"),
+    ("LessOrEqual", "less_or_equal", "left", "right",
+     "left value is less than the right one, or equal to it"),
+    ("Greater", "less", "right", "left", "left value is greater than the right one"),
+    ("GreaterOrEqual", "less_or_equal", "right", "left",
+     "left value is greater than the right one, or equal to it"),
+]
+# The results of comparisons of whole numbers and of floats: the file, the type's trait, its function
+# to numbers of contracts, the word for a value, and whether 64 of them are faster one by one.
+TRUTHS = [
+    ("truths", "CompareLanes", "number", "value", "T::SIZE >= 8"),
+    ("floats/truths", "FloatLanes", "float", "float", "false"),
+]
 # The operators of two floats, by the name of the call.
 FLOAT_SIGNS = {"equal": "==", "not_equal": "!=", "less": "<", "less_or_equal": "<="}
 

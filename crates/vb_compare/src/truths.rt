@@ -1,3 +1,4 @@
+// Written in part by tools/write-lists from tools/families/lanes.txt.
 //! The results of a comparison of values, one or 64 at a time.
 ghost use Rattle.std.specs.Prelude.{◌≡◌, ◌+◌, ◌<◌, ◌≤◌, Bool, List, length, map, take, drop};
 ghost use Rattle.std.specs.Simd.Lanes.{zip2};

@@ -1,3 +1,4 @@
+// Written in part by tools/write-lists from tools/families/lanes.txt.
 //! 64 values of `f64`, compared eight at a time.
 //!
 //! For a comparison of 64 values at once the compiler builds code that tests each result again

@@ -1,3 +1,4 @@
+// Written in part by tools/write-lists from tools/families/lanes.txt.
 //! The comparisons as types.
 ghost use Rattle.std.specs.Prelude.{◌≡◌, Bool};
 ghost use Rattle.std.specs.Simd.Lanes.{zip2};

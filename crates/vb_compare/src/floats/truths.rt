@@ -1,3 +1,4 @@
+// Written in part by tools/write-lists from tools/families/lanes.txt.
 //! The results of a comparison of floats, one or 64 at a time.
 //!
 //! [`FloatLanes`] computes words for `f64` too, unlike `CompareLanes` for whole numbers of 64 bits:

@@ -1,3 +1,4 @@
+-- Written by tools/write-lists from tools/families/lanes.txt.
 use mir.Syntax.{w64}
 use lib.Ieee.{ne}
 use Rattle.vb_compare.proofs.EightLemmas.{digits_of_eight, clear_of_eight}

@@ -1,3 +1,4 @@
+-- Written by tools/write-lists from tools/families/lanes.txt.
 use Rattle.std.proofs.Common.{◌∙◌}
 use lib.Ieee.{lt}
 use Rattle.vb_compare.proofs.TruthLemmas.{flipped}

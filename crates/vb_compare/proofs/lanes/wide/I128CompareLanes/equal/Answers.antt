@@ -1,3 +1,4 @@
+-- Written by tools/write-lists from tools/families/lanes.txt.
 use Rattle.std.proofs.Common.{pos, int_eq, ◌∙◌, arith}
 use Rattle.vb_compare.proofs.LaneLemmas.{compared_each}
 use Rattle.vb_compare.proofs.lanes.wide.I128CompareLanes.equal.Goals as goal

@@ -1,3 +1,4 @@
+-- Written by tools/write-lists from tools/families/lanes.txt.
 use Rattle.std.proofs.Common.{◌≡◌, ℕ, pos, int_eq, ◌<◌, false, length, get_or}
 use Rattle.vb_compare.proofs.lanes.wide.I128CompareLanes.equal.Given as goal
 
