@@ -1,3 +1,4 @@
+// Written in part by tools/write-lists from tools/families/ranked.txt.
 //! A set of bits with its counts.
 ghost use Rattle.std.specs.Prelude.{◌≡◌, ◌+◌, ◌/◌, ◌%◌, ◌^◌, ◌<◌, ◌≤◌, ◌∷◌, [], length, take, drop};
 ghost use Rattle.std.specs.Prelude.{◌==◌, slice_get, slice_set, Some, IfOk, IsOkUnless};
@@ -140,6 +141,7 @@ impl<A: Allocator + Clone> Ranked<A> {
         self.into_inner().freeze()
     }
 
+    // Written by tools/write-lists from tools/families/ranked.txt.
     /// Returns the number of true bits among the first `i` bits, as `rank_by` does with a table of
     /// the set. `i` must be at most the length. Reads at most two counts and the bits of one block;
     /// no count if `i` is 0 or the set has at most 512 bits.
@@ -219,6 +221,7 @@ impl<A: Allocator + Clone> Ranked<A> {
         self.select_unset_many(ranks, places);
         Ok(())
     }
+    // To here.
 
     /// Sets the bit at index `i`, which must be below the length, to `v`, and adjusts the counts.
     /// No other bit of the bytes changes. Does not allocate.

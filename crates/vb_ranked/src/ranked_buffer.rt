@@ -1,3 +1,4 @@
+// Written in part by tools/write-lists from tools/families/ranked.txt.
 //! A shared set with its counts.
 ghost use Rattle.std.specs.Prelude.{◌≡◌, ◌<◌, ◌≤◌, ◌==◌, length, take};
 ghost use Rattle.std.specs.Prelude.{slice_get, Some, IfOk, IsOkUnless};
@@ -100,6 +101,7 @@ impl<A: Allocator + Clone> RankedBuffer<A> {
         self.set
     }
 
+    // Written by tools/write-lists from tools/families/ranked.txt.
     /// Returns the number of true bits among the first `i` bits, as `rank_by` does with a table of
     /// the set. `i` must be at most the length. Reads at most two counts and the bits of one block;
     /// no count if `i` is 0 or the set has at most 512 bits.
@@ -179,6 +181,7 @@ impl<A: Allocator + Clone> RankedBuffer<A> {
         self.select_unset_many(ranks, places);
         Ok(())
     }
+    // To here.
 
     /// Returns the index of the `n`-th bit that is `value`.
     fn select_value(&self, n: usize, value: bool) -> Option<usize>

@@ -1,3 +1,4 @@
+-- Written by tools/write-lists from tools/families/ranked.txt.
 use Rattle.std.proofs.Common.{Bool, List}
 use Rattle.vb_bits.specs.Bits.{Selects, InvertsCount}
 use Rattle.vb_bits.proofs.BitsLemmas.{Selects-InvertsCount}

@@ -1,3 +1,4 @@
+-- Written by tools/write-lists from tools/families/ranked.txt.
 use Rattle.vb_bits.specs.Bits.{complement}
 use Rattle.vb_bits.proofs.BitsLemmas.{Selects-InvertsCount}
 use Rattle.vb_ranked.proofs.ranked_buffer.RankedBuffer.select_unset.Goals as goal
