@@ -27,7 +27,9 @@ from families import questions, types
 WIDEST = 100
 HOLE = re.compile(r"«(.+?)»")
 DOCSTRING = re.compile(r"(?:^( *)/// .*\n)(?:^\1/// .*\n)*", re.MULTILINE)
-HEAD = re.compile(r"^( *(?:pub )?(?:extern .C. )?fn \w+)\(\n((?: +.*,\n)+) *\)(.*)$", re.MULTILINE)
+HEAD = re.compile(
+    r"^( *(?:pub )?(?:extern .C. )?fn \w+(?:<.*>)?)\(\n((?: +.*,\n)+) *\)(.*)$", re.MULTILINE
+)
 CONTINUED = re.compile(r"^(.*?) *\\$", re.MULTILINE)
 PROTOTYPE = re.compile(r"^(?:VB_CHECKED )?\w+ vb_\w+\([^;{]*;$", re.MULTILINE)
 

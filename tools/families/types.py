@@ -259,3 +259,30 @@ AND_NOT = Operator(
     "{bit} is true and {other} isn't",
 )
 OPERATORS = [AND, OR, XOR, AND_NOT]
+
+
+@dataclass(frozen=True)
+class Sought:
+    """The value of the bits that a search looks for."""
+
+    value: bool
+
+    def __str__(self) -> str:
+        return "set" if self.value else "unset"
+
+    @property
+    def ending(self) -> str:
+        """The end of the names of its functions."""
+        return "" if self.value else "_unset"
+
+    @property
+    def truth(self) -> str:
+        """The value in Rattle."""
+        return str(self.value).lower()
+
+    def of(self, bits: str) -> str:
+        """Returns, in contracts, the bits in which such a bit is a set one."""
+        return bits if self.value else f"(complement {bits})"
+
+
+SOUGHT = [Sought(True), Sought(False)]

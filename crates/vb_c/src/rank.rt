@@ -1,3 +1,4 @@
+// Written in part by tools/write-lists from tools/families/selects.txt.
 //! Ranks and selects over a table of counts that the caller keeps.
 ghost use Rattle.std.specs.Prelude.{◌≡◌, ◌≤◌, ◌↔◌, IsTrue, take};
 ghost use Rattle.vb_bits.specs.Bits.{bits, count, complement, Selects};

@@ -1,3 +1,4 @@
+// Written in part by tools/write-lists from tools/families/selects.txt.
 //! Indices of bits by their rank, and of the last set bit.
 ghost use Rattle.std.specs.Prelude.{◌≡◌};
 ghost use Rattle.vb_bits.specs.Bits.{bits, complement, Selects, InvertsCount};

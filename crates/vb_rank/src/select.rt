@@ -1,3 +1,4 @@
+// Written in part by tools/write-lists from tools/families/selects.txt.
 //! The index of a bit by its rank, over a table.
 ghost use Rattle.std.specs.Prelude.{◌≡◌, ℕ, List, ◌+◌, ◌*◌, ◌^◌, ◌<◌, ◌≤◌, length};
 ghost use Rattle.vb_bits.specs.Bits.{bits, complement, count, Selects, InvertsCount};

@@ -102,6 +102,8 @@ class Templates(unittest.TestCase):
                          'pub extern "C" fn vb_it(out: &mut [u8], n: usize) -> usize\n')
         self.assertEqual(len(laid_out(kept.format("i" * 44)).splitlines()[0]), 100)
         self.assertEqual(laid_out(kept.format("i" * 45)), kept.format("i" * 45))
+        self.assertEqual(laid_out("fn it<A, B: C<A>>(\n    a: A,\n    b: B,\n)\n"),
+                         "fn it<A, B: C<A>>(a: A, b: B)\n")
 
     def test_a_prototype_is_wrapped_between_parameters(self):
         first = "void vb_move(const uint8_t *" + "first" * 12 + ","
