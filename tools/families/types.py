@@ -259,6 +259,25 @@ AND_NOT = Operator(
     "{bit} is true and {other} isn't",
 )
 OPERATORS = [AND, OR, XOR, AND_NOT]
+# When the result for two sets is true, in the words of BitBuffer and in those of BitBufferView.
+IN_SETS = [
+    (AND, "both sets are true"), (OR, "this set, `right` or both are true"),
+    (XOR, "the sets differ"), (AND_NOT, "this set is true and `right` is false"),
+]
+IN_VIEWS = [
+    (AND, "both views are true"), (OR, "at least one of the views is true"),
+    (XOR, "the views differ"), (AND_NOT, "this view is true and the other one false"),
+]
+# The operands that an operator on sets takes by value, or by reference as "&", and what it drops.
+SIDES = {
+    ("", ""): "Drops both sets on error.", ("", "&"): "Drops the left operand on error.",
+    ("&", ""): "Drops the right operand, also on error.", ("&", "&"): "",
+}
+# The operators of Rattle on sets, with the words for their results and their operands.
+OF_SETS = [
+    (AND, "both sets", [*SIDES]), (OR, "at least one of the sets", [*SIDES][:2] + [("&", "&")]),
+    (XOR, "exactly one of the sets", [("", "&"), ("&", "&")]),
+]
 
 
 @dataclass(frozen=True)

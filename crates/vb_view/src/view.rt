@@ -1,3 +1,4 @@
+// Written in part by tools/write-lists from tools/families/operators.txt.
 //! Bits over borrowed bytes, for reading.
 ghost use Rattle.std.specs.Prelude.{◌≡◌, ◌+◌, ◌-◌, ◌*◌, ◌/◌, ◌%◌, ◌^◌, ◌<◌, ◌≤◌, ◌==◌, ◌↔◌};
 ghost use Rattle.std.specs.Prelude.{◌≢◌, ℕ, length, drop, slice_get, slice_range, Some, All};
@@ -216,6 +217,7 @@ impl<'a> BitBufferView<'a> {
         count_ones(self.bytes, self.offset + start, end - start)
     }
 
+    // Written by tools/write-lists from tools/families/operators.txt.
     /// Returns the number of indices at which both views are true; they must have the same length.
     /// Reads both word by word, and does not allocate.
     pub fn and_count(&self, other: &BitBufferView<'_>) -> usize
@@ -291,6 +293,7 @@ impl<'a> BitBufferView<'a> {
         self.compare_len(other)?;
         Ok(self.andnot_count(other))
     }
+    // To here.
 
     /// Returns whether no index is true in both views (true for no bits). Returns `LengthMismatch`,
     /// with the length of this view as `left`, exactly if the lengths differ. Reads both word by

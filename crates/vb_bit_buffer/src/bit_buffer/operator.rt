@@ -1,3 +1,4 @@
+// Written in part by tools/write-lists from tools/families/operators.txt.
 //! Sets combined bit by bit, and negated.
 //!
 //! The result has the offset of the left operand, and only the bytes of its window. If the left
@@ -51,6 +52,7 @@ impl<A: Allocator + Clone> BitBuffer<A> {
         self.into_combined(right, BitOp::AndNot)
     }
 
+    // Written by tools/write-lists from tools/families/operators.txt.
     /// Returns the number of indices at which both sets are true. The lengths must be equal. Reads
     /// both sets by words, and does not allocate.
     pub fn and_count(&self, right: &Self) -> usize
@@ -122,6 +124,7 @@ impl<A: Allocator + Clone> BitBuffer<A> {
     {
         self.as_view().try_andnot_count(&right.as_view())
     }
+    // To here.
 
     /// Returns whether no index is true in both sets; true if there are no bits. Reads both by
     /// words from the start, up to the first word with such an index, and does not allocate.
