@@ -259,6 +259,11 @@ AND_NOT = Operator(
     "{bit} is true and {other} isn't",
 )
 OPERATORS = [AND, OR, XOR, AND_NOT]
+# The operators of processors on words: the sign, and the function of contracts with its names.
+OF_WORDS = [
+    (AND, "&", ["◌&&◌"], "a && b"), (OR, "|", ["◌||◌"], "a || b"),
+    (XOR, "^", ["cond", "not"], "cond a (not b) b"),
+]
 # When the result for two sets is true, in the words of BitBuffer and in those of BitBufferView.
 IN_SETS = [
     (AND, "both sets are true"), (OR, "this set, `right` or both are true"),

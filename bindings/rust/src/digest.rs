@@ -5,6 +5,6 @@
 /// The output of tools/digest. tools/write-lists writes it here.
 macro_rules! digest {
     () => {
-        "d9207f9a250bae1c9f63c71e2ad0acf4cd71feaf8ef6e5e234d0839ec011d390"
+        "99ef1cdb48c5c50203d104151347ceca5102c52b57569be2eeda2b9250381378"
     };
 }

@@ -1,3 +1,4 @@
+// Written in part by tools/write-lists from tools/families/operators.txt.
 //! Operators on two bits.
 ghost use Rattle.std.specs.Prelude.{◌≡◌, ℕ, ◌<◌, Bool, length};
 ghost use Rattle.vb_bits.specs.Digits.{has_bit, lane_bits};

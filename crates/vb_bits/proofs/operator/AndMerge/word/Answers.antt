@@ -1,3 +1,4 @@
+-- Written by tools/write-lists from tools/families/operators.txt.
 use Rattle.vb_bits.proofs.DigitsLemmas.{has_bit-and}
 use Rattle.vb_bits.proofs.operator.AndMerge.word.Goals as goal
 

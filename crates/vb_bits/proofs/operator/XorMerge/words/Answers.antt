@@ -1,3 +1,4 @@
+-- Written by tools/write-lists from tools/families/operators.txt.
 use Rattle.std.proofs.Common.{not, cond, sym, ◌∙◌}
 use Rattle.std.proofs.lemmas.Simd.{length-zip2}
 use Rattle.std.specs.Prelude.{bit_xor}
