@@ -1,10 +1,10 @@
 /*
  * Compares the comparisons of vortex_bits.hpp with those of C++, at the ends of each type's range.
  */
+#include "tests.hpp"
 #include "vortex_bits.hpp"
 
 #include <cmath>
-#include <cstdio>
 
 using vortex_bits::bits;
 using vortex_bits::bits_mut;
@@ -19,25 +19,6 @@ static const std::array<vb_comparison, 6> all_ops = {
 enum fruit { apple, pear = 100'000 };
 /* compared.c tests the same in C. */
 static_assert(sizeof(vb_comparison) == sizeof(unsigned int));
-
-static int failures = 0;
-
-static void check(bool holds, const char *what)
-{
-    if (!holds) {
-        failures++;
-        std::fprintf(stderr, "failed: %s\n", what);
-    }
-}
-
-template <class Call> static void refused(Call call, const char *what)
-{
-    try {
-        call();
-        check(false, what);
-    } catch (const std::out_of_range &) {
-    }
-}
 
 static bool holds(number left, vb_comparison op, number right)
 {

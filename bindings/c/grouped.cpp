@@ -2,33 +2,14 @@
  * Tests counts and sums by group of vortex_bits.hpp: their results, rows without a group, and their
  * errors; and the sum, the minimum and the maximum of floats.
  */
+#include "tests.hpp"
 #include "vortex_bits.hpp"
 
 #include <cmath>
-#include <cstdio>
 #include <limits>
 
 using vortex_bits::bits;
 using buffer = std::vector<std::uint8_t>;
-
-static int failures = 0;
-
-static void check(bool holds, const char *what)
-{
-    if (!holds) {
-        failures++;
-        std::fprintf(stderr, "failed: %s\n", what);
-    }
-}
-
-template <class Call> static void refused(Call call, const char *what)
-{
-    try {
-        call();
-        check(false, what);
-    } catch (const std::out_of_range &) {
-    }
-}
 
 static void floats()
 {

@@ -2,9 +2,9 @@
  * Compares the bitmaps by code and the sums of floats of vortex_bits_groups.hpp, and the greatest
  * and least values of vortex_bits_top.hpp, with loops over rows, and tests their errors.
  */
+#include "tests.hpp"
 #include "vortex_bits.hpp"
 
-#include <cstdio>
 #include <cstdlib>
 #include <limits>
 #include <new>
@@ -17,25 +17,7 @@ using vortex_bits::top_k;
 using buffer = std::vector<std::uint8_t>;
 using position = std::optional<std::size_t>;
 
-static int failures = 0;
 static std::mt19937 any(1);
-
-static void check(bool holds, const char *what)
-{
-    if (!holds) {
-        failures++;
-        std::fprintf(stderr, "failed: %s\n", what);
-    }
-}
-
-template <class Call> static void refused(Call call, const char *what)
-{
-    try {
-        call();
-        check(false, what);
-    } catch (const std::out_of_range &) {
-    }
-}
 
 static std::size_t below(std::size_t n)
 {

@@ -2,9 +2,9 @@
  * Tests vortex_bits::ranks after moves, swaps and assignments, including those that run out of
  * memory: its window and its table always belong together.
  */
+#include "tests.h"
 #include "vortex_bits.hpp"
 
-#include <cstdio>
 #include <cstdlib>
 #include <new>
 
@@ -19,7 +19,6 @@ static_assert(!std::is_reference_v<decltype(std::declval<const ranks>().table())
 
 /* Whether allocations succeed. */
 static bool has_memory = true;
-static int failures = 0;
 
 void *operator new(std::size_t size)
 {
@@ -35,14 +34,6 @@ void operator delete(void *made) noexcept
 void operator delete(void *made, std::size_t) noexcept
 {
     std::free(made);
-}
-
-static void check(bool holds, const char *what)
-{
-    if (!holds) {
-        failures++;
-        std::fprintf(stderr, "failed: %s\n", what);
-    }
 }
 
 template <class Error, class Call> static bool throws(Call call)

@@ -2,34 +2,15 @@
  * Compares the classes of vortex_bits.hpp with loops over single bits, over random windows, and
  * tests their errors.
  */
+#include "tests.hpp"
 #include "vortex_bits.hpp"
 
-#include <cstdio>
 #include <cstring>
 #include <random>
 
 using vortex_bits::bits;
 using vortex_bits::bits_mut;
 using buffer = std::vector<std::uint8_t>;
-
-static int failures = 0;
-
-static void check(bool holds, const char *what)
-{
-    if (!holds) {
-        failures++;
-        std::fprintf(stderr, "failed: %s\n", what);
-    }
-}
-
-template <class Call> static void refused(Call call, const char *what)
-{
-    try {
-        call();
-        check(false, what);
-    } catch (const std::out_of_range &) {
-    }
-}
 
 static bool bit(const buffer &all, std::size_t i)
 {

@@ -2,9 +2,9 @@
  * Compares the predicates and the appends of vortex_bits_texts.hpp and vortex_bits_texts_mut.hpp
  * with loops over single texts, on columns next to inaccessible pages, and tests their errors.
  */
+#include "tests.hpp"
 #include "vortex_bits.hpp"
 
-#include <cstdio>
 #include <cstring>
 #include <functional>
 #include <random>
@@ -18,27 +18,9 @@ using vortex_bits::view;
 using buffer = std::vector<std::uint8_t>;
 using predicate = std::function<bool(std::string_view)>;
 
-static int failures = 0;
 static std::mt19937 any(1);
 /* Right indices are below this number, so that they fit each type of index. */
 static const std::size_t LOW = 100;
-
-static void check(bool holds, const char *what)
-{
-    if (!holds) {
-        failures++;
-        std::fprintf(stderr, "failed: %s\n", what);
-    }
-}
-
-template <class Call> static void refused(Call call, const char *what)
-{
-    try {
-        call();
-        check(false, what);
-    } catch (const std::out_of_range &) {
-    }
-}
 
 static std::size_t below(std::size_t n)
 {

@@ -2,34 +2,15 @@
  * Compares validities that may be missing, in the classes of vortex_bits.hpp, with a loop over
  * single rows, and tests their errors.
  */
+#include "tests.hpp"
 #include "vortex_bits.hpp"
 
-#include <cstdio>
 #include <random>
 
 using vortex_bits::bits;
 using vortex_bits::bits_mut;
 using buffer = std::vector<std::uint8_t>;
 using validity = std::optional<bits>;
-
-static int failures = 0;
-
-static void check(bool holds, const char *what)
-{
-    if (!holds) {
-        failures++;
-        std::fprintf(stderr, "failed: %s\n", what);
-    }
-}
-
-template <class Call> static void refused(Call call, const char *what)
-{
-    try {
-        call();
-        check(false, what);
-    } catch (const std::out_of_range &) {
-    }
-}
 
 /* Compares what `call` writes to the `len` bits from bit 5 on with `wanted` of each. */
 template <class Call, class Wanted>

@@ -2,33 +2,14 @@
  * Tests walks of vortex_bits.hpp that stop early, windows over temporary views, windows over words,
  * and moves within a window or a column.
  */
+#include "tests.hpp"
 #include "vortex_bits.hpp"
 
-#include <cstdio>
 #include <cstring>
 
 using vortex_bits::bits;
 using vortex_bits::bits_mut;
 using buffer = std::vector<std::uint8_t>;
-
-static int failures = 0;
-
-static void check(bool holds, const char *what)
-{
-    if (!holds) {
-        failures++;
-        std::fprintf(stderr, "failed: %s\n", what);
-    }
-}
-
-template <class Call> static void refused(Call call, const char *what)
-{
-    try {
-        call();
-        check(false, what);
-    } catch (const std::out_of_range &) {
-    }
-}
 
 /* A view of bytes that it doesn't own, like std::span of C++20. */
 struct view {

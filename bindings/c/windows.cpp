@@ -2,6 +2,7 @@
  * Tests the reading calls of writable windows of vortex_bits.hpp, windows past their bytes, and how
  * often filters count the bits of a mask.
  */
+#include "tests.hpp"
 #include "vortex_bits.h"
 
 #include <cstddef>
@@ -23,30 +24,10 @@ static std::size_t counted(const std::uint8_t *bytes, std::size_t size, std::siz
 #define vb_count_ones counted
 #include "vortex_bits.hpp"
 
-#include <cstdio>
 
 using vortex_bits::bits;
 using vortex_bits::bits_mut;
 using buffer = std::vector<std::uint8_t>;
-
-static int failures = 0;
-
-static void check(bool holds, const char *what)
-{
-    if (!holds) {
-        failures++;
-        std::fprintf(stderr, "failed: %s\n", what);
-    }
-}
-
-template <class Call> static void refused(Call call, const char *what)
-{
-    try {
-        call();
-        check(false, what);
-    } catch (const std::out_of_range &) {
-    }
-}
 
 /* Words whose number is an int. */
 struct few_words {
