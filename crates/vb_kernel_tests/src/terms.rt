@@ -1,3 +1,4 @@
+// Written in part by tools/write-lists from tools/families/masked_sums.txt.
 //! Types whose sums fit in an `i128`.
 use vb_aggregate::WideSummand;
 
