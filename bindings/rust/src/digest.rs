@@ -5,6 +5,6 @@
 /// The output of tools/digest. tools/write-lists writes it here.
 macro_rules! digest {
     () => {
-        "99ef1cdb48c5c50203d104151347ceca5102c52b57569be2eeda2b9250381378"
+        "f0b8ee14f5bacacb0a63bdf7bb1af89344e4ad2da785c2630eba1d25d90f33f7"
     };
 }

@@ -12,6 +12,9 @@ use vb_view::BitBufferView;
 
 /// Counts the selected rows of each group. Returns the first selected row whose code has no count,
 /// if there is one.
+///
+/// Inlined, since a call would copy the arguments on the stack.
+#[inline(always)]
 pub(crate) fn count<C: Summand>(
     counts: &mut [u64],
     codes: &[C],
@@ -55,6 +58,9 @@ pub(crate) fn try_count<C: Summand>(
 
 /// Adds the selected values to the sums of their groups. Returns the first selected row whose code
 /// has no sum, if there is one.
+///
+/// Inlined, as [`count`] is.
+#[inline(always)]
 pub(crate) fn sum<C: Summand, V: Widen>(
     sums: &mut [V::Wide],
     codes: &[C],

@@ -1,6 +1,6 @@
 -- Codes that are numbers of groups.
 use Rattle.std.proofs.Common.{◌≡◌, ℕ, zero, suc, ◌+◌, ℤ, Bool, true, false, inl, inr, List}
-use Rattle.std.proofs.Common.{[], ◌∷◌, length, get_or, take, refl, sym, ap, subst, ◌∙◌, arith, ◌<◌}
+use Rattle.std.proofs.Common.{[], ◌∷◌, length, get_or, take, refl, sym, ap, subst, ◌∙◌, arith}
 use Rattle.std.proofs.lemmas.List.Elements.{All-nil, All-cons, All-head, All-tail}
 use Rattle.std.specs.List.{All, zip}
 use Rattle.std.specs.Option.{option_map}

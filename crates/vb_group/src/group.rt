@@ -17,6 +17,7 @@ use vb_view::BitBufferView;
 /// Without a `mask` each row is selected; a `mask` must have one bit for each code. Returns
 /// `Err(row)` for the first selected row whose code is negative or not below the number of counts;
 /// the counts are then unchanged.
+#[inline(always)]
 pub fn group_counts<C: Summand>(
     counts: &mut [u64],
     codes: &[C],
@@ -43,6 +44,7 @@ pub fn group_counts<C: Summand>(
 /// There must be one value for each code. Without a `mask` each row is selected; a `mask` must have
 /// one bit for each code. Returns `Err(row)` for the first selected row whose code is negative or
 /// not below the number of sums; the sums are then unchanged.
+#[inline(always)]
 pub fn group_sums<C: Summand, V: Widen>(
     sums: &mut [V::Wide],
     codes: &[C],

@@ -14,6 +14,7 @@ use vb_view::{BitBufferView, view_word};
 /// Adds the selected rows that have a total, in order. If a selected row has none, and the addition
 /// doesn't pass over such rows, it stops: without a mask after that row, with a mask after the word
 /// of the mask that has the row. Returns the number of rows up to there; `None` if it did not stop.
+#[inline(always)]
 pub(crate) fn add_selected<C: BitIndex, V: Copy, A: Addition<V>>(
     totals: &mut [A::Total],
     codes: &[C],
@@ -36,6 +37,7 @@ pub(crate) fn add_selected<C: BitIndex, V: Copy, A: Addition<V>>(
 }
 
 /// Does [`add_selected`] for the rows whose bit of the mask is true.
+#[inline(always)]
 fn add_kept<C: BitIndex, V: Copy, A: Addition<V>>(
     totals: &mut [A::Total],
     codes: &[C],
@@ -96,6 +98,32 @@ fn add_each<C: BitIndex, V: Copy, A: Addition<V>>(
         }
     }
     None
+}
+
+/// Does [`add_selected`] for at most 64 rows and a mask, by one word of it.
+#[inline(always)]
+pub(crate) fn add_few<C: BitIndex, V: Copy, A: Addition<V>>(
+    totals: &mut [A::Total],
+    codes: &[C],
+    values: &[V],
+    mask: BitBufferView<'_>,
+) -> Option<usize>
+    requires few { length codes.now ≤ 64 }
+    requires same_len { length values.now ≡ length codes.now }
+    requires mask { length (bits_of mask) ≡ length codes.now }
+    ensures all { IfNone result (TriesRows C.number A.plus A.is_total A.skips totals.old totals.new
+        (kept_by (bits_of mask.entry) (zip codes.now values.now)) true) }
+    ensures front { IfSome result (λ n. TriesRows C.number A.plus A.is_total A.skips totals.old
+        totals.new (kept_by (take n (bits_of mask.entry)) (take n (zip codes.now values.now)))
+        false) }
+    ensures within { IfSome result (λ n. n ≤ length codes.now) }
+{
+    let n = codes.len();
+    if add_word::<C, V, A>(totals, codes, values, view_word(mask, 0, n)) {
+        None
+    } else {
+        Some(n)
+    }
 }
 
 /// Calls [`add_row`] for each row whose bit of `keep` is 1, and returns whether all calls return

@@ -1,4 +1,4 @@
-use Rattle.std.proofs.Common.{◌≡◌, true, ◌+◌, Bool, take, sym, subst, arith}
+use Rattle.std.proofs.Common.{true, ◌+◌, take, subst, arith}
 use Rattle.std.specs.List.{zip}
 use Rattle.std.proofs.lemmas.List.{take_all}
 use Rattle.vb_group.specs.Groups.{TriesRows}
