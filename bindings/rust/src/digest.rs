@@ -5,6 +5,6 @@
 /// The output of tools/digest. tools/write-lists writes it here.
 macro_rules! digest {
     () => {
-        "f0b8ee14f5bacacb0a63bdf7bb1af89344e4ad2da785c2630eba1d25d90f33f7"
+        "0048c47ecf4b4a869d298ee32790f6996b4d9a64234cccfa25b7e8d9c9317e39"
     };
 }

@@ -23,6 +23,8 @@ use vb_view::BitBufferView;
 /// counts if its bit of `validity`, from bit `v` on, is true; the others get false, and their
 /// indices are ignored. Every other bit of `out` is unchanged. If a position is returned, the bits
 /// of `out` for the indices are unspecified.
+// A call would copy the arguments on the stack.
+#[inline(always)]
 #[unsafe(no_mangle)]
 pub extern "C" fn vb_take_bits_u8(
     out: &mut [u8],
@@ -78,6 +80,8 @@ pub extern "C" fn vb_try_take_bits_u8(
 }
 
 /// Does [`vb_take_bits_u8`] for indices of 16 bits.
+// A call would copy the arguments on the stack.
+#[inline(always)]
 #[unsafe(no_mangle)]
 pub extern "C" fn vb_take_bits_u16(
     out: &mut [u8],
@@ -133,6 +137,8 @@ pub extern "C" fn vb_try_take_bits_u16(
 }
 
 /// Does [`vb_take_bits_u8`] for indices of 32 bits.
+// A call would copy the arguments on the stack.
+#[inline(always)]
 #[unsafe(no_mangle)]
 pub extern "C" fn vb_take_bits_u32(
     out: &mut [u8],
@@ -188,6 +194,8 @@ pub extern "C" fn vb_try_take_bits_u32(
 }
 
 /// Does [`vb_take_bits_u8`] for indices of 64 bits.
+// A call would copy the arguments on the stack.
+#[inline(always)]
 #[unsafe(no_mangle)]
 pub extern "C" fn vb_take_bits_u64(
     out: &mut [u8],
@@ -244,6 +252,9 @@ pub extern "C" fn vb_try_take_bits_u64(
 
 /// Does [`vb_take_bits_u8`] for indices of any type. Passes the kernel only the bytes that have one
 /// of the bits to write, so it can store no others.
+///
+/// Inlined, since a call would copy the arguments on the stack.
+#[inline(always)]
 fn take<I: BitIndex>(
     out: &mut [u8],
     o: usize,
@@ -265,6 +276,7 @@ fn take<I: BitIndex>(
 }
 
 /// Does [`take`] with a view of the validity, and may store any byte of `out`.
+#[inline(always)]
 fn take_from<I: BitIndex>(
     out: &mut [u8],
     o: usize,

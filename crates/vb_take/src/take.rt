@@ -50,7 +50,37 @@ pub fn take_into<I: BitIndex>(
 /// Does what [`take_into`] does, but writes to `out` from bit `o` on: bit `o + k` is the one at
 /// `indices[k]`. These bits, one for each index, must be in bounds, and `o + indices.len()` must
 /// fit in a `usize`. Every other bit of `out` keeps its value.
+#[inline(always)]
 pub fn take_into_at<I: BitIndex>(
+    out: &mut [u8],
+    o: usize,
+    bits: BitBufferView<'_>,
+    indices: &[I],
+    validity: Option<BitBufferView<'_>>,
+) -> Result<(), usize>
+    requires room { InBytes out.old o (length indices.now) }
+    requires validity { ForSome validity (λ v. length (bits_of v) ≡ length indices.now) }
+    ensures taken { IfOk result (λ _. IsTaken (bits_of bits.entry) (map I.number indices.now)
+        (option_map bits_of validity.entry) (window out.new o (length indices.now))) }
+    ensures past { IfErr result (λ p. IsFirstPast (bits_of bits.entry) (map I.number indices.now)
+        (option_map bits_of validity.entry) p) }
+    ensures others { Writes out.old out.new o (window out.new o (length indices.now)) }
+{
+    let n = indices.len();
+    if n >= 64 {
+        return take_many(out, o, bits, indices, validity);
+    }
+    match take_few(bits, indices, validity, 0, n) {
+        Ok(word) => write_digits(out, o, n, word),
+        Err(k) => return Err(k),
+    }
+    Ok(())
+}
+
+/// Does [`take_into_at`] for at least 64 indices. Not inlined, so that a call with fewer doesn't
+/// make room for blocks.
+#[inline(never)]
+fn take_many<I: BitIndex>(
     out: &mut [u8],
     o: usize,
     bits: BitBufferView<'_>,
@@ -101,6 +131,7 @@ fn take_part<I: BitIndex>(
 }
 
 /// Does [`take_part`] one by one.
+#[inline(always)]
 fn take_few<I: BitIndex>(
     bits: BitBufferView<'_>,
     indices: &[I],

@@ -4,7 +4,7 @@ use Rattle.vb_view.specs.View.{bits_of}
 use Rattle.vb_bits.specs.Bits.{bit_of, bits}
 use Rattle.vb_bits.specs.Writes.{Writes}
 use Rattle.vb_take.specs.Takes.{taken_at, TakenTo}
-use Rattle.vb_take.proofs.take.take_into_at.Given as goal
+use Rattle.vb_take.proofs.take.take_many.Given as goal
 
 abbrev pub invariant-loop-t : goal.invariant-loop-t
 invariant-loop-t g l = record {
