@@ -11,14 +11,18 @@ use crate::word::low_digits;
 /// early.
 const BLOCK_WORDS: usize = 64;
 
+/// Fewer words are compared at once, from any address: finding the blocks takes longer than to
+/// compare all of them, even if the first one differs.
+const FEW_WORDS: usize = 16;
+
 /// Returns whether the `len` bits of `left` from bit `l` on equal those of `right` from bit `r` on.
 /// The caller must prove that both windows are in bounds, and that `l + len` and `r + len` fit in a
 /// `usize`.
 ///
 /// It compares up to 64 bits as one number. In a longer window it compares the bits up to a word
-/// boundary of `left` as one number, the last 64 bits as another, and the words between in blocks
-/// of 512 bytes. If `left` starts at a cache line, so do these blocks. It reads no block after the
-/// first one that differs.
+/// boundary of `left` as one number, the last 64 bits as another, and the words between at once if
+/// there are fewer than 16, else in blocks of 512 bytes. If `left` starts at a cache line, so do
+/// these blocks. It reads no block after the first one that differs.
 pub fn equal_bits(left: &[u8], l: usize, right: &[u8], r: usize, len: usize) -> bool
     requires left { InBytes left.now l len }
     requires right { InBytes right.now r len }
@@ -69,9 +73,24 @@ fn equal_in_eight(left: &[u8], l: usize, right: &[u8], r: usize, len: usize) -> 
     low_digits(read_in_eight(left, l, len), len) == low_digits(read_in_eight(right, r, len), len)
 }
 
-/// [`equal_bits`] of the `n` words from byte `a` of `left` on. It compares the words up to a
-/// multiple of 64 bytes, then whole blocks, then the remaining words.
+/// [`equal_bits`] of the `n` words from byte `a` of `left` on.
+#[inline(always)]
 fn equal_words(left: &[u8], a: usize, right: &[u8], r: usize, n: usize) -> bool
+    requires left_inside { a + 8 * n ≤ length left.now }
+    requires right { InBytes right.now r (64 * n) }
+    ensures { IsTrue result ↔ (bits left.now (8 * a) (64 * n) ≡ bits right.now r (64 * n)) }
+{
+    if n < FEW_WORDS {
+        differing_digits(left, a, right, r, n) == 0
+    } else {
+        equal_many_words(left, a, right, r, n)
+    }
+}
+
+/// Does [`equal_words`]: compares the words up to a multiple of 64 bytes, then whole blocks, then
+/// the remaining words.
+#[inline(never)]
+fn equal_many_words(left: &[u8], a: usize, right: &[u8], r: usize, n: usize) -> bool
     requires left_inside { a + 8 * n ≤ length left.now }
     requires right { InBytes right.now r (64 * n) }
     ensures { IsTrue result ↔ (bits left.now (8 * a) (64 * n) ≡ bits right.now r (64 * n)) }

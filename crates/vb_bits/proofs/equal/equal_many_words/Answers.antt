@@ -2,9 +2,9 @@ use Rattle.std.proofs.Common.{◌+◌, ◌-◌, ◌*◌, ◌/◌, ◌∙◌, sym
 use Rattle.std.proofs.lemmas.Bool.{eqb-true, eq-eqb}
 use Rattle.vb_bits.specs.declared.equal.TheConstants.{BLOCK_WORDS}
 use Rattle.vb_bits.proofs.EqualLemmas.{same-three}
-use Rattle.vb_bits.proofs.equal.equal_words.Goals as goal
-use Rattle.vb_bits.proofs.equal.equal_words.Goals.{then-differing_digits-eq0}
-use Rattle.vb_bits.proofs.equal.equal_words.Goals.{else-differing_digits-eq0}
+use Rattle.vb_bits.proofs.equal.equal_many_words.Goals as goal
+use Rattle.vb_bits.proofs.equal.equal_many_words.Goals.{then-differing_digits-eq0}
+use Rattle.vb_bits.proofs.equal.equal_many_words.Goals.{else-differing_digits-eq0}
 
 pub returns-then-equal_blocks : goal.returns-then-equal_blocks
 returns-then-equal_blocks c =
