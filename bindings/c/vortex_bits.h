@@ -57,16 +57,20 @@
  *     #define WINDOW(it) (it).bytes, (it).size, (it).offset
  *     assert(vb_and_count(WINDOW(a), WINDOW(a), 5) == 4);
  *
- * The functions of each level are proved. The code in front of them is written by hand, and tested.
- * It selects the level. It replaces a null pointer to no items by one that they accept; checked
- * forms reject other null pointers. Plain forms crash with SIGILL at an `op` or a size of values
- * that doesn't exist, except vb_take_values, which reports position 0. vb_set_indices,
- * vb_set_indices_u32, vb_set_slices and their checked forms, if `out` may be too small, process one
- * page of memory after the other, and join runs that cross page ends. Bools are packed and unpacked
- * as bytes. vb_filter_values, vb_retain_values, vb_scatter_values and vb_take_values choose a
- * function by the sizes, and the functions of validities choose one by which validities are
- * missing. vb_set_slices_u32 narrows the indices of runs. The C++ classes are also written by hand,
- * and tested.
+ * The functions of each level are proved. The code in front of them is written by hand, and tested:
+ *
+ * - It selects the level, and replaces a null pointer to no items by one that the proved functions
+ *   accept. Checked forms reject other null pointers.
+ * - Plain forms crash with SIGILL at an `op` or a size of values that doesn't exist, except
+ *   vb_take_values, which reports position 0.
+ * - vb_set_indices, vb_set_indices_u32, vb_set_slices and their checked forms, if `out` may be too
+ *   small, process one page of memory after the other, and join runs that cross page ends.
+ *   vb_set_slices_u32 narrows the indices of runs.
+ * - Bools are packed and unpacked as bytes.
+ * - vb_filter_values, vb_retain_values, vb_scatter_values and vb_take_values choose a function by
+ *   the sizes, and the functions of validities choose one by which validities are missing.
+ *
+ * The C++ classes are also written by hand, and tested.
  */
 #ifndef VORTEX_BITS_H
 #define VORTEX_BITS_H
