@@ -126,7 +126,7 @@ static void keep(struct answer *answer, const uint8_t *mask, size_t kept, const 
     answer->kept += kept;
 }
 
-/* Returns the row of the n-th true bit of a batch's mask, if it has that many. */
+/* Returns the row of the n-th set bit of a batch's mask, if it has that many. */
 static vb_place find(const struct answer *answer, const uint8_t *mask, size_t len, size_t n)
 {
     vb_place place = vb_select(mask, bytes_for(len), 0, len, n);

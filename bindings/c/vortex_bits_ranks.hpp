@@ -2,8 +2,8 @@
  * Ranks over a window, a part of vortex_bits.hpp, which includes this file.
  *
  *     vortex_bits::ranks rows(vortex_bits::bits(valid, 3, 10));
- *     rows.rank(5);                                     // true bits among the first five
- *     rows.select(0);                                   // the first true bit's index
+ *     rows.rank(5);                                     // set bits among the first five
+ *     rows.select(0);                                   // the first set bit's index
  */
 #ifndef VORTEX_BITS_RANKS_HPP
 #define VORTEX_BITS_RANKS_HPP

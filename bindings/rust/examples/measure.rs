@@ -217,7 +217,7 @@ fn counts(data: &Data) {
     );
     let last = Bits::new(half, 0, N).count_ones() - 1;
     row(
-        "`select` of the last true bit",
+        "`select` of the last set bit",
         || Bits::new(half, 0, N).select(last).unwrap_or(N),
         || nth_by_loop(half, last),
     );

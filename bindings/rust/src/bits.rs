@@ -406,7 +406,7 @@ impl<'a> Bits<'a> {
         UnsetSlices::new(self)
     }
 
-    /// Returns an iterator over the bits as 64-bit words, with the first bit lowest. False bits pad
+    /// Returns an iterator over the bits as 64-bit words, with the first bit lowest. Zeros pad
     /// the last word.
     ///
     /// ```

@@ -226,7 +226,7 @@ asks! {
     /// ```
     unset_slices() -> UnsetSlices<'_>;
 
-    /// Returns an iterator over the bits as 64-bit words, with the first bit lowest. False bits pad
+    /// Returns an iterator over the bits as 64-bit words, with the first bit lowest. Zeros pad
     /// the last word.
     ///
     /// ```
