@@ -41,16 +41,12 @@ public:
 
     template <class Bytes, detail::lender<const Bytes, const std::uint8_t> = 0>
     bits(const Bytes &bytes, std::size_t offset, std::size_t len)
-        : bits(bytes.data(), detail::size(bytes), offset, len)
-    {
-    }
+        : bits(bytes.data(), detail::size(bytes), offset, len) {}
 
     /* Over words of 64 bits: bit i is bit i % 64 of word i / 64, least significant first. */
     template <class Words, detail::lender<const Words, const std::uint64_t> = 0>
     bits(const Words &words, std::size_t offset, std::size_t len)
-        : bits(detail::bytes_of(words), 8 * detail::size(words), offset, len)
-    {
-    }
+        : bits(detail::bytes_of(words), 8 * detail::size(words), offset, len) {}
 
     /* Deleted: a temporary container dies before the window. Name it; for views see is_borrowed. */
     template <class Bytes, detail::owner<Bytes, const std::uint8_t> = 0>
@@ -224,7 +220,7 @@ public:
         static_assert(std::is_same_v<run, vb_run> || std::is_same_v<run, vb_run_u32>,
             "set_slices writes runs of vb_run or vb_run_u32");
         if constexpr (std::is_same_v<run, vb_run_u32>) {
-            detail::expect(len_ <= UINT32_MAX, "more bits than 32 bits can index");
+            detail::expect(len_ <= UINT32_MAX, "more bits than a run can index");
             return vb_set_slices_u32(out.data(), detail::size(out), bytes_, size_, offset_, len_);
         } else if constexpr (std::is_same_v<run, vb_run>) {
             return vb_set_slices(out.data(), detail::size(out), bytes_, size_, offset_, len_);
@@ -377,7 +373,11 @@ public:
         return bits_mut(writable(), size_, offset_ + start, len);
     }
 
-    void set(std::size_t place, bool value) { slice(place, 1).fill(value); }
+    void set(std::size_t place, bool value)
+    {
+        detail::expect(place < len_, "an index is not one of the window");
+        vb_fill_bits(writable(), size_, offset_ + place, 1, value);
+    }
     void fill(bool value) { vb_fill_bits(writable(), size_, offset_, len_, value); }
     void negate() { vb_negate_bits(writable(), size_, offset_, len_); }
 

@@ -1,6 +1,6 @@
 /*
- * Tests the reading calls of writable windows of vortex_bits.hpp, windows past their bytes, and how
- * often filters count the bits of a mask.
+ * Tests the reading calls of writable windows of vortex_bits.hpp, windows past their bytes, what
+ * errors say, and how often filters count the bits of a mask.
  */
 #include "tests.hpp"
 #include "vortex_bits.h"
@@ -28,6 +28,17 @@ static std::size_t counted(const std::uint8_t *bytes, std::size_t size, std::siz
 using vortex_bits::bits;
 using vortex_bits::bits_mut;
 using buffer = std::vector<std::uint8_t>;
+
+/* Checks what the error of a call says. */
+template <class Call> static void says(Call call, std::string_view wanted)
+{
+    try {
+        call();
+        check(false, "no error");
+    } catch (const std::out_of_range &error) {
+        check(error.what() == wanted, error.what());
+    }
+}
 
 /* Words whose number is an int. */
 struct few_words {
@@ -95,10 +106,29 @@ static void bounds()
     check(few[0] == 0xFF && !bits(more, 0, 800).any(), "the assigned window is written");
 }
 
+/* Tests that errors are about the numbers that the call was passed. */
+static void errors()
+{
+    buffer all = {0xB6, 0x01};
+    bits_mut window(all, 1, 8);
+    const std::string_view index = "an index is not one of the window";
+    says([&] { (void)window[8]; }, index);
+    says([&] { window.set(8, true); }, index);
+    says([&] { window.set(SIZE_MAX, false); }, index);
+    says([&] { window.slice(8, 1).fill(true); }, "a slice is not in its window");
+    check(all == buffer({0xB6, 0x01}), "a refused write left all as it was");
+    // 32 bits can index each of these bits, but not the end of a run.
+    const bits many(all.data(), std::size_t{1} << 29, 0, std::size_t{1} << 32);
+    std::array<vb_run_u32, 1> run;
+    says([&] { many.set_slices_into(run); }, "more bits than a run can index");
+    says([&] { (void)many.set_slices<vb_run_u32>(); }, "more bits than a run can index");
+}
+
 int main()
 {
     counts_of_filters();
     readings();
     bounds();
+    errors();
     return failures == 0 ? 0 : 1;
 }
