@@ -35,8 +35,8 @@ public:
     bits(const std::uint8_t *bytes, std::size_t size, std::size_t offset, std::size_t len)
         : bytes_(bytes), size_(size), offset_(offset), len_(len)
     {
-        detail::expect(fits(size, offset, len) && (bytes != nullptr || size == 0),
-            "a window does not fit in its bytes");
+        detail::expect(bytes != nullptr || size == 0, "a window has a null pointer");
+        detail::expect(fits(size, offset, len), "a window does not fit in its bytes");
     }
 
     template <class Bytes, detail::lender<const Bytes, const std::uint8_t> = 0>

@@ -116,6 +116,8 @@ static void errors()
     says([&] { window.set(8, true); }, index);
     says([&] { window.set(SIZE_MAX, false); }, index);
     says([&] { window.slice(8, 1).fill(true); }, "a slice is not in its window");
+    says([] { bits(nullptr, 8, 0, 64); }, "a window has a null pointer");
+    says([&] { bits(all, 1, 16); }, "a window does not fit in its bytes");
     check(all == buffer({0xB6, 0x01}), "a refused write left all as it was");
     // 32 bits can index each of these bits, but not the end of a run.
     const bits many(all.data(), std::size_t{1} << 29, 0, std::size_t{1} << 32);
