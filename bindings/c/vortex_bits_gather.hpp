@@ -66,7 +66,7 @@ std::optional<std::size_t> bits::take(const Indices &indices, const bits *valid,
 {
     using index = std::remove_cv_t<detail::lent_t<const Indices>>;
     static_assert(detail::is_index<index>(),
-        "take_into takes indices of a whole number of 8, 16, 32 or 64 bits");
+        "take_into and take_of take indices of a whole number of 8, 16, 32 or 64 bits");
     detail::expect(fits(size, at, detail::size(indices)), "no space for a bit per index");
     detail::expect(valid == nullptr || valid->len_ == detail::size(indices),
         "not a bit of validity for each index");
