@@ -60,7 +60,8 @@ impl Array {
     /// Takes over an array and its type, as a consumer of the interface does. Leaves both structs
     /// released, even on an error. The array is released when its last part is dropped.
     ///
-    /// Tests each number that can be tested, and does not read the values.
+    /// Tests each number that can be tested. Reads no values, except the end of the last run of
+    /// run-end-encoded arrays.
     ///
     /// # Errors
     ///
