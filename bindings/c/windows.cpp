@@ -24,7 +24,6 @@ static std::size_t counted(const std::uint8_t *bytes, std::size_t size, std::siz
 #define vb_count_ones counted
 #include "vortex_bits.hpp"
 
-
 using vortex_bits::bits;
 using vortex_bits::bits_mut;
 using buffer = std::vector<std::uint8_t>;

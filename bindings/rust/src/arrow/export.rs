@@ -304,7 +304,8 @@ impl Export {
 }
 
 /// Exports the rows unchanged, of any type, such as a column that a query forwards or a slice of a
-/// batch. Both share the array, and the last of them releases it.
+/// batch. Both share the array, and the last of them releases it. If `from_raw` imports each export
+/// of a chain, all arrays stay, and a chain of thousands overflows the stack when it is dropped.
 ///
 /// ```
 /// use vortex_bits::arrow::Export;

@@ -46,10 +46,11 @@ impl Array {
     /// structs, the items of lists and unions, and one value for each run that still has a row. It
     /// shares the buffers of views, the items of list views and the dictionary; the whole array
     /// then stays allocated as long as they are in use. Of a chain of such calls only the first
-    /// array stays, also through [`into_stream`](crate::arrow::ExportStream::into_stream); through
-    /// `from_raw` all arrays stay. A batch without columns keeps its number of rows. Rows of the
-    /// children of structs, fixed-size lists and sparse unions are copied, and may cause errors,
-    /// even if the row above them is null or belongs to another child.
+    /// array stays, also through [`into_stream`](crate::arrow::ExportStream::into_stream). Through
+    /// `from_raw` all arrays stay, and a chain of thousands overflows the stack when it is dropped.
+    /// A batch without columns keeps its number of rows. Rows of the children of structs,
+    /// fixed-size lists and sparse unions are copied, and may cause errors, even if the row above
+    /// them is null or belongs to another child.
     ///
     /// ```
     /// use vortex_bits::arrow::Export;
