@@ -25,9 +25,9 @@ pub(super) const SORTED: i64 = 4;
 
 /// The name and the type of a column. It has its own copy of all that an `ArrowSchema` says.
 ///
-/// Clones of a field share its children. A comparison, an export and the text of `Debug` still visit
-/// a child once for each path to it. A type of thousands of levels overflows the stack there, and
-/// when it is dropped.
+/// Clones of a field share its children. A comparison, an export and the text of `Debug` still
+/// visit a child once for each path to it. A type of thousands of levels overflows the stack there,
+/// and when it is dropped.
 ///
 /// ```
 /// use vortex_bits::arrow::Field;
