@@ -80,6 +80,8 @@ impl Array {
     /// - Returns [`ArrowError::Malformed`] if a selected text or list, except views, ends before it
     ///   begins or after the last byte or item of the array, if runs end before the rows do, if a
     ///   row of a union names no child or item, or if a buffer that the rows need is null.
+    ///   Below lists, runs and unions, the row in the error counts from the first item that the
+    ///   selected rows have.
     /// - Returns [`ArrowError::TooLong`] if one child has more than 2^31 rows of a dense union, and
     ///   the errors of [`take`](Array::take) if its rows share items.
     /// - Returns [`ArrowError::Memory`] if memory runs out for the copies.
