@@ -196,3 +196,31 @@ fn items_with_other_children_or_dictionaries_are_told_apart() {
         assert_eq!(joined.dictionary_indices().unwrap(), [0, 1]);
     }
 }
+
+/// A list view that is out of bounds of its items is an error only if the items are joined: not if
+/// all arrays share them, whether or not one has only null rows.
+#[test]
+fn shared_list_views_out_of_bounds_stay_as_they_are() {
+    let none = Count::default();
+    let lists = || {
+        let items = raw::Array::values(2, None, &[7, 8], &none);
+        let (offsets, sizes) = (ints(&[5, 0]), ints(&[9, 1]));
+        let buffers = vec![Some(Buffer::new(&[0b01], 0)), Some(offsets), Some(sizes)];
+        let array = raw::Array::of(2, buffers, vec![items], None, &none);
+        let items = vec![Schema::new("item", "C", &none)];
+        import(array, Schema::of("list", "+vl", items, None, &none)).unwrap()
+    };
+    let (rows, others) = (lists(), lists());
+    let (valid, null) = (rows.slice(..1), rows.slice(1..));
+    let joined = |parts: [&Array; 2]| {
+        let parts = parts.map(Array::clone);
+        Export::concat(rows.field(), &parts).map(|it| it.into_array().null_count())
+    };
+    assert_eq!(joined([&valid, &valid]), Ok(Ok(0)));
+    assert_eq!(joined([&valid, &null]), Ok(Ok(1)));
+    assert_eq!(joined([&null, &valid]), Ok(Ok(1)));
+    for other in [others.slice(..1), others.slice(1..)] {
+        let error = joined([&valid, &other]).unwrap_err().to_string();
+        assert_eq!(error, "column \"list\": row 0 lies from 5 to 14");
+    }
+}

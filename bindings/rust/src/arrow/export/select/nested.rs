@@ -59,10 +59,8 @@ pub(super) fn list_views(
     rows: Rows<'_>,
     valid: Option<Bits<'_>>,
 ) -> Result<Made, ArrowError> {
-    let used = with_valid_rows(field, of.len(), rows, valid)?;
-    let items = || used.arrays(of).map(|it| &it.node.children[0]);
-    let one = only(items(), nodes::items);
-    if let Some(items) = one.filter(|_| used.has_all()) {
+    let of_all = of.iter().map(|it| &it.node.children[0]);
+    if let Some(items) = only(of_all, nodes::items) {
         let numbers = of.iter().map(|it| it.list_view_numbers(width));
         let numbers = numbers.map(|[offsets, sizes]| (offsets, sizes));
         let (offsets, sizes): (Vec<&[u8]>, Vec<&[u8]>) = numbers.unzip();
@@ -71,6 +69,9 @@ pub(super) fn list_views(
         made.below.push(shared(items, items.offset, items.len));
         return Ok(made);
     }
+    let used = with_valid_rows(field, of.len(), rows, valid)?;
+    let items = || used.arrays(of).map(|it| &it.node.children[0]);
+    let one = only(items(), nodes::items);
     let items = Nodes::of(items(), nodes::items);
     let before = used.each_before(&items);
     let number = items.each.iter().map(Array::len);
@@ -178,10 +179,6 @@ pub(super) fn coded(
 struct Used(Vec<bool>);
 
 impl Used {
-    fn has_all(&self) -> bool {
-        self.0.iter().all(|is_used| *is_used)
-    }
-
     /// Returns those arrays.
     fn arrays<'a>(&'a self, of: &'a [Array]) -> impl Iterator<Item = &'a Array> {
         let used = of.iter().zip(&self.0).filter(|(_, is_used)| **is_used);
