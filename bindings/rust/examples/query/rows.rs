@@ -8,6 +8,9 @@ use std::str::FromStr;
 use vortex_bits::Bitmap;
 use vortex_bits::arrow::{Export, ExportStream, Field, Primitive};
 
+/// The first line of a text: the names of the columns.
+const NAMES: &str = "a,b,c,flag";
+
 /// The columns; None where a row is null.
 #[derive(Clone, Debug, Default, PartialEq)]
 pub struct Rows {
@@ -55,10 +58,14 @@ impl Rows {
         Ok(())
     }
 
-    /// Reads the rows of a text whose first line is `a,b,c,flag`.
+    /// Reads the rows of a text whose first line has the names of the columns.
     pub fn read(text: &str) -> Result<Rows, String> {
+        let mut lines = (1..).zip(text.lines());
+        if lines.next().is_none_or(|(_, names)| names != NAMES) {
+            return Err(format!("line 1: not `{NAMES}`"));
+        }
         let mut read = Rows::default();
-        for (line, row) in (1..).zip(text.lines()).skip(1) {
+        for (line, row) in lines {
             read.add(row)
                 .map_err(|wrong| format!("line {line}: {wrong}"))?;
         }
@@ -67,7 +74,7 @@ impl Rows {
 
     /// The text that [`Rows::read`] reads.
     pub fn written(&self) -> String {
-        let mut text = "a,b,c,flag\n".to_string();
+        let mut text = format!("{NAMES}\n");
         for row in 0..self.a.len() {
             let flag = self.flag[row].map(u8::from);
             let fields = [

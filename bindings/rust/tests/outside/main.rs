@@ -65,7 +65,23 @@ impl Drop for Case {
     }
 }
 
+/// A first line that isn't the names of the columns could be a row, so it is an error.
+fn rows_have_names() {
+    for text in ["", "1,2,3,1\n", "1,2,3,1\n4,5,6,0\n"] {
+        let refused = Rows::read(text).unwrap_err();
+        assert_eq!(refused, "line 1: not `a,b,c,flag`");
+    }
+    let read = Rows::read("a,b,c,flag\n1,,0.5,0\n").unwrap();
+    assert_eq!(
+        (read.a, read.b, read.c),
+        (vec![Some(1)], vec![None], vec![Some(0.5)])
+    );
+    let refused = Rows::read("a,b,c,flag\n1,2,3\n").unwrap_err();
+    assert_eq!(refused, "line 2: 3 fields");
+}
+
 fn main() {
+    rows_have_names();
     let cases = [
         (0, Question::new(700, 0)),
         (1, Question::new(0, 0)),
