@@ -92,7 +92,11 @@ fn say_missing(archive: &Path) {
 fn fault(folder: &Path, level: &str) -> Option<String> {
     let (archive, wanted) = (archive(folder, level), digest!());
     let is = archive.display();
-    match named(&fs::read(&archive).unwrap_or_default(), level) {
+    let bytes = match fs::read(&archive) {
+        Ok(bytes) => bytes,
+        Err(error) => return Some(format!("{is} can't be read: {error}")),
+    };
+    match named(&bytes, level) {
         Some(named) if named == wanted => None,
         Some(named) => Some(format!(
             "{is} is built from the sources of digest {named}, and this crate wants {wanted}: \

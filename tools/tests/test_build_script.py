@@ -19,8 +19,8 @@ class BuildScript(unittest.TestCase):
         shutil.copytree(CRATE, self.crate, ignore=left_out)
         self.target = Path(folder.name) / "target"
 
-    def build(self, profile: str = "dev", **variables: str) -> str:
-        """Builds the crate, and returns what cargo prints."""
+    def build(self, profile: str = "dev", fails: bool = False, **variables: str) -> str:
+        """Builds the crate, tests whether that fails, and returns what cargo prints."""
         kept = {name: it for name, it in os.environ.items() if name != "VORTEX_BITS_NATIVE"}
         ended = subprocess.run(
             ["cargo", "build", "--offline", "--profile", profile],
@@ -28,8 +28,8 @@ class BuildScript(unittest.TestCase):
             env={**kept, **variables, "CARGO_TARGET_DIR": str(self.target)},
             capture_output=True,
             text=True,
-            check=True,
         )
+        self.assertEqual(ended.returncode != 0, fails, ended.stderr)
         return ended.stderr
 
     def compiles(self) -> bool:
@@ -56,6 +56,15 @@ class BuildScript(unittest.TestCase):
     def test_an_empty_variable_names_no_folder(self):
         own = self.crate / "native"
         self.assertIn(f"no {own}/libvortex_bits", self.build(VORTEX_BITS_NATIVE=""))
+
+    @unittest.skipUnless(Path("/proc/self/mem").exists(), "no file that no one can read")
+    def test_archives_that_cannot_be_read_are_said_to_be_so(self):
+        archives = [self.crate / f"native/libvortex_bits_0_91_{level}.a" for level in ("v2", "v3")]
+        for archive in archives:
+            archive.symlink_to("/proc/self/mem")
+        said = self.build(fails=True)
+        for archive in archives:
+            self.assertIn(f"{archive} can't be read: ", said)
 
     def test_a_missing_folder_is_seen_after_the_command_of_the_warning(self):
         command = f"touch '{self.crate}/Cargo.toml'"
