@@ -14,6 +14,7 @@ pub struct OutOfBounds {
     /// `usize::MAX` if the number is above that.
     pub len: usize,
     /// The number of bits of the bytes, or of the window that was sliced; or the number of rows.
+    /// `usize::MAX` if the bytes have more bits.
     pub bits: usize,
     /// `bit` or `row`.
     unit: &'static str,

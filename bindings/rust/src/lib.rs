@@ -25,9 +25,9 @@
 //!
 //! The constructor of a window tests that it is in bounds of its bytes. Later calls panic, with a
 //! message, only for conditions that the constructor can't test, such as equal lengths of two
-//! windows, or an index in bounds. A call that returns or grows a `Bitmap` (bits with their bytes)
-//! or a `Vec`, writes a bitmap with shared bytes, or returns a `Ranked` may allocate memory, and
-//! aborts if it runs out.
+//! windows, or an index in bounds. A call that returns or grows a `Bitmap` (bits with their bytes),
+//! a `BitmapsByCode`, a `TopK`, `AlignedBytes`, `SharedBytes` or a `Vec`, writes a bitmap with
+//! shared bytes, or returns a `Ranked` may allocate memory, and aborts if it runs out.
 //!
 //! # What is proved
 //!
@@ -61,7 +61,7 @@
 //! - `std` (default): tests the processor at run time. Without it, the compiler's target
 //!   (`-C target-cpu`) decides.
 //! - `alloc` (enabled by `std`): adds `Bitmap`, which owns its bytes, `Ranked`, a bitmap with its
-//!   ranks, and the calls that return one.
+//!   ranks, `BitmapsByCode`, `TopK`, and the calls that return a `Bitmap` or a `Vec`.
 //! - `arrow` (enables `alloc`): reads arrays and streams of Arrow's C interfaces in place, and
 //!   exports them. Only this part and the calls of proved functions use `unsafe`.
 //! - `levels`: adds `Level::make_current`, for measurements and tests.
