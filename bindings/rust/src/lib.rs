@@ -61,7 +61,8 @@
 //! - `std` (default): tests the processor at run time. Without it, the compiler's target
 //!   (`-C target-cpu`) decides.
 //! - `alloc` (enabled by `std`): adds `Bitmap`, which owns its bytes, `Ranked`, a bitmap with its
-//!   ranks, `BitmapsByCode`, `TopK`, and the calls that return a `Bitmap` or a `Vec`.
+//!   ranks, `BitmapsByCode`, `TopK`, and the calls that return a `Bitmap` or a `Vec`. The target
+//!   needs atomic numbers of its pointers' size, which count the owners of shared bytes.
 //! - `arrow` (enables `alloc`): reads arrays and streams of Arrow's C interfaces in place, and
 //!   exports them. Only this part and the calls of proved functions use `unsafe`.
 //! - `levels`: adds `Level::make_current`, for measurements and tests.

@@ -1,10 +1,46 @@
 //! The number of items that an iterator hasn't reached.
 
-use core::sync::atomic::{AtomicUsize, Ordering};
+use number::{Number, load, store};
+
+/// A number that a shared reference can write. Threads can share it.
+#[cfg(target_has_atomic = "ptr")]
+mod number {
+    use core::sync::atomic::{AtomicUsize, Ordering};
+
+    pub type Number = AtomicUsize;
+
+    #[inline]
+    pub fn load(number: &Number) -> usize {
+        number.load(Ordering::Relaxed)
+    }
+
+    #[inline]
+    pub fn store(number: &Number, value: usize) {
+        number.store(value, Ordering::Relaxed);
+    }
+}
+
+/// The same for targets that may have no such atomic number. Threads can't share it there.
+#[cfg(not(target_has_atomic = "ptr"))]
+mod number {
+    use core::cell::Cell;
+
+    pub type Number = Cell<usize>;
+
+    #[inline]
+    pub fn load(number: &Number) -> usize {
+        number.get()
+    }
+
+    #[inline]
+    pub fn store(number: &Number, value: usize) {
+        number.set(value);
+    }
+}
 
 /// A number of items, once it was counted. `skip`, `zip` and `enumerate` request it for each item
 /// that they return from the end, so it is kept, and each block that an end reaches is subtracted.
-pub struct Counted(AtomicUsize);
+pub struct Counted(Number);
 
 /// The value of a number that wasn't counted, or can't be kept.
 const UNKNOWN: usize = usize::MAX;
@@ -12,16 +48,16 @@ const UNKNOWN: usize = usize::MAX;
 impl Counted {
     #[inline]
     pub fn new() -> Self {
-        Counted(AtomicUsize::new(UNKNOWN))
+        Counted(Number::new(UNKNOWN))
     }
 
     /// Returns the number. Calls `count` if no earlier call has.
     #[inline]
     pub fn get(&self, count: impl FnOnce() -> usize) -> usize {
-        match self.0.load(Ordering::Relaxed) {
+        match load(&self.0) {
             UNKNOWN => {
                 let counted = count();
-                self.0.store(counted, Ordering::Relaxed);
+                store(&self.0, counted);
                 counted
             }
             known => known,
@@ -42,6 +78,6 @@ impl Counted {
 impl Clone for Counted {
     #[inline]
     fn clone(&self) -> Self {
-        Counted(AtomicUsize::new(self.0.load(Ordering::Relaxed)))
+        Counted(Number::new(load(&self.0)))
     }
 }
