@@ -1,3 +1,4 @@
+// Written in part by tools/write-lists from tools/families/nearest.txt.
 //! The last bit with a given value, and the last one before an index.
 ghost use Rattle.std.specs.Prelude.{ℕ, ◌≡◌, ◌+◌, ◌*◌, ◌%◌, ◌<◌, ◌≤◌, not, min};
 ghost use Rattle.vb_bits.specs.Bits.{bit_of, bits, complement};

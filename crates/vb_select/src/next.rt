@@ -1,3 +1,4 @@
+// Written in part by tools/write-lists from tools/families/nearest.txt.
 //! The next bit with a given value, from an index on.
 ghost use Rattle.std.specs.Prelude.{◌≡◌, ◌+◌, ◌-◌, ◌*◌, ◌%◌, ◌^◌, ◌<◌, ◌≤◌, ◌↔◌, length, IsTrue};
 ghost use Rattle.vb_bits.specs.Bits.{bits, count, complement};

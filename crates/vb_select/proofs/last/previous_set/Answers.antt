@@ -1,3 +1,4 @@
+-- Written by tools/write-lists from tools/families/nearest.txt.
 use Rattle.std.proofs.Common.{true}
 use Rattle.vb_select.proofs.LastLemmas.{IsPrevious_longer}
 use Rattle.vb_select.proofs.last.previous_set.Goals as goal

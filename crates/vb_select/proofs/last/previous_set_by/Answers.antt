@@ -1,3 +1,4 @@
+-- Written by tools/write-lists from tools/families/nearest.txt.
 use Rattle.std.proofs.Common.{◌+◌, ◌-◌, ℕ, true, min, refl, ap, arith}
 use Rattle.vb_count.proofs.LooksLemmas.{looks_most, looks_same}
 use Rattle.vb_select.proofs.LastLemmas.{IsPrevious_longer}
