@@ -30,12 +30,6 @@ kept-le (b ∷ mask) [] = omega arith
 kept-le (true ∷ mask) (v ∷ values) = let rest = kept-le mask values in omega arith
 kept-le (false ∷ mask) (v ∷ values) = let rest = kept-le mask values in omega arith
 
--- no bit is true in an empty range
-pub empty_none : (bits : List Bool) (a : ℕ) → count (slice_range bits a a) ≡ 0
-empty_none bits a =
-    let none : a - a ≡ 0 = omega arith in
-    ap (λ k. count (take k (drop a bits))) none
-
 -- nor in the bits of a word that is 0
 pub empty_word : (bits : List Bool) (a n keep : ℕ) → keep ≡ 0
     → digits keep 0 n ≡ slice_range bits a (a + n) → count (slice_range bits a (a + n)) ≡ 0

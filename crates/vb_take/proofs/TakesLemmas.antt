@@ -1,13 +1,10 @@
--- Values that positions take, one by one and by blocks of 64.
-use Rattle.std.proofs.Common.{◌≡◌, inl, inr, ℕ, ℤ, negsuc, ◌+◌, ◌-◌, ◌^◌, ◌<◌, ◌≤◌, Bool, true}
-use Rattle.std.proofs.Common.{false, cond, min, List, map, length, get_or, slice_get}
-use Rattle.std.proofs.Common.{Option, Some, None, refl, sym, ap, subst, ◌∙◌, arith, zero-add}
-use Rattle.std.specs.Prelude.{IsSome, Result, Ok, Err}
-use Rattle.std.specs.Option.{option_and_then, unwrap_or}
+-- Values that positions take, one by one and by words of up to 64.
+use Rattle.std.proofs.Common.{◌≡◌, inl, inr, ℕ, ℤ, negsuc, ◌+◌, ◌-◌, ◌^◌, ◌<◌, ◌≤◌, Bool}
+use Rattle.std.proofs.Common.{false, cond, List, map, length, get_or}
+use Rattle.std.proofs.Common.{Option, Some, refl, sym, ap, subst, ◌∙◌, arith, zero-add}
+use Rattle.std.specs.Prelude.{IsSome, Err}
 use Rattle.std.proofs.lemmas.Bool.{cases_lt}
 use Rattle.std.proofs.lemmas.List.{get_or-map, length-map}
-use Rattle.std.proofs.lemmas.Option.{slice_get_past, slice_get-get_or}
-use Rattle.vb_core.specs.Indices.{place_of}
 use Rattle.vb_bits.specs.Bits.{bit_of, bits}
 use Rattle.vb_bits.specs.Digits.{has_bit, digits}
 use Rattle.vb_bits.specs.Writes.{Writes}
@@ -17,24 +14,8 @@ use Rattle.vb_bits.proofs.PackedLemmas.{with_digit, digit_other, digit_same}
 use Rattle.vb_bits.proofs.WritesLemmas.{Writes-at}
 use Rattle.vb_take.specs.Takes.{is_valid, value_at, taken_at, TakenTo, TakesPart, IsTaken}
 use Rattle.vb_take.specs.Takes.{IsFirstPast}
-use Rattle.vb_take.specs.Blocks.{narrow_place, TakesBlock}
 
 -- ---- one position
--- the value at an index, which may be any number
-at_narrowed : (l : List Bool) (p : Option ℕ) → length l < 2 ^ 32 → option_and_then (slice_get l) p
-    ≡ slice_get l (min (unwrap_or p (2 ^ 32 - 1)) (2 ^ 32 - 1))
-at_narrowed l None few = sym (slice_get_past l (min (2 ^ 32 - 1) (2 ^ 32 - 1)) (omega arith))
-at_narrowed l (Some p) few = elim (cases_lt p (2 ^ 32 - 1)) [
-  | inl low ↦ let same : p ≡ min p (2 ^ 32 - 1) = omega arith in ap (slice_get l) same
-  | inr high ↦ slice_get_past l p (omega arith)
-      ∙ sym (slice_get_past l (min p (2 ^ 32 - 1)) (omega arith))
-]
-
--- the value at an index is that at the index as 32 bits
-value_at-narrow_place : (l : List Bool) (index : ℤ)
-    → length l < 2 ^ 32 → value_at l index ≡ slice_get l (narrow_place index)
-value_at-narrow_place l index few = at_narrowed l (place_of index) few
-
 -- an option that is `Some b` has a value
 some_taken : (o : Option Bool) (b : Bool) → o ≡ Some b → IsSome o
 some_taken o b e = subst IsSome (sym e) refl
@@ -95,45 +76,6 @@ IsFirstPast-part l xs v n m p has before within takes = record {
         subst IsSome (ap (taken_at l xs v) here) (takes.2 k (omega arith))
   ];
 }
-
--- ---- blocks of 64
--- the value that a position of a block takes
-taken_in_block : (l : List Bool) (xs : List ℤ) (v : Option (List Bool)) (block : List ℕ)
-    (valid a k : ℕ) → length l < 2 ^ 32
-    → get_or block k 0 ≡ narrow_place (get_or xs (a + k) (negsuc 0))
-    → has_bit valid k ≡ is_valid v (a + k)
-    → taken_at l xs v (a + k) ≡ cond (has_bit valid k) (slice_get l (get_or block k 0)) (Some false)
-taken_in_block l xs v block valid a k few narrow counts =
-    ap (λ o. cond (is_valid v (a + k)) o (Some false))
-    (value_at-narrow_place l (get_or xs (a + k) (negsuc 0)) few ∙ ap (slice_get l) (sym narrow))
-    ∙ ap (λ b. cond b (slice_get l (get_or block k 0)) (Some false)) (sym counts)
-
--- a block of 64 takes what its positions take
-pub TakesPart-block : (l : List Bool) (xs : List ℤ) (v : Option (List Bool)) (block : List ℕ)
-    (valid a : ℕ) (r : Result ℕ ℕ) → length l < 2 ^ 32
-    → ((k : ℕ) → k < 64 → get_or block k 0 ≡ narrow_place (get_or xs (a + k) (negsuc 0)))
-    → ((k : ℕ) → k < 64 → has_bit valid k ≡ is_valid v (a + k))
-    → TakesBlock l block valid r → TakesPart (λ k. taken_at l xs v (a + k)) 64 r
-TakesPart-block l xs v block valid a (Ok word) few narrow counts takes = λ k h.
-    taken_in_block l xs v block valid a k few (narrow k h) (counts k h) ∙ takes k h
-TakesPart-block l xs v block valid a (Err p) few narrow counts takes =
-    let inside : p < 64 = takes.0 in (
-      inside,
-      taken_in_block l xs v block valid a p few (narrow p inside) (counts p inside)
-          ∙ ap (λ b. cond b (slice_get l (get_or block p 0)) (Some false)) takes.1
-          ∙ slice_get_past l (get_or block p 0) takes.2,
-      λ k h.
-          let small : k < 64 = omega arith in
-          subst IsSome
-          (sym (taken_in_block l xs v block valid a k few (narrow k small) (counts k small)))
-          (some_of (has_bit valid k) k (takes.3 k h)),
-    )
-  where
-    some_of : (b : Bool) (k : ℕ) → (b ≡ true → get_or block k 0 < length l)
-        → IsSome (cond b (slice_get l (get_or block k 0)) (Some false))
-    some_of true k h = some_taken (slice_get l (get_or block k 0))
-        (get_or l (get_or block k 0) false) (slice_get-get_or l (get_or block k 0) false (h refl))
-    some_of false k h = refl
 
 -- ---- all positions
 -- the bits are those taken
