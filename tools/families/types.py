@@ -217,6 +217,8 @@ TRUTHS = [
 ]
 # The operators of two floats, by the name of the call.
 FLOAT_SIGNS = {"equal": "==", "not_equal": "!=", "less": "<", "less_or_equal": "<="}
+# The allocators for tests that forward requests, by the name of the file that has them.
+ALLOCATORS = {"handle": "Handle", "refusing": "Refusing"}
 # The sets of bits with their counts, by the name of the file that has them.
 RANKED = {"ranked": "Ranked", "ranked_buffer": "RankedBuffer"}
 

@@ -1,3 +1,5 @@
+-- Written by tools/write-lists from tools/families/allocators.txt.
+
 -- Returns a block to the inner allocator, through a `&` to the field. Assumes `Logic`.
 use Rattle.vb_testing.proofs.Steps.{◌≡◌, [], ◌∷◌, refl, sym, subst, w64, proved, after, Al, token}
 use Rattle.vb_testing.proofs.Steps.{Gives, at_gives, Gives-goes, Gives-Gives, fst∗, never, Fml}
@@ -62,7 +64,7 @@ deallocate_spec 𝓤 𝓛 𝓜 𝓡 wired B L g d dd met md =
     let ρ = κs.1.0 in
     let b = a.0.ref_ptr.0 in
     let o = a.0.ref_ptr.1 in
-    let handle = a.0.now in
+    let heap = a.0.now in
     let size = a.1.1.0 in let alignment = a.1.1.1.0 in
     let y : Ptr → W.Ghost = λ p. (
       (
@@ -74,22 +76,22 @@ deallocate_spec 𝓤 𝓛 𝓜 𝓡 wired B L g d dd met md =
       ),
       τ,
     ) in
-    let block : Ptr → Fml = owned_block (token Z handle.inner) τ in
+    let block : Ptr → Fml = owned_block (token Z heap.inner) τ in
     qed 𝓛 (((‵ (flft κ qs.0) ⊛ ‵ (flft ρ qs.1.0) ⊛ ‵ ftrue) ⊛ ‵
     (owns (types_at (ended Z).signature.params κs) a (y a.1.0).0.4))
     ∷ (raw (fact 𝓤 (ρ ⊑ B.lives)) ⊛ raw (fact 𝓤 (HasLayout τ size alignment)) ⊛ ‵ (block a.1.0))
     ∷ []) ∵
     move ! (1 ∷ []) $ split3 ! $ heard ! _ (λ outlives. heard ! _ (λ laid. move !
     (1 ∷ []) $ split ! $ split3 ! $ move ! (3 ∷ []) $ fsplit ! $ fsplit ! $ move ! (1 ∷ []) $
-    use1 𝓛 (‵ (hidden_shr B κ handle.inner b (inner_at B o))) (handle_shares 𝓛 B κ handle b o) $
+    use1 𝓛 (‵ (hidden_shr B κ heap.inner b (inner_at B o))) (handle_shares 𝓛 B κ heap b o) $
     keep ! (6 ∷ 0 ∷ 3 ∷ 4 ∷ []) $
     -- [the block; the `&` to the allocator within; the tokens]
-    in_a_block ! a.1.0 block (fst∗ 𝓤 (never 𝓤) (sem 𝓛 (token Z handle.inner τ null_ptr))) (λ m i e.
+    in_a_block ! a.1.0 block (fst∗ 𝓤 (never 𝓤) (sem 𝓛 (token Z heap.inner τ null_ptr))) (λ m i e.
     regoal ! (λ p. prop (WpFn 𝓤 𝓛.H 𝓣.C 𝓣.Λ (body Z)
     (vptr b o ∷ ptr_val p ∷ vint w64 size ∷ vint w64 alignment ∷ []) (W.post (y p)))) e refl $
     let G = Gives Z 𝓛 𝓜.mem 𝓡.returns in
     let z : G.Ghost =
-    at_gives Z 𝓛 𝓜.mem 𝓡.returns κ qs.0 (b, inner_at B o) handle.inner m i size alignment τ in
+    at_gives Z 𝓛 𝓜.mem 𝓡.returns κ qs.0 (b, inner_at B o) heap.inner m i size alignment τ in
     enter ! _ _ _ _ _ $ alloc_all ! (λ l. pass_all ! refl (
       (tt, tt),
       (
@@ -100,13 +102,13 @@ deallocate_spec 𝓤 𝓛 𝓜 𝓡 wired B L g d dd met md =
     first ! $ blocks ! $ sets ! (addr ! (through ! refl (fld ! refl (stop !)))) refl (tt, tt) $
     fsplit ! $ move !
     (2 ∷ 3 ∷ []) $ join ! $ move ! (2 ∷ 0 ∷ []) $ join ! $ move ! (1 ∷ 0 ∷ []) $ join ! $
-    use1 𝓛 (raw (G.pre z)) (Gives-goes Z 𝓛 𝓜.mem 𝓡.returns κ qs.0 (b, inner_at B o) handle.inner
-    (⊑_trans κ ρ B.lives bounds.0 outlives)
-    m i size alignment τ laid.0 laid.1 are.1.1.0.1 are.1.1.1.0.1) $
+    use1 𝓛 (raw (G.pre z))
+    (Gives-goes Z 𝓛 𝓜.mem 𝓡.returns κ qs.0 (b, inner_at B o) heap.inner (⊑_trans κ
+    ρ B.lives bounds.0 outlives) m i size alignment τ laid.0 laid.1 are.1.1.0.1 are.1.1.1.0.1) $
     calls_at_last ! (framed 𝓤 𝓛.H 𝓜 𝓣) G (met.deallocate dd) z (and_then ! (get ! refl) (and_then !
     (get ! refl) (and_then ! (get ! refl) (and_then ! (get ! refl) (no_more !))))) (λ v.
     use1 𝓛 (later (given (v ≡ vunit) (‵ (flft κ qs.0)))) (Gives-Gives Z 𝓛 𝓜.mem 𝓡.returns κ qs.0
-    (b, inner_at B o) handle.inner m i size alignment τ v) $ await ! tt $ learn ! (λ is_unit.
+    (b, inner_at B o) heap.inner m i size alignment τ v) $ await ! tt $ learn ! (λ is_unit.
     lands_last ! refl (subst (λ (u : Val). T (has_ty ty_unit u) × WT u) (sym is_unit) (tt, tt)) $
     exec ! 𝓣.C 𝓣.Λ
     (env (body Z).locals l) (after 1 (body Z).body) (at_ret _ (W.post (y (block_ptr m i)))) $

@@ -1,3 +1,5 @@
+-- Written by tools/write-lists from tools/families/allocators.txt.
+
 -- Returns a block to the inner allocator, through a `&` to the field. Assumes `Logic`.
 use Rattle.vb_testing.proofs.Steps.{◌≡◌, [], ◌∷◌, refl, sym, subst, w64, proved, after, Al, token}
 use Rattle.vb_testing.proofs.Steps.{Gives, at_gives, Gives-goes, Gives-Gives, fst∗, never, Fml}
