@@ -173,6 +173,8 @@ F64 = Number("f64", 64, "double")
 UNSIGNED = [U8, U16, U32, U64, U128, USIZE]
 SIGNED = [I8, I16, I32, I64, I128, ISIZE]
 FLOATS = [F32, F64]
+# The types of bytes that are read or written as one number, by the names of these functions.
+AS_NUMBERS = {"word": U64, "four": U32, "two": U16}
 # Whole numbers, by the name of the file that has them.
 WHOLE = {"unsigned": UNSIGNED, "signed": SIGNED}
 # The types of C and C++: of values that are moved, of indices, and of compared values.

@@ -5,6 +5,6 @@
 /// The output of tools/digest. tools/write-lists writes it here.
 macro_rules! digest {
     () => {
-        "8b7d62d95f2dc850a76de862077ccce94092341e613f659195dab70832bbabfb"
+        "735a75159e758b62828f2f56211c115590e5d10ddff46ff001689a86accf12a2"
     };
 }

@@ -1,3 +1,4 @@
+// Written in part by tools/write-lists from tools/families/bytes.txt.
 //! Reads and writes of several bytes of a slice at once, and masks of one byte.
 ghost use Rattle.std.specs.Prelude.{◌≡◌, ◌+◌, ◌-◌, ◌*◌, ◌^◌, ◌≤◌, length, slice_range};
 ghost use Rattle.std.specs.Int.{w16, w32, w64, to_le_bytes};

@@ -1,3 +1,4 @@
+-- Written by tools/write-lists from tools/families/bytes.txt.
 use Rattle.std.proofs.Common.{◌+◌, ◌-◌, length, take, drop, ap, arith}
 use Rattle.std.proofs.lemmas.List.{length-take, length-drop}
 use Rattle.vb_bits.proofs.WritesLemmas.{Writes_number}
