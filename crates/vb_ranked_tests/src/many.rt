@@ -1,3 +1,4 @@
+// Written in part by tools/write-lists from tools/families/ranked.txt.
 //! Calls with many ranks, compared with a call for each rank.
 use crate::compared::{equal, holds};
 use crate::made::mixed;
