@@ -1,8 +1,9 @@
 """The table of questions about one window, and about two windows of one length.
 
-The template questions.txt uses it. A question about two windows that is added here, after its
-kernel in vb_pair and its plain form in bindings/rust/src/portable, gets its functions and their
-tests in C, C++ and Rust by tools/write-lists; one about one window gets functions in C.
+The template questions.txt uses it. A question about two windows that is added here, after its plain
+form in bindings/rust/src/portable, gets its functions and their tests in C, C++ and Rust by
+tools/write-lists. Its kernel in vb_pair is written too if it returns a truth value; one that finds
+an index comes first. A question about one window gets functions in C.
 """
 import textwrap
 from dataclasses import dataclass
@@ -77,6 +78,9 @@ class Pair(Question):
     operator: Operator
     answer: Answer
     out: str
+    # What the kernel in vb_pair returns, if it is a truth value, and where a bit is set that decides.
+    states: str
+    found: str
     # The docstring of the C function in its crate, and that of the Rust methods.
     told: str
     method: str
@@ -188,7 +192,7 @@ OF_PAIRS = [
         "Returns whether no bit is set in both, and whether each bit set here is set in `right`.",
         [
             Pair(
-                "is_disjoint", AND, TRUTH, "disjoint",
+                "is_disjoint", AND, TRUTH, "disjoint", "no bit is set in both windows", "both",
                 "Returns whether no index below `len` has a set bit in both windows: `left` from "
                 "bit `l` on, and `right` from bit `r` on (true for no bits). Reads up to the first "
                 "word that has such an index.",
@@ -202,6 +206,8 @@ OF_PAIRS = [
             ),
             Pair(
                 "is_subset", AND_NOT, TRUTH, "subset",
+                "each set bit of the left window is also set in the right one",
+                "the left window only",
                 "Returns whether each index below `len` that has a set bit in `left` from bit `l` "
                 "on also has one in `right` from bit `r` on (true for no bits). Reads up to the "
                 "first word that has a bit set in `left` alone.",

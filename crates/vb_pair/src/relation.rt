@@ -1,3 +1,4 @@
+// Written in part by tools/write-lists from tools/families/questions.txt.
 //! Tests whether two windows have a common set bit, or the right one has all set bits of the left.
 ghost use Rattle.std.specs.Prelude.{◌≡◌, ◌↔◌, ◌+◌, ◌*◌, ◌/◌, ◌^◌, ◌<◌, ◌≤◌, length, IsTrue};
 ghost use Rattle.vb_bits.specs.Bits.{bits, count};

@@ -214,8 +214,8 @@ class Questions(unittest.TestCase):
     """A question about two windows that finds an index; the table has no such question."""
 
     QUESTION = Pair(
-        "or_next", OR, PLACE, "place", "Returns the first index.", "Returns the first index.",
-        "union", "assert!(true);", "assert!(true);", "None", "from",
+        "or_next", OR, PLACE, "place", "", "", "Returns the first index.",
+        "Returns the first index.", "union", "assert!(true);", "assert!(true);", "None", "from",
     )
     ADDED = {
         "PAIRS": [QUESTION], "OF_PAIRS": [Group("The first.", ["f();"], "The first.", [QUESTION])],
