@@ -5,8 +5,8 @@
 //!
 //! It makes ROWS rows (by default a hundred thousand), or reads FILE: the line `a,b,c,flag`, and
 //! then a line per row with a comma between two fields; an empty field is null. With `time` it also
-//! runs the query and plain loops 30 times in turn, and prints the least time of each; with `csv` it
-//! prints the rows instead of the results.
+//! runs the query and plain loops 30 times in turn, and prints the least time of each; with `csv`
+//! it prints the rows instead of the results.
 
 mod engine;
 mod loops;
