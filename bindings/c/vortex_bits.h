@@ -286,8 +286,8 @@ VB_CHECKED bool vb_try_all_set(const uint8_t *bytes, size_t size, size_t offset,
 
 /*
  * Returns whether the `len` bits of `left` from bit `left_offset` on equal those of `right` from
- * bit `right_offset` on. Compares up to 64 bytes first, and then blocks of 512 bytes, up to the one
- * with the first difference.
+ * bit `right_offset` on. Compares blocks of at most 512 bytes, up to the one with the first
+ * difference.
  *
  *     const uint8_t rows[] = {0xE8, 0x06};
  *     assert(vb_equal_bits(rows, 2, 5, rows, 2, 9, 2));
