@@ -66,7 +66,8 @@ enum { VALUES = 300, BYTES = VALUES / 8 + 3, ROUNDS = 200, COMPARISONS = 6 };
         check(vb_try_compare_with_##T(got[3], BYTES, o, values, n, op, others, n),                \
             "vb_try_compare_with_" #T);                                                           \
         for (size_t k = 0; k < 4; k++) {                                                          \
-            check(memcmp(got[k], wanted[k % 2], BYTES) == 0, "what a comparison of " #T " writes"); \
+            check(memcmp(got[k], wanted[k % 2], BYTES) == 0,                                      \
+                "what a comparison of " #T " writes");                                            \
         }                                                                                         \
         check(!vb_try_compare_##T(got[2], BYTES, o, values, n, COMPARISONS, number)               \
                 && !vb_try_compare_##T(got[2], BYTES, 8 * BYTES + 1 - n, values, n, op, number)   \

@@ -1,6 +1,6 @@
 /*
- * Compares the counts and sums by group of vortex_bits_aggregate.h with a loop over single bits: for
- * every type of codes and of values, under random masks and without one, with rows that have no
+ * Compares the counts and sums by group of vortex_bits_aggregate.h with a loop over single bits:
+ * for every type of codes and of values, under random masks and without one, with rows that have no
  * group. It compiles as C and as C++.
  */
 #include "tests.h"

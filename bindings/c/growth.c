@@ -101,10 +101,10 @@ static size_t size;
     ROW(masked_max_##name,                                                                        \
         vb_masked_max_##name((const type *)values, n, WINDOW(mixed, LEFT)).has_value)
 #define GROUP_SUMS(name, type, sum, at)                                                           \
-    ROW(group_sums_##name##_##at, vb_group_sums_##name##_##at((sum *)written, n, indices_##at, n,   \
+    ROW(group_sums_##name##_##at, vb_group_sums_##name##_##at((sum *)written, n, indices_##at, n, \
         (const type *)values, n, false, WINDOW(mixed, LEFT)).position)
 #define GROUP(at)                                                                                 \
-    ROW(group_counts_##at, vb_group_counts_##at((uint64_t *)written, n, indices_##at, n, false,     \
+    ROW(group_counts_##at, vb_group_counts_##at((uint64_t *)written, n, indices_##at, n, false,   \
         WINDOW(mixed, LEFT)).position)                                                            \
     GROUP_SUMS(u8, uint8_t, uint64_t, at)                                                         \
     GROUP_SUMS(u16, uint16_t, uint64_t, at)                                                       \
@@ -288,8 +288,8 @@ static const row rows[] = {
     OF(scatter_values_u32) OF(scatter_values_u64) OF(scatter_values_u128) OF(scatter_values)
     OF_AGGREGATE(u8) OF_AGGREGATE(u16) OF_AGGREGATE(u32) OF_AGGREGATE(u64) OF_AGGREGATE(i8)
     OF_AGGREGATE(i16) OF_AGGREGATE(i32) OF_AGGREGATE(i64) OF_AGGREGATE_FLOATS(f32)
-    OF_AGGREGATE_FLOATS(f64) OF_GROUP(u8) OF_GROUP(u16) OF_GROUP(u32) OF_TAKE(u8) OF_TAKE(u16) OF_TAKE(u32)
-    OF_TAKE(u64) OF(take_values) OF(block_counts) OF(rank) OF(ranked_select)
+    OF_AGGREGATE_FLOATS(f64) OF_GROUP(u8) OF_GROUP(u16) OF_GROUP(u32) OF_TAKE(u8) OF_TAKE(u16)
+    OF_TAKE(u32) OF_TAKE(u64) OF(take_values) OF(block_counts) OF(rank) OF(ranked_select)
     OF(ranked_select_unset)
 };
 #define ROWS (sizeof rows / sizeof *rows)

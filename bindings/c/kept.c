@@ -322,7 +322,8 @@ static void filters(const uint8_t *bytes, size_t v, const uint8_t *mask, size_t 
             n++;
         }
     }
-    check(memcmp(got[0], kept, BYTES) == 0 && memcmp(got[1], kept, BYTES) == 0, "bits that are kept");
+    check(memcmp(got[0], kept, BYTES) == 0 && memcmp(got[1], kept, BYTES) == 0,
+        "bits that are kept");
     deposits(bytes, v, mask, m, len, ones);
     scatters_u8(mask, m, len, ones);
     scatters_u16(mask, m, len, ones);

@@ -1,7 +1,7 @@
 /*
  * Compares the calls of vortex_bits_aggregate.h with a loop over single bits: for every type, under
- * random masks, with values at both ends of the type, and floats that are no numbers. It compiles as
- * C and as C++.
+ * random masks, with values at both ends of the type, and floats that are no numbers. It compiles
+ * as C and as C++.
  */
 #include "tests.h"
 #include "vortex_bits.h"

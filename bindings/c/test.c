@@ -47,14 +47,14 @@ static void questions(const uint8_t *bytes, size_t offset, size_t len)
     check(is_place(vb_select(bytes, BYTES, offset, len, n), set, len), "vb_select");
     check(vb_try_select(bytes, BYTES, offset, len, n, &place) && is_place(place, set, len),
         "vb_try_select");
-    check(is_place(vb_select_unset(bytes, BYTES, offset, len, n), unset, len),
-        "vb_select_unset");
+    check(is_place(vb_select_unset(bytes, BYTES, offset, len, n), unset, len), "vb_select_unset");
     check(vb_try_select_unset(bytes, BYTES, offset, len, n, &place) && is_place(place, unset, len),
         "vb_try_select_unset");
     if (offset < BITS) {
         bool one = false;
         check(vb_get_bit(bytes, BYTES, offset) == bit(bytes, offset), "vb_get_bit");
-        check(vb_try_get_bit(bytes, BYTES, offset, &one) && one == bit(bytes, offset), "vb_try_get_bit");
+        check(vb_try_get_bit(bytes, BYTES, offset, &one) && one == bit(bytes, offset),
+            "vb_try_get_bit");
     }
 }
 
@@ -67,12 +67,10 @@ static void narrow_places(const size_t *places, size_t room, const uint8_t *byte
     memset(narrow, 0xEE, sizeof narrow);
     check(vb_set_indices_u32(narrow, room, bytes, BYTES, offset, len) == found
             && vb_try_set_indices_u32(checked, room, bytes, BYTES, offset, len, &count)
-            && count == found,
-        "vb_set_indices_u32");
+            && count == found, "vb_set_indices_u32");
     for (size_t i = 0; i < BITS + 1; i++) {
         check(i < found ? narrow[i] == places[i] && checked[i] == places[i]
-                : narrow[i] == 0xEEEEEEEEu,
-            "an index of 32 bits");
+                : narrow[i] == 0xEEEEEEEEu, "an index of 32 bits");
     }
 }
 
@@ -101,8 +99,7 @@ static void walks(const uint8_t *bytes, size_t offset, size_t len)
     narrow_places(places, room, bytes, offset, len, written);
     written = vb_set_slices(runs, room, bytes, BYTES, offset, len);
     check(vb_try_set_slices(runs_checked, room, bytes, BYTES, offset, len, &count)
-            && count == written,
-        "vb_try_set_slices");
+            && count == written, "vb_try_set_slices");
     seen = 0;
     for (size_t i = 0; i <= len; i++) {
         const bool here = i < len && bit(bytes, offset + i);
@@ -113,7 +110,8 @@ static void walks(const uint8_t *bytes, size_t offset, size_t len)
         if (before && !here) {
             if (seen < room) {
                 check(runs[seen].start == begun && runs[seen].end == i, "a run");
-                check(runs_checked[seen].start == begun && runs_checked[seen].end == i, "a run, checked");
+                check(runs_checked[seen].start == begun && runs_checked[seen].end == i,
+                    "a run, checked");
             }
             seen++;
         }
@@ -264,8 +262,7 @@ static void unpacks(const uint8_t *bytes, size_t offset, size_t len)
     vb_unpack_bools(bools[0], room, bytes, BYTES, offset, len);
     vb_unpack_bytes(got[2], room, bytes, BYTES, offset, len);
     check(vb_try_unpack_bools(bools[1], room, bytes, BYTES, offset, len)
-            && vb_try_unpack_bytes(got[3], room, bytes, BYTES, offset, len),
-        "the checked unpacks");
+            && vb_try_unpack_bytes(got[3], room, bytes, BYTES, offset, len), "the checked unpacks");
     for (size_t k = 0; k < 4; k++) {
         for (size_t i = 0; i < BITS + 9; i++) {
             check(got[k][i] == (i < len ? (uint8_t)bit(bytes, offset + i) : 0xA5),
@@ -320,7 +317,8 @@ static void takes(const uint8_t *bytes, size_t offset, size_t len, const uint8_t
         for (size_t p = 0; p < n; p++) {
             const bool counts = all || bit(valid, v + p);
             if (past == n) {
-                check(bit(got, p) == (counts && bit(bytes, offset + wide[p])), "a bit that is taken");
+                check(bit(got, p) == (counts && bit(bytes, offset + wide[p])),
+                    "a bit that is taken");
             }
             put(got, p, bit(rest, p));
         }
@@ -437,8 +435,10 @@ static void refusals(const uint8_t *bytes)
         check(!vb_try_set_indices(places, 1, bytes, BYTES, offset, len, &number), "bad places");
         check(!vb_try_set_indices_u32(narrow, 1, bytes, BYTES, offset, len, &number), "bad places");
         check(!vb_try_set_slices(runs, 1, bytes, BYTES, offset, len, &number), "bad runs");
-        check(!vb_try_equal_bits(bytes, BYTES, offset, bytes, BYTES, 0, len, &flag), "a bad left window");
-        check(!vb_try_equal_bits(bytes, BYTES, 0, bytes, BYTES, offset, len, &flag), "a bad right window");
+        check(!vb_try_equal_bits(bytes, BYTES, offset, bytes, BYTES, 0, len, &flag),
+            "a bad left window");
+        check(!vb_try_equal_bits(bytes, BYTES, 0, bytes, BYTES, offset, len, &flag),
+            "a bad right window");
         check(!vb_try_unpack_bytes(got, BYTES, bytes, BYTES, offset, len), "a bad unpack");
         check(!vb_try_negate_bits(got, BYTES, offset, len), "a bad window to negate");
         check(!vb_try_fill_bits(got, BYTES, offset, len, true), "a bad window to fill");
@@ -452,8 +452,8 @@ static void refusals(const uint8_t *bytes)
             }
         }
         check(number == 77 && flag && place.found && place.index == 9 && places[0] == 5
-                && narrow[0] == 5 && runs[0].start == 3 && runs[0].end == 4 && memcmp(got, bytes, BYTES) == 0,
-            "a refused call left all as it was");
+                && narrow[0] == 5 && runs[0].start == 3 && runs[0].end == 4
+                && memcmp(got, bytes, BYTES) == 0, "a refused call left all as it was");
         bad_takes(bytes, offset, len);
         bad_ranks(bytes, offset, len);
     }

@@ -314,9 +314,11 @@ static void values_at_indices()
     check(take_values(many, std::vector<std::int8_t>{-1}, one) == 0, "-1 isn't 255");
     const std::vector<vb_u128> wides = {{1, 2}, {3, 4}};
     std::vector<vb_u128> wide(1);
-    check(!take_values(wides, std::vector<std::size_t>{1}, wide) && wide[0].high == 4, "a wide value");
+    check(!take_values(wides, std::vector<std::size_t>{1}, wide) && wide[0].high == 4,
+        "a wide value");
     refused([&] { (void)take_values(column, std::vector<std::uint8_t>(5), out); }, "no room");
-    refused([&] { (void)take_values(column, std::vector<std::uint8_t>(2), bits(valid, 0, 3), out); },
+    refused(
+        [&] { (void)take_values(column, std::vector<std::uint8_t>(2), bits(valid, 0, 3), out); },
         "a long validity");
 }
 

@@ -31,7 +31,11 @@ macro_rules! wide {
                 let exact: $total = chosen.iter().map(|&it| it as $total).sum();
                 let checked = <$value>::try_from(exact).ok();
                 calls += same("masked_sum", values::masked_sum(&column, mask), exact)?
-                    + same("masked_checked_sum", values::masked_checked_sum(&column, mask), checked)?;
+                    + same(
+                        "masked_checked_sum",
+                        values::masked_checked_sum(&column, mask),
+                        checked,
+                    )?;
             }
         )*
         return Ok(calls $(+ narrow!($case, $random, $value))*);

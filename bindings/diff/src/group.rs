@@ -132,7 +132,11 @@ macro_rules! floats {
                 let bits = |value: Option<$float>| value.map($float::to_bits);
                 let got = values::masked_float_sum(&column, mask);
                 calls += same("masked_float_sum", got.is_nan(), sum.is_nan())?
-                    + same("masked_float_sum", got.is_nan() || got.to_bits() == sum.to_bits(), true)?
+                    + same(
+                        "masked_float_sum",
+                        got.is_nan() || got.to_bits() == sum.to_bits(),
+                        true,
+                    )?
                     + same(
                         "masked_float_min",
                         bits(values::masked_float_min(&column, mask)),

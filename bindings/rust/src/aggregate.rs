@@ -221,13 +221,15 @@ pub(crate) mod sealed {
     one_by_one! { u128 i128 }
 }
 
-/// Returns the exact sum of the values that `mask` selects: of all if it is None. It can't overflow.
+/// Returns the exact sum of the values that `mask` selects: of all if it is None. It can't
+/// overflow.
 ///
 /// ```
 /// use vortex_bits::{Bits, values};
 ///
 /// let mask = Bits::new(&[0b1101], 0, 4);
-/// assert_eq!(values::masked_sum(&[i64::MAX, 7, i64::MAX, -1], mask), 2 * i128::from(i64::MAX) - 1);
+/// let sum = values::masked_sum(&[i64::MAX, 7, i64::MAX, -1], mask);
+/// assert_eq!(sum, 2 * i128::from(i64::MAX) - 1);
 /// assert_eq!(values::masked_sum(&[200u8, 50, 6], None::<Bits>), 256);
 /// ```
 ///

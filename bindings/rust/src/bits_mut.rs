@@ -411,12 +411,12 @@ macro_rules! operators {
                 /// use vortex_bits::{Bits, BitsMut};
                 ///
                 /// let (left, right) = (Bits::new(&[0b1100], 0, 4), Bits::new(&[0b1010], 0, 4));
-                /// let (mut made, mut copied) = ([0xFF], [0xFF]);
-                #[doc = concat!("BitsMut::new(&mut made, 2, 4).", stringify!($of), "(left, right);")]
+                /// let (mut got, mut copied) = ([0xFF], [0xFF]);
+                #[doc = concat!("BitsMut::new(&mut got, 2, 4).", stringify!($of), "(left, right);")]
                 /// let mut copy = BitsMut::new(&mut copied, 2, 4);
                 /// copy.copy_from(left);
                 #[doc = concat!("copy.", stringify!($name), "(right);")]
-                /// assert_eq!(made, copied);
+                /// assert_eq!(got, copied);
                 /// ```
                 ///
                 /// # Panics

@@ -193,8 +193,8 @@ impl fmt::Debug for BitmapsByCode {
 
 /// Returns `number` bitmaps with a bit per row: bitmap `code` has the rows with this code that
 /// `mask` selects; all of them if it is None. Rows that it doesn't select, such as nulls, may have
-/// any number as their code. It reads the codes once. The bitmaps share one buffer, of a bit per row
-/// and code, rounded up to 64 bytes for each code. [`BitmapsByCode`] does it batch by batch.
+/// any number as their code. It reads the codes once. The bitmaps share one buffer, of a bit per
+/// row and code, rounded up to 64 bytes for each code. [`BitmapsByCode`] does it batch by batch.
 ///
 /// ```
 /// use vortex_bits::{Bitmap, Bits, values};

@@ -212,7 +212,9 @@ pub fn copy_within(out: &mut Written<'_>, from: usize, to: usize, len: usize) {
     if let Some(kernels) = kernels().filter(|_| len > 64) {
         let (offset, bytes) = (out.offset(), out.bytes_mut());
         let (from, to) = (offset + from, offset + to);
-        return native!(@call kernels.move_bits, [] slice_mut bytes, value to, value from, value len);
+        return native!(
+            @call kernels.move_bits, [] slice_mut bytes, value to, value from, value len
+        );
     }
     portable::copy_within(out, from, to, len);
 }

@@ -82,8 +82,8 @@ macro_rules! has {
 
 impl Level {
     /// Returns the level that calls use. It is the highest level whose code is linked and that the
-    /// processor has, unless `make_current` set another. The build links the archives of both levels
-    /// or none: if one is missing, the level is [`Level::Portable`].
+    /// processor has, unless `make_current` set another. The build links the archives of both
+    /// levels or none: if one is missing, the level is [`Level::Portable`].
     #[inline]
     #[must_use]
     pub fn current() -> Level {

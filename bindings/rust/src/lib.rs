@@ -41,9 +41,9 @@
 //!   values and indices that plain Rust processes: see [`Value`], [`Compare`], [`Summand`] and
 //!   [`BitIndex`];
 //! - code that joins calls: `fill_with`, and the blocks that iterators fill;
-//! - sums, minimum and maximum without a mask; the minimum and maximum of floats, and their sums by
-//!   group; groups by codes of 64 bits; minimum, maximum and bitmaps by group, members of a set, and
-//!   the first `k` values of an order;
+//! - sums, minimum and maximum without a mask; the minimum and maximum of floats, and their sums
+//!   by group; groups by codes of 64 bits; minimum, maximum and bitmaps by group, members of a set,
+//!   and the first `k` values of an order;
 //! - iterators over unset bits and from the end, the building and growth of bitmaps, [`Validity`],
 //!   and `arrow`;
 //! - everything on other targets, under Miri, and if the archives of those functions are missing at

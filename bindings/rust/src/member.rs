@@ -42,7 +42,8 @@ pub fn is_in_into<'a, I: BitIndex>(
 /// # #[cfg(feature = "alloc")] {
 /// use vortex_bits::{Bitmap, values};
 ///
-/// let (keys, mut rows) = (Bitmap::from_indices(50, &[7u32, 42]), Bitmap::from([true, true, false]));
+/// let keys = Bitmap::from_indices(50, &[7u32, 42]);
+/// let mut rows = Bitmap::from([true, true, false]);
 /// values::and_is_in(&[42i64, -7, 7], &keys, rows.bits_mut());
 /// assert_eq!(rows, Bitmap::from([true, false, false]));
 /// # }

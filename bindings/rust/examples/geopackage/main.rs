@@ -4,9 +4,9 @@
 //!     cargo run --release --features arrow --example geopackage -- FILE [ROWS]
 //!
 //! FILE is a `GeoPackage` that `bindings/gdal/make_parcels.py` writes. GDAL gives its two tables by
-//! the Arrow C stream interface, in batches of at most ROWS rows, else 65,536. Each query is printed
-//! with its rows; `bindings/gdal/compare` compares them with those of `SQLite`. Without FILE, or
-//! where GDAL isn't installed, it says so and ends.
+//! the Arrow C stream interface, in batches of at most ROWS rows, else 65,536. Each query is
+//! printed with its rows; `bindings/gdal/compare` compares them with those of `SQLite`. Without
+//! FILE, or where GDAL isn't installed, it says so and ends.
 
 mod gdal;
 mod queries;

@@ -1,5 +1,5 @@
-//! The queries, by the calls of the crate. Each has its SQL, which `SQLite` runs over the same file:
-//! a `GeoPackage` is one of its databases.
+//! The queries, by the calls of the crate. Each has its SQL, which `SQLite` runs over the same
+//! file: a `GeoPackage` is one of its databases.
 
 use std::collections::BTreeMap;
 
@@ -31,7 +31,8 @@ pub const QUERIES: [Query; 7] = [
         run: of_trucks_in_linz,
     },
     Query {
-        sql: "select p.fid, parcel, driver from parcels p left join trucks using (truck) order by p.fid",
+        sql: "select p.fid, parcel, driver \
+              from parcels p left join trucks using (truck) order by p.fid",
         run: with_drivers,
     },
     Query {

@@ -186,9 +186,9 @@ impl ExportStream {
     /// (nulls in dictionaries and in the items of lists, runs and unions count even if no row has
     /// them). The metadata may differ. If a batch doesn't match, the consumer gets EINVAL and a
     /// text. It names the first column with another name or type or, if there is none, the first
-    /// with nulls; it names no column if the batch itself differs, as by its number of columns. Code
-    /// that makes batches from another producer's arrays can use `?`: an [`ArrowError`] becomes a
-    /// [`StreamError`].
+    /// with nulls; it names no column if the batch itself differs, as by its number of columns.
+    /// Code that makes batches from another producer's arrays can use `?`: an [`ArrowError`]
+    /// becomes a [`StreamError`].
     ///
     /// If the iterator panics, the consumer gets EIO with the text of the panic, from this call and
     /// from each later one. Without the feature `std`, or with `panic = "abort"`, the program

@@ -8,8 +8,8 @@ fn ones(word: u64) -> usize {
     word.count_ones() as usize
 }
 
-/// Whether words are added up before their bits are counted. That is slower where a processor has an
-/// instruction for the bits of a word.
+/// Whether words are added up before their bits are counted. That is slower where a processor has
+/// an instruction for the bits of a word.
 const ADDS_UP: bool = cfg!(all(
     any(target_arch = "x86", target_arch = "x86_64"),
     not(target_feature = "popcnt")

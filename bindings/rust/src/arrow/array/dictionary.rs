@@ -69,9 +69,9 @@ impl Array {
     }
 
     /// Returns which rows of a column with a dictionary are valid: those whose index and item are.
-    /// It reads no values. [`validity`](Array::validity) covers the indices alone. If the items have
-    /// a dictionary too, an item is valid if it is a valid row of that. Returns `None` if there are
-    /// no validity bits: all rows are valid then.
+    /// It reads no values. [`validity`](Array::validity) covers the indices alone. If the items
+    /// have a dictionary too, an item is valid if it is a valid row of that. Returns `None` if
+    /// there are no validity bits: all rows are valid then.
     ///
     /// ```
     /// use vortex_bits::Bitmap;

@@ -16,8 +16,8 @@ use crate::arrow::texts::{Texts, View};
 /// Texts and lists.
 impl Array {
     /// Returns the range of each row: of texts in the [`bytes`](Array::bytes), of lists in the
-    /// [`items`](Array::items). It tests each offset until a call for the whole array has tested all
-    /// of them. The ranges of null rows are arbitrary, but in bounds.
+    /// [`items`](Array::items). It tests each offset until a call for the whole array has tested
+    /// all of them. The ranges of null rows are arbitrary, but in bounds.
     ///
     /// ```
     /// use vortex_bits::arrow::Export;
@@ -62,8 +62,8 @@ impl Array {
         self.node.ascends.load(Ordering::Relaxed)
     }
 
-    /// Returns whether each call tests the offsets of these rows again: they are a slice, and no call
-    /// for the whole array has tested all offsets.
+    /// Returns whether each call tests the offsets of these rows again: they are a slice, and no
+    /// call for the whole array has tested all offsets.
     pub(in crate::arrow) fn is_tested_again(&self) -> bool {
         !self.is_tested() && self.len < self.node.len
     }

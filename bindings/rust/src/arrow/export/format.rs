@@ -14,8 +14,8 @@ impl Export {
     /// Values convert to another type of the same width. Texts convert to binary values, `u` to
     /// `z`. Binary values convert to texts if each valid row is UTF-8, which takes a pass over the
     /// bytes. Maps convert to lists. Indices of a dictionary convert to the other signedness if
-    /// each valid index names an item, and keeps its number. It doesn't test that decimals have only
-    /// the digits of their type.
+    /// each valid index names an item, and keeps its number. It doesn't test that decimals have
+    /// only the digits of their type.
     ///
     /// ```
     /// use vortex_bits::arrow::Export;

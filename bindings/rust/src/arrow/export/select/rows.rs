@@ -144,8 +144,8 @@ impl Runs {
         Ok(())
     }
 
-    /// Returns the arrays that have rows, and these runs of them; if none has rows, the first array.
-    /// So the dictionary of an array without rows isn't joined with others.
+    /// Returns the arrays that have rows, and these runs of them; if none has rows, the first
+    /// array. So the dictionary of an array without rows isn't joined with others.
     pub(super) fn of_full(
         field: &Field,
         of: &[Array],
@@ -167,7 +167,8 @@ impl Runs {
         Ok((full, runs))
     }
 
-    /// Adds a run. It returns an error if the number of rows isn't a `usize`, or if memory runs out.
+    /// Adds a run. It returns an error if the number of rows isn't a `usize`, or if memory runs
+    /// out.
     pub(super) fn push(&mut self, field: &Field, run: Run) -> Result<(), ArrowError> {
         let len = self.len.checked_add(run.len);
         self.len = len.ok_or_else(|| too_many(field))?;
