@@ -161,7 +161,8 @@ share_of_build() {
 # Prints that the crate $1 was $2, and counts it the first time.
 show_crate() {
     local of="crate"
-    [ -n "${seen[$1]:-}" ] || [ "$crates_done" -ge "$crates_all" ] || crates_done=$((crates_done + 1))
+    [ -n "${seen[$1]:-}" ] || [ "$crates_done" -ge "$crates_all" ] ||
+        crates_done=$((crates_done + 1))
     seen[$1]=yes
     [ "$crates_all" -eq 0 ] || of="crate $crates_done of $crates_all"
     say "  $of: $1 $2; $(rest) left in all"

@@ -262,7 +262,8 @@ class Table:
                 values = [self.rows[number - 1][column] for number in self.kept(condition)]
                 found.append(str(sum(map(int, filter(None, values)))) if any(values) else "")
             else:
-                value, = self.database.execute(f"select {answer} from t where {condition}").fetchone()
+                query = f"select {answer} from t where {condition}"
+                value, = self.database.execute(query).fetchone()
                 found.append("" if value is None else str(value))
         return found
 

@@ -17,8 +17,8 @@ const GROWTH: [usize; 4] = [1, 10, 100, 1_000];
 /// cost of a copy of the item is subtracted first.
 const GROWN: f64 = 1.1;
 
-const GROWTH_HEAD: &str = "| call | first size | ns an item at 1, 10, 100, 1,000 times it | a copy of \
-    as many bytes | most over the first, less what the copy grew by |\n|---|---|---|---|---|\n";
+const GROWTH_HEAD: &str = "| call | first size | ns an item at 1, 10, 100, 1,000 times it | a copy \
+    of as many bytes | most over the first, less what the copy grew by |\n|---|---|---|---|---|\n";
 
 /// A run at one processor level.
 pub struct Bench {

@@ -308,7 +308,12 @@ pub fn extend(grown: &mut BitBufferMut, bytes: &[u8], before: usize) -> usize {
 macro_rules! take {
     ($($name:ident: $index:ty),*) => {$(
         #[inline(never)]
-        pub fn $name(bits: &[u8], len: usize, indices: &[$index], validity: Option<&[u8]>) -> usize {
+        pub fn $name(
+            bits: &[u8],
+            len: usize,
+            indices: &[$index],
+            validity: Option<&[u8]>,
+        ) -> usize {
             let validity = validity.map(|bytes| BitBufferView::new(bytes, indices.len()));
             used(vortex_buffer::take_bits(BitBufferView::new(bits, len), indices, validity))
         }

@@ -49,7 +49,8 @@ class Items(unittest.TestCase):
         self.assertEqual(enum.items[2].items[0].docs, "N.")
 
     def test_a_macro_is_an_item(self):
-        macro, it = items_of("/// Lends.\nmacro_rules! lend {\n    ($a:expr) => { &$a };\n}\nfn f() {}\n")
+        text = "/// Lends.\nmacro_rules! lend {\n    ($a:expr) => { &$a };\n}\nfn f() {}\n"
+        macro, it = items_of(text)
         self.assertEqual((macro.kind, macro.name, macro.docs), ("macro_rules", "lend", "Lends."))
         self.assertEqual(it.name, "f")
 

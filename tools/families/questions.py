@@ -78,7 +78,8 @@ class Pair(Question):
     operator: Operator
     answer: Answer
     out: str
-    # What the kernel in vb_pair returns, if it is a truth value, and where a bit is set that decides.
+    # What the kernel in vb_pair returns, if it is a truth value, and where a bit is set that
+    # decides.
     states: str
     found: str
     # The docstring of the C function in its crate, and that of the Rust methods.

@@ -211,8 +211,9 @@ FLOAT_COMPARISONS = [
     ("GreaterOrEqual", "less_or_equal", "right", "left",
      "left value is greater than the right one, or equal to it"),
 ]
-# The results of comparisons of whole numbers and of floats: the file, the type's trait, its function
-# to numbers of contracts, the word for a value, and whether 64 of them are faster one by one.
+# The results of comparisons of whole numbers and of floats: the file, the type's trait, its
+# function to numbers of contracts, the word for a value, and whether 64 of them are faster one by
+# one.
 TRUTHS = [
     ("truths", "CompareLanes", "number", "value", "T::SIZE >= 8"),
     ("floats/truths", "FloatLanes", "float", "float", "false"),

@@ -9,7 +9,9 @@ from pathlib import Path
 TOOLS = Path(__file__).resolve().parent.parent
 RT = """#!/usr/bin/env bash
 [ "$1" = must-fail ] && shift
-for crate; do ls "crates/$crate"/must-fail/*.edit "crates/$crate"/out/* -d 2>/dev/null; done > "$(dirname "$0")/seen"
+for crate; do
+    ls "crates/$crate"/must-fail/*.edit "crates/$crate"/out/* -d 2>/dev/null
+done > "$(dirname "$0")/seen"
 cat "$(dirname "$0")/said"
 """
 EDIT = "file: src/lib.rt\nold: one\nnew: two\n"
@@ -19,7 +21,10 @@ class Command(unittest.TestCase):
     def setUp(self):
         self.root = Path(tempfile.mkdtemp(prefix="edits-test-"))
         self.addCleanup(shutil.rmtree, self.root)
-        for folder in ("tools", "bin", "crates/demo/src", "crates/demo/out/rlib", "crates/demo/out/incremental"):
+        for folder in (
+            "tools", "bin", "crates/demo/src", "crates/demo/out/rlib",
+            "crates/demo/out/incremental",
+        ):
             (self.root / folder).mkdir(parents=True)
         shutil.copy(TOOLS / "edits", self.root / "tools/edits")
         self.write("crates.txt", "demo:\n")
@@ -36,13 +41,20 @@ class Command(unittest.TestCase):
     def run_it(self, *words: str, said: str = "") -> tuple[int, list[str]]:
         self.write("bin/said", said)
         env = {**os.environ, "PATH": f"{self.root / 'bin'}:{os.environ['PATH']}"}
-        ran = subprocess.run([self.root / "tools/edits", *words], env=env, text=True, stdout=subprocess.PIPE, stderr=subprocess.STDOUT)
+        ran = subprocess.run(
+            [self.root / "tools/edits", *words],
+            env=env,
+            text=True,
+            stdout=subprocess.PIPE,
+            stderr=subprocess.STDOUT,
+        )
         return ran.returncode, ran.stdout.splitlines()
 
     def test_all_are_refused(self):
         self.write("crates/demo/edits/a.edit", EDIT)
         self.write("crates/demo/must-fail/of_the_gate.edit", EDIT)
-        status, lines = self.run_it(said="rt: must-fail demo/a.edit: refused, as it must be: src/lib.rt:1:1: x\n")
+        said = "rt: must-fail demo/a.edit: refused, as it must be: src/lib.rt:1:1: x\n"
+        status, lines = self.run_it(said=said)
         self.assertEqual((status, lines[-1]), (0, "1 edits, 0 not refused"))
         seen = (self.root / "bin/seen").read_text()
         copied = "crates/demo/must-fail/a.edit\ncrates/demo/out/rlib\n"
@@ -62,7 +74,10 @@ class Command(unittest.TestCase):
         )
         status, lines = self.run_it("demo", said=said)
         found = [it.split(":")[0] for it in lines[4:-1]]
-        self.assertEqual(found, ["demo/bad.edit", "src/lib.rt", "demo/kept.edit", "demo/left.edit", "demo/weak.edit"])
+        self.assertEqual(
+            found,
+            ["demo/bad.edit", "src/lib.rt", "demo/kept.edit", "demo/left.edit", "demo/weak.edit"],
+        )
         self.assertEqual((status, lines[-1]), (1, "5 edits, 3 not refused"))
 
     def test_takes_crates_with_edits_alone(self):

@@ -57,8 +57,8 @@ class Growth(unittest.TestCase):
 
     def test_a_constant_call_that_grows_fails_where_it_passes_its_bound(self):
         status, lines = self.said("size // 64 if row == 'clone' else 10")
-        wanted = "sets clone: steps 64 of 1,000 at 4,096; 1,024 of 1,000 at 65,536: more than it may"
-        self.assertEqual((status, lines), (1, [wanted, "2 passed, 1 failed"]))
+        fault = "sets clone: steps 64 of 1,000 at 4,096; 1,024 of 1,000 at 65,536: more than it may"
+        self.assertEqual((status, lines), (1, [fault, "2 passed, 1 failed"]))
 
     def test_a_call_that_goes_over_its_words_twice_fails(self):
         status, lines = self.said("900 if row == 'clone' else 5 * size // 64")
@@ -103,12 +103,12 @@ class Growth(unittest.TestCase):
 
     def test_what_is_missing_is_told_in_one_line(self):
         status, lines = self.said("9", programs=("vbits",))
-        wanted = "crates/run_growth/out/run_growth isn't there: rt run in crates/run_growth makes it"
-        self.assertEqual((status, lines), (1, [wanted, "0 passed, 1 failed"]))
+        fault = "crates/run_growth/out/run_growth isn't there: rt run in crates/run_growth makes it"
+        self.assertEqual((status, lines), (1, [fault, "0 passed, 1 failed"]))
         command = [shutil.which("python3"), TOP / "tools/growth"]
         ended = subprocess.run(command, capture_output=True, text=True, env={"PATH": "/nowhere"})
-        wanted = "valgrind isn't on the PATH: Debian's package valgrind has it\n0 passed, 1 failed\n"
-        self.assertEqual((ended.returncode, ended.stdout), (1, wanted))
+        fault = "valgrind isn't on the PATH: Debian's package valgrind has it\n"
+        self.assertEqual((ended.returncode, ended.stdout), (1, f"{fault}0 passed, 1 failed\n"))
 
 
 if __name__ == "__main__":

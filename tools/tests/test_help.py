@@ -1,5 +1,5 @@
-"""Tests that commands describe themselves if they get --help or no argument that they know, and then
-write nothing."""
+"""Tests that commands describe themselves if they get --help or no argument that they know, and
+then write nothing."""
 import subprocess
 import tempfile
 import unittest

@@ -11,15 +11,24 @@ RT = """#!/usr/bin/env bash
 echo "$(basename "$PWD") $*" >> "$(dirname "$0")/asked"
 cat said
 """
-COUNTS = "untested=0 no-ensures=1 proves={} same=2 refused=3 elsewhere=1 not-judged={} not-source=4 not-run={}"
-NONE_JUDGED = "plants crate=one proves=0 same=0 refused=0 elsewhere=0 not-judged=9 not-source=4 not-run=5\n"
+COUNTS = (
+    "untested=0 no-ensures=1 proves={} same=2 refused=3 elsewhere=1 "
+    "not-judged={} not-source=4 not-run={}"
+)
+NONE_JUDGED = (
+    "plants crate=one proves=0 same=0 refused=0 elsewhere=0 "
+    "not-judged=9 not-source=4 not-run=5\n"
+)
 
 
 class Command(unittest.TestCase):
     def setUp(self):
         self.root = Path(tempfile.mkdtemp(prefix="plant-test-"))
         self.addCleanup(shutil.rmtree, self.root)
-        self.write("crates.txt", "# libraries\none:\ntwo: one\nlib_c staticlib: two\none_tests: one\nprogram: one\n")
+        self.write(
+            "crates.txt",
+            "# libraries\none:\ntwo: one\nlib_c staticlib: two\none_tests: one\nprogram: one\n",
+        )
         self.write("bin/rt", RT)
         (self.root / "bin/rt").chmod(0o755)
         self.write("tools/plant-allowed.txt", "")
@@ -40,14 +49,21 @@ class Command(unittest.TestCase):
 
     def run_it(self, *words: str) -> tuple[int, list[str]]:
         env = {**os.environ, "PATH": f"{self.root / 'bin'}:{os.environ['PATH']}"}
-        ran = subprocess.run([self.root / "tools/plant", *words], env=env, text=True, stdout=subprocess.PIPE, stderr=subprocess.STDOUT)
+        ran = subprocess.run(
+            [self.root / "tools/plant", *words],
+            env=env,
+            text=True,
+            stdout=subprocess.PIPE,
+            stderr=subprocess.STDOUT,
+        )
         return ran.returncode, ran.stdout.splitlines()
 
     def test_goes_over_the_libraries(self):
         status, lines = self.run_it("--minutes", "3", "--jobs", "4")
         self.assertEqual((status, lines), (0, ["18 planted, 0 prove, 0 of them not explained"]))
         asked = (self.root / "bin/asked").read_text().split("\n")
-        self.assertEqual(asked[:-1], [f"{it} plant --minutes 3 --max 10000 --jobs 4" for it in ("one", "two", "lib_c")])
+        wanted = [f"{it} plant --minutes 3 --max 10000 --jobs 4" for it in ("one", "two", "lib_c")]
+        self.assertEqual(asked[:-1], wanted)
 
     def test_compares_with_the_list(self):
         self.said(
@@ -57,7 +73,10 @@ class Command(unittest.TestCase):
             "no-ensures  src/b.rt:1 A::h()",
             "untested    src/b.rt:9 i()",
         )
-        self.write("tools/plant-allowed.txt", "# why\n\none A::f: { Err(self) }\n  owners aren't seen\none old: { 1 }\n  no more\n")
+        self.write(
+            "tools/plant-allowed.txt",
+            "# why\n\none A::f: { Err(self) }\n  owners aren't seen\none old: { 1 }\n  no more\n",
+        )
         status, lines = self.run_it("one")
         self.assertEqual(
             lines,
@@ -107,15 +126,24 @@ class Command(unittest.TestCase):
     def test_a_crate_that_can_not_be_tried(self):
         self.write("crates/one/said", "rt: the check failed\n")
         status, lines = self.run_it("one")
-        self.assertEqual(lines, ["one: not tried: rt: the check failed", "0 planted, 0 prove, 0 of them not explained"])
+        self.assertEqual(
+            lines,
+            ["one: not tried: rt: the check failed", "0 planted, 0 prove, 0 of them not explained"],
+        )
         self.assertEqual(status, 1)
 
     def test_a_list_without_reasons(self):
         for text, said in (
             ("one f: { 0 }\n", "no reason after the last body"),
-            ("one f: { 0 }\none g: { 0 }\n  why\n", "plant-allowed.txt:2: no reason before this line"),
+            (
+                "one f: { 0 }\none g: { 0 }\n  why\n",
+                "plant-allowed.txt:2: no reason before this line",
+            ),
             ("  why\n", "plant-allowed.txt:1: a reason without a body"),
-            ("one f: { 0 }\n  why\none f: { 0 }\n  why\n", "plant-allowed.txt:3: no reason before this line, or a body that occurs twice"),
+            (
+                "one f: { 0 }\n  why\none f: { 0 }\n  why\n",
+                "plant-allowed.txt:3: no reason before this line, or a body that occurs twice",
+            ),
         ):
             self.write("tools/plant-allowed.txt", text)
             status, lines = self.run_it()

@@ -43,7 +43,8 @@ class TryTests(unittest.TestCase):
         self.assertIn("try --test --seconds 9 -- rows", text)
 
     def test_what_is_unknown_is_said(self):
-        self.assertEqual(self.said(GOOD, "vb_nothing")[1], "try-tests: no crate is named vb_nothing\n")
+        text = self.said(GOOD, "vb_nothing")[1]
+        self.assertEqual(text, "try-tests: no crate is named vb_nothing\n")
         self.assertEqual(self.said(GOOD, "vb_bits")[1], "try-tests: vb_bits has no test\n")
         none = GOOD.replace("8 passed", "0 passed")
         self.assertNotEqual(self.said(none, "--only", "nothing", "vb_ranked_tests")[0], 0)

@@ -65,7 +65,8 @@ class Untested(unittest.TestCase):
 
     def test_another_type_runs_a_method_and_no_maker(self):
         status, lines = self.said("let list = Other::new(alloc)?;\nlist.append(1)?;\n")
-        self.assertEqual((status, lines[0], lines[-1]), (1, "low: Set::new", "3 calls, 2 in no test"))
+        found = (status, lines[0], lines[-1])
+        self.assertEqual(found, (1, "low: Set::new", "3 calls, 2 in no test"))
 
     def test_a_longer_name_is_another_one(self):
         status, lines = self.said("set.append_all(true)?;\nself.join(alloc)?;\nSet::newer();\n")

@@ -70,8 +70,10 @@ class Digests(unittest.TestCase):
 
     def test_other_files_do_not(self):
         before = self.digest()
-        for path in ("crates/low/proofs/Lib.antt", "crates/low/edits/a.edit", "crates/low/out/lib.a",
-                     "crates/other/src/lib.rt", "bindings/rust/src/digest.rs"):
+        for path in (
+            "crates/low/proofs/Lib.antt", "crates/low/edits/a.edit", "crates/low/out/lib.a",
+            "crates/other/src/lib.rt", "bindings/rust/src/digest.rs",
+        ):
             self.write(path, FILES[path] + "\n")
             self.assertEqual(self.digest(), before, path)
 

@@ -67,7 +67,8 @@ pub fn two(n: u8) -> u8
     "bindings/rust/src/native.rs": "\nkernels! {\n    get(n: usize) -> bool;\n}\n",
     # The digest of no source.
     "bindings/build": "crates=(low_of_c)\n",
-    "bindings/rust/src/digest.rs": '"e3b0c44298fc1c149afbf4c8996fb92427ae41e4649b934ca495991b7852b855"\n',
+    "bindings/rust/src/digest.rs":
+        '"e3b0c44298fc1c149afbf4c8996fb92427ae41e4649b934ca495991b7852b855"\n',
     "crates/vb_pair/src/lib.rt": "mod of;\n\npub use of::{or_count, xor_count};\n",
     "crates/vb_pair/src/of.rt": "pub fn xor_count() {}\nfn own() {}\npub fn or_count() {}\n",
     "crates/vb_kernel/src/lib.rt": "pub use vb_pair::{or_count, xor_count};\n",
@@ -113,7 +114,8 @@ class Checked(unittest.TestCase):
         self.assertEqual(found, ["README.md:6: the sources that have it don't import four"])
 
     def test_a_docstring_whose_example_no_test_has(self):
-        shown = ("pub struct Type;", "/// A type.\n///\n/// ```rust\n/// let a = one(1);\n/// ```\npub struct Type;")
+        docs = "/// A type.\n///\n/// ```rust\n/// let a = one(1);\n/// ```\n"
+        shown = ("pub struct Type;", f"{docs}pub struct Type;")
         self.assertEqual(Blocks(self.repository(low_slash_src_slash_lib_dot_rt=shown)).found, [])
         other = (shown[0], shown[1].replace("one(1)", "one(2)"))
         self.assertEqual(Blocks(self.repository(low_slash_src_slash_lib_dot_rt=other)).found, [
