@@ -1,8 +1,15 @@
 """Counts the lines of the crates that are written by hand."""
 from documents.files import Repository
-from documents.widths import is_of_crate
 from documents.written import REACHED
 from families.written import files, templates
+
+FOLDERS = {"src", "specs", "proofs"}
+
+
+def is_of_crate(path: str) -> bool:
+    """Returns whether a source is in src/, specs/ or proofs/ of a crate."""
+    parts = path.split("/")
+    return parts[0] == "crates" and len(parts) > 3 and parts[2] in FOLDERS
 
 
 def hand(repository: Repository) -> str:

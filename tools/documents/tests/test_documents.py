@@ -299,6 +299,26 @@ class Checked(unittest.TestCase):
         found = widths(self.repository(F_dot_antt=("-- f", wide)))
         wanted = "crates/use_low/specs/F.antt:1: 101 columns, where 100 are the most"
         self.assertEqual(found, [wanted])
+        for suffix in ("rt", "antt", "rs", "c", "h", "hpp", "cpp", "py", "sh"):
+            path = f"bindings/any/wide.{suffix}"
+            wanted = f"{path}:2: 101 columns, where 100 are the most"
+            self.assertEqual(self.widths_with(path, f"\n{wide}\n{just}\n"), [wanted])
+
+    def test_scripts_that_are_too_wide(self):
+        wanted = "tools/any:2: 104 columns, where 100 are the most"
+        for first in ("#!/usr/bin/env bash", "#!/usr/bin/env python3", "#!/bin/sh"):
+            self.assertEqual(self.widths_with("tools/any", f"{first}\n{'# it' * 26}\n"), [wanted])
+
+    def test_files_that_are_no_code_may_be_wide(self):
+        for path in ("docs/WIDE.md", "crates/low/edits/a.edit", "tools/families/a.txt", "NOTICE"):
+            self.assertEqual(self.widths_with(path, "it " * 40), [], path)
+
+    def widths_with(self, path: str, text: str) -> list[str]:
+        """Returns the faults of the repository with one more file."""
+        repository = self.repository()
+        (repository.root / path).parent.mkdir(parents=True, exist_ok=True)
+        (repository.root / path).write_text(text, encoding="utf-8")
+        return widths(repository)
 
     def test_a_file_of_too_many_lines(self):
         self.assertEqual(lengths(self.repository(bits_dot_rs=("pub", "\n" * 496 + "pub"))), [])
