@@ -5,6 +5,6 @@
 /// The output of tools/digest. tools/write-lists writes it here.
 macro_rules! digest {
     () => {
-        "e10e64915b0ca18236152a31c203b1da30b7b17d3cd850ad1e72a5a9b30eaaa8"
+        "8090d9a866bd433231a29233f9f40ea7d09ad6f4fee9d1864b7258a61d1beb23"
     };
 }

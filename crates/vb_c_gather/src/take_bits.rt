@@ -23,7 +23,6 @@ use vb_view::BitBufferView;
 /// counts if its bit of `validity`, from bit `v` on, is true; the others get false, and their
 /// indices are ignored. Every other bit of `out` is unchanged. If a position is returned, the bits
 /// of `out` for the indices are unspecified.
-// A call would copy the arguments on the stack.
 #[inline(always)]
 #[unsafe(no_mangle)]
 pub extern "C" fn vb_take_bits_u8(
@@ -43,6 +42,7 @@ pub extern "C" fn vb_take_bits_u8(
     ensures { TakesAt (bits bytes.now offset len) (map pos indices.now)
         (validity_of all_valid validity.now v (length indices.now)) out.old out.new o result }
 {
+    // It is inlined, as `take` is: a call would copy the arguments on the stack.
     let window = BitBufferView::new_with_offset(bytes, len, offset);
     take(out, o, window, indices, all_valid, validity, v)
 }
@@ -80,7 +80,6 @@ pub extern "C" fn vb_try_take_bits_u8(
 }
 
 /// Does [`vb_take_bits_u8`] for indices of 16 bits.
-// A call would copy the arguments on the stack.
 #[inline(always)]
 #[unsafe(no_mangle)]
 pub extern "C" fn vb_take_bits_u16(
@@ -100,6 +99,7 @@ pub extern "C" fn vb_take_bits_u16(
     ensures { TakesAt (bits bytes.now offset len) (map pos indices.now)
         (validity_of all_valid validity.now v (length indices.now)) out.old out.new o result }
 {
+    // It is inlined, as `take` is: a call would copy the arguments on the stack.
     let window = BitBufferView::new_with_offset(bytes, len, offset);
     take(out, o, window, indices, all_valid, validity, v)
 }
@@ -137,7 +137,6 @@ pub extern "C" fn vb_try_take_bits_u16(
 }
 
 /// Does [`vb_take_bits_u8`] for indices of 32 bits.
-// A call would copy the arguments on the stack.
 #[inline(always)]
 #[unsafe(no_mangle)]
 pub extern "C" fn vb_take_bits_u32(
@@ -157,6 +156,7 @@ pub extern "C" fn vb_take_bits_u32(
     ensures { TakesAt (bits bytes.now offset len) (map pos indices.now)
         (validity_of all_valid validity.now v (length indices.now)) out.old out.new o result }
 {
+    // It is inlined, as `take` is: a call would copy the arguments on the stack.
     let window = BitBufferView::new_with_offset(bytes, len, offset);
     take(out, o, window, indices, all_valid, validity, v)
 }
@@ -194,7 +194,6 @@ pub extern "C" fn vb_try_take_bits_u32(
 }
 
 /// Does [`vb_take_bits_u8`] for indices of 64 bits.
-// A call would copy the arguments on the stack.
 #[inline(always)]
 #[unsafe(no_mangle)]
 pub extern "C" fn vb_take_bits_u64(
@@ -214,6 +213,7 @@ pub extern "C" fn vb_take_bits_u64(
     ensures { TakesAt (bits bytes.now offset len) (map pos indices.now)
         (validity_of all_valid validity.now v (length indices.now)) out.old out.new o result }
 {
+    // It is inlined, as `take` is: a call would copy the arguments on the stack.
     let window = BitBufferView::new_with_offset(bytes, len, offset);
     take(out, o, window, indices, all_valid, validity, v)
 }

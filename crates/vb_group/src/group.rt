@@ -34,6 +34,7 @@ pub fn group_counts<C: Summand>(
         (option_map bits_of mask.entry)) }
     ensures unchanged { IfErr result (λ _. counts.new ≡ counts.old) }
 {
+    // It is inlined, up to the test for few rows: a call would copy the arguments on the stack.
     add_or_undo::<C, C, Count>(counts, codes, codes, mask)
 }
 
@@ -62,5 +63,6 @@ pub fn group_sums<C: Summand, V: Widen>(
         (option_map bits_of mask.entry)) }
     ensures unchanged { IfErr result (λ _. sums.new ≡ sums.old) }
 {
+    // It is inlined, as `group_counts` is.
     add_or_undo::<C, V, Sum>(sums, codes, values, mask)
 }

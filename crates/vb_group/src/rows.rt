@@ -14,6 +14,8 @@ use vb_view::{BitBufferView, view_word};
 /// Adds the selected rows that have a total, in order. If a selected row has none, and the addition
 /// doesn't pass over such rows, it stops: without a mask after that row, with a mask after the word
 /// of the mask that has the row. Returns the number of rows up to there; `None` if it did not stop.
+///
+/// Inlined, as [`add_kept`] is: a call would pass the view in memory.
 #[inline(always)]
 pub(crate) fn add_selected<C: BitIndex, V: Copy, A: Addition<V>>(
     totals: &mut [A::Total],

@@ -66,6 +66,7 @@ pub fn take_into_at<I: BitIndex>(
         (option_map bits_of validity.entry) p) }
     ensures others { Writes out.old out.new o (window out.new o (length indices.now)) }
 {
+    // It is inlined, up to this test: a call would copy the arguments on the stack.
     let n = indices.len();
     if n >= 64 {
         return take_many(out, o, bits, indices, validity);
