@@ -315,3 +315,9 @@ class Sought:
 
 
 SOUGHT = [Sought(True), Sought(False)]
+# The functions of vb_group that undo an addition that stops, with the function that adds and the
+# mask in proofs.
+UNDONE = [
+    ("add_any_or_undo", "add_selected", "option_map bits_of c.args.mask"),
+    ("add_few_or_undo", "add_few", "Some (bits_of c.args.mask)"),
+]

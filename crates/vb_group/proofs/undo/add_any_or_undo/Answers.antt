@@ -1,3 +1,4 @@
+-- Written by tools/write-lists from tools/families/groups.txt.
 use Rattle.std.proofs.Common.{◌≤◌, ℕ, Bool, false, true, List, Option, length, take, refl, subst}
 use Rattle.std.specs.List.{zip}
 use Rattle.std.specs.Option.{option_map}

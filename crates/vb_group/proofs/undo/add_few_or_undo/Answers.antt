@@ -1,9 +1,9 @@
-use Rattle.std.proofs.Common.{◌≤◌, ℕ, Bool, false, true, List, Option, Some, length, take, refl}
-use Rattle.std.proofs.Common.{subst}
+-- Written by tools/write-lists from tools/families/groups.txt.
+use Rattle.std.proofs.Common.{◌≤◌, ℕ, Bool, false, true, List, Option, length, take, refl, subst}
+use Rattle.std.proofs.Common.{Some}
 use Rattle.std.specs.List.{zip}
 use Rattle.std.specs.Option.{option_map}
 use Rattle.std.specs.Prelude.{IfSome, IfNone}
-use Rattle.vb_bits.specs.Kept.{kept_by}
 use Rattle.vb_view.specs.View.{bits_of}
 use Rattle.vb_group.specs.Groups.{TriesRows, selected, HaveGroups, IsFirstPast}
 use Rattle.vb_group.proofs.ChecksLemmas.{rows_have, front_have}
@@ -57,7 +57,7 @@ pub returns-in-None-clause-added : goal.returns-in-None-clause-added
 returns-in-None-clause-added g c =
     let all = TriesRows g.C.BitIndex.number g.A.Addition.plus g.A.Addition.is_total
     g.A.Addition.skips c.args.totals.now c.add_few.new.totals
-    (kept_by (bits_of c.args.mask) (zip c.args.codes.now c.args.values.now)) true in
+    (selected (Some (bits_of c.args.mask)) (zip c.args.codes.now c.args.values.now)) true in
     let tries : all = subst (λ o. IfNone o all) c.in-None.is c.add_few.ensures.all in
     tries.adds
 
@@ -65,7 +65,7 @@ pub returns-in-None-clause-groups : goal.returns-in-None-clause-groups
 returns-in-None-clause-groups g c =
     let all = TriesRows g.C.BitIndex.number g.A.Addition.plus g.A.Addition.is_total
     g.A.Addition.skips c.args.totals.now c.add_few.new.totals
-    (kept_by (bits_of c.args.mask) (zip c.args.codes.now c.args.values.now)) true in
+    (selected (Some (bits_of c.args.mask)) (zip c.args.codes.now c.args.values.now)) true in
     let tries : all = subst (λ o. IfNone o all) c.in-None.is c.add_few.ensures.all in
     rows_have g.C.BitIndex.number (length c.args.totals.now) c.args.codes.now c.args.values.now
     (Some (bits_of c.args.mask)) c.requires.same_len (tries.groups refl c.requires.stops)
