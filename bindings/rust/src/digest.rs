@@ -5,6 +5,6 @@
 /// The output of tools/digest. tools/write-lists writes it here.
 macro_rules! digest {
     () => {
-        "8090d9a866bd433231a29233f9f40ea7d09ad6f4fee9d1864b7258a61d1beb23"
+        "170dfd8d7775e6b342a080c695fd27ee22f06747d3c3d30f73ab19858093a399"
     };
 }

@@ -20,7 +20,7 @@ const PASSED_WORDS: usize = 8;
 /// is in bounds and that `offset + len` fits in a `usize`.
 ///
 /// It reads the last word, and then words towards the front. It passes words without a set bit in
-/// blocks of eight, and then one by one.
+/// blocks of eight, then of four, and then one by one.
 pub fn last_set_index(bytes: &[u8], offset: usize, len: usize) -> Option<usize>
     requires window { InBytes bytes.now offset len }
     ensures { result ≡ last_place (bits bytes.now offset len) }
@@ -185,8 +185,7 @@ fn last_in_words(bytes: &[u8], offset: usize, len: usize, value: bool) -> Option
 {
     let mut left = len;
     while left > 0 {
-        left = pass_words(bytes, offset, left, PASSED_WORDS, value);
-        left = pass_words(bytes, offset, left, 1, value);
+        left = pass_words(bytes, offset, left, value);
         if left == 0 {
             return None;
         }
@@ -200,10 +199,25 @@ fn last_in_words(bytes: &[u8], offset: usize, len: usize, value: bool) -> Option
     None
 }
 
-/// Passes whole words at the end of the `len` bits, `n` words at a time, while none of their bits
-/// is `value`. Returns the number of bits left. The bits must end at a whole byte.
+/// Passes whole words at the end of the `len` bits while none of their bits is `value`: eight at a
+/// time, then four, then one by one. Returns the number of bits left. The bits must end at a whole
+/// byte.
 #[inline(always)]
-fn pass_words(bytes: &[u8], offset: usize, len: usize, n: usize, value: bool) -> usize
+fn pass_words(bytes: &[u8], offset: usize, len: usize, value: bool) -> usize
+    requires whole { 0 < len → (offset + len) % 8 ≡ 0 }
+    requires window { InBytes bytes.now offset len }
+    ensures within { result ≤ len }
+    ensures whole { 0 < result → (offset + result) % 8 ≡ 0 }
+    ensures passed { (i : ℕ) → result ≤ i → i < len → bit_of bytes.now (offset + i) ≡ not value }
+{
+    let eights = pass_groups(bytes, offset, len, PASSED_WORDS, value);
+    let fours = pass_groups(bytes, offset, eights, 4, value);
+    pass_groups(bytes, offset, fours, 1, value)
+}
+
+/// [`pass_words`], `n` words at a time.
+#[inline(always)]
+fn pass_groups(bytes: &[u8], offset: usize, len: usize, n: usize, value: bool) -> usize
     requires some { 0 < n }
     requires few { n ≤ PASSED_WORDS }
     requires whole { 0 < len → (offset + len) % 8 ≡ 0 }

@@ -1,6 +1,6 @@
 use Rattle.std.proofs.Common.{◌≡◌, ℕ, ◌+◌, ◌%◌, ◌<◌, ◌≤◌, not}
 use Rattle.vb_bits.specs.Bits.{bit_of}
-use Rattle.vb_select.proofs.last.pass_words.Given as goal
+use Rattle.vb_select.proofs.last.pass_groups.Given as goal
 
 abbrev pub invariant-loop-left : goal.invariant-loop-left
 invariant-loop-left l = record {
