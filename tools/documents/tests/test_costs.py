@@ -84,6 +84,14 @@ class Costs(unittest.TestCase):
         said = self.found("How many bits there are.", "The length, in amortized constant time.")
         self.assertEqual(said, "no row has `Set::len`, whose docstring says 'amortized'")
 
+    def test_a_form_that_tests_its_arguments_shares_a_row(self):
+        tried = "/// Costs the same as [`copy`].\npub fn try_copy(to: &mut [u8]) {\n}\n\n"
+        sources = Sources("pub trait Open", f"{tried}pub trait Open")
+        sources.texts[FACADE] += "pub use vb_low::try_copy;\n"
+        self.assertEqual(costs(sources), [])
+        sources.texts[COSTS] = TABLE.replace("64 bits,copy", "64 bits,")
+        self.assertEqual(len(costs(sources)), 2)
+
     def test_a_call_that_is_not_public_needs_no_row(self):
         self.assertEqual(costs(Sources("pub fn copy", "pub fn other")), [
             f"{COSTS}: `copy` is no public call",
@@ -101,7 +109,9 @@ class Costs(unittest.TestCase):
 
     def test_what_docstrings_say_of_costs_is_known(self):
         promises = ["in amortized constant time", "It reads up to the first true bit",
-                    "at the cost of [`and_count`]", "The time is linear in the length"]
+                    "at the cost of [`and_count`]", "The time is linear in the length",
+                    "Costs the same as [`count`]", "costs what [`count`] does",
+                    "Processes 64 bits at a time", "64 at a time", "64 bytes at a time"]
         for it in promises:
             with self.subTest(it):
                 self.assertIsNotNone(PROMISE.search(it))
