@@ -24,9 +24,10 @@ mod make;
 /// the reported alignment.
 ///
 /// A constructor reports its argument `alignment`, which must be at least the alignment of an item.
-/// A constructor without this argument reports the alignment of an item. "Over-aligned to 256
-/// bytes" means that the storage is declared with 256 bytes, or with the reported alignment if that
-/// is greater. Equality, order and hash are those of the list.
+/// A constructor without this argument reports the alignment of an item, except
+/// [`Buffer::from_mut`], which keeps both alignments. "Over-aligned to 256 bytes" means that the
+/// storage is declared with 256 bytes, or with the reported alignment if that is greater. Equality,
+/// order and hash are those of the list.
 #[derive(Drop)]
 pub struct Buffer<T: Element, A: Allocator = Global> {
     content: Content<T, A>,

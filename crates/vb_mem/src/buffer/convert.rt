@@ -140,9 +140,10 @@ impl<T: Element, A: Allocator + Clone> Buffer<T, A> {
     /// buffers keep their items.
     ///
     /// If no other buffer shares the storage, the call does not allocate: it moves the items to the
-    /// start of the storage, in time linear in their number, and drops the items around them. If
-    /// another buffer does, or if this buffer is empty and has no storage, the call allocates once
-    /// for a copy of the items, if there are any, and once for the count of owners.
+    /// start of the storage, in time linear in their number, or in constant time if they are there,
+    /// and drops the items around them. If another buffer does, or if this buffer is empty and has
+    /// no storage, the call allocates once for a copy of the items, if there are any, and once for
+    /// the count of owners.
     ///
     /// Returns `OutOfMemory` if memory runs out. The buffer is unchanged on error; clause
     /// `writes_back` proves this of the items and the reported alignment. No clause proves that the
