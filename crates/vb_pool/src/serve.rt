@@ -24,7 +24,8 @@ impl<A: Allocator + Clone> Pool<A> {
     ///   allocator.
     /// - `freeze`, `slice` and `clone` of a frozen set copy no bits, nor does `thaw` if no other
     ///   slot shares the storage. Operators with `own` copy none if the left set is the only owner
-    ///   of its storage. `sliced` copies none if the first bit is the lowest of its byte.
+    ///   of its storage. But `thaw` and these operators move the bytes of a slice to the start of
+    ///   its storage. `sliced` copies none if the first bit is the lowest of its byte.
     /// - `freeze`, `take`, the operators, and `sliced` if it copies bits also allocate a count of
     ///   owners.
     pub fn serve(&mut self, alloc: &A, command: &Command<A>) -> Answer<A>

@@ -2,10 +2,11 @@
 //! Sets combined bit by bit, and negated.
 //!
 //! The result has the offset of the left operand, and only the bytes of its window. If the left
-//! operand is passed by value and is the only owner of its storage, the operator overwrites its
-//! bytes in place, and allocates only the count of owners. Otherwise it copies the bytes, and
-//! allocates these too. Bytes come from the left operand's allocator, and the count of owners from
-//! that of their storage. The operators compare the lengths before they allocate.
+//! operand is passed by value and is the only owner of its storage, the operator moves its bytes to
+//! the start of the storage, unless they are there, overwrites them, and allocates only the count
+//! of owners. Otherwise it copies the bytes, and allocates these too. Bytes come from the left
+//! operand's allocator, and the count of owners from that of their storage. The operators compare
+//! the lengths before they allocate.
 ghost use Rattle.std.specs.Prelude.{◌≡◌, ◌≢◌, ◌≤◌, [], length, IsOk, IsErrOf};
 ghost use Rattle.vb_bits.specs.Bits.{count};
 ghost use Rattle.vb_bits.specs.Operators.{combined_by};
