@@ -2,9 +2,8 @@
 
 /// The reason why a command is refused. It prints as `refused` and its name.
 ///
-/// A command checks first the slots, in the order of its line, then windows, indices and lengths,
-/// then the numbers of bits, and last memory. A `take` allocates, tests its indices, and allocates
-/// again.
+/// A command checks first the slots, then windows, indices and lengths, then the numbers of bits,
+/// and last memory. A `take` allocates, tests its indices, and allocates again.
 #[derive(Clone, Copy, Debug, PartialEq, Eq)]
 pub enum Refusal {
     /// A slot does not exist, or does not hold what the command needs.
