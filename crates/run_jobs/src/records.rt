@@ -17,7 +17,7 @@ pub struct Records {
 }
 
 impl Records {
-    /// Returns texts of 10 to 1,000 bytes, some of which have letters that aren't ASCII.
+    /// Returns texts of 10 to 1,010 bytes, some of which have letters that aren't ASCII.
     pub fn new(alloc: Global, random: &mut Random) -> Result<Self> {
         let mut page = ByteBufferMut::empty(alloc);
         let mut starts = Vec::new(alloc);
@@ -94,7 +94,7 @@ const PARTS: &[&str] = &[
     "–", "ä ", "é",
 ];
 
-/// Adds a text of 10 to 1,000 bytes. One in five may also have the last parts, which aren't ASCII.
+/// Adds a text of 10 to 1,010 bytes. One in five may also have the last parts, which aren't ASCII.
 fn push_text(page: &mut ByteBufferMut, random: &mut Random) -> Result<()> {
     let few = if random.below(5) == 0 { 16 } else { 12 };
     let most = if random.below(8) == 0 { 198 } else { 30 };
