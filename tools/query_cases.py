@@ -105,6 +105,8 @@ WRONG = [
      '--where: "1x" isn\'t a number\n  size = 1x\n         ^\n'),
     (["t.csv", "--where", "size ! 1\r\nor rank = 1"],
      "--where: '!' begins no word of a condition\n  size ! 1\u240d\n       ^\n"),
+    (["t.csv", "--where", "size size !"],
+     "--where: '!' begins no word of a condition\n  size size !\n            ^\n"),
     (["t.csv", "--select", "sum(", "--where", "size >"],
      "--where: a column, a number or a text is wanted here\n  size >\n        ^\n"),
     (["t.csv", "--select", "sum(size"], '--select: ")" is wanted here\n  sum(size\n          ^\n'),
@@ -151,6 +153,11 @@ SHORT = [
     (b"\n\n4\n5\n", 1),
     (b"1;2\n,,\"a,b\n\",,9\n3", 5),
     (b"a,b,c\n1,2,3\n", 3),
+]
+# Files with one value in a column, which is named, and the number of rows.
+BLANK = [
+    (b'a,b\n\n""\n1,2\n', "b", 1),
+    (b'a\n\n""\n1\n', "a", 3),
 ]
 # Columns with their means.
 MEANS = [
@@ -335,8 +342,8 @@ def like_demo(seed: int, table: Table, file: bytes, given: list[str]) -> list[Qu
 
 
 def more() -> list[Query]:
-    """Cases of columns of one name, columns to write, standard input, short rows, pictures, means,
-    and marks."""
+    """Cases of columns of one name, columns to write, standard input, short rows, blank lines,
+    pictures, means, and marks."""
     row = [["1", "x", "2.5", "", "z"]]
     of_names = {"t.csv": written([NAMED, *row])}
     columns = [Query(f"--columns {it}", ["t.csv", "--rows", "--columns", it],
@@ -347,6 +354,9 @@ def more() -> list[Query]:
     short = [Query(f"short rows {file!r}", ["t.csv", "--short-rows", "--no-header", "--select",
                                             f"count(*), count(c{width})"],
                    counted(file, width), files={"t.csv": file}) for file, width in SHORT]
+    blank = [Query(f"blank lines in {file!r}", ["t.csv", "--select", f"count(*), count({name})"],
+                   f"count(*),count({name})\n{rows},1\n".encode(), files={"t.csv": file})
+             for file, name, rows in BLANK]
     pictures = [from_demo(f"the picture of {name}, {line}", [name, *line, "--svg", "picture.svg"],
                           {name: file.encode()}) for name, file, line in PICTURES if DEMO.is_file()]
     means = [Query(f"the mean of {values}", ["t.csv", "--select", "avg(a)"],
@@ -354,7 +364,7 @@ def more() -> list[Query]:
                        [value, "0"] for value in values)])}) for values, mean in MEANS]
     marked = Query("a mark of UTF-16", ["t.csv", "--rows", "--no-header", "--columns", "c2"],
                    b'"\xff\xfex"\n', files={"t.csv": b"1,\xff\xfex\n"})
-    return [*columns, *alike, *short, *pictures, *means, marked, *of_input()]
+    return [*columns, *alike, *short, *blank, *pictures, *means, marked, *of_input()]
 
 
 def alike_text(option: str, name: str, count: int, first: int, second: int, pointed: str) -> str:

@@ -14,7 +14,7 @@ pub enum Failure {
     Closed,
 }
 
-/// The result of a call, or a failure.
+/// The result of a call, or a failure. A call may fail by `Memory` besides what its docstring says.
 pub type Result<T> = std::result::Result<T, Failure>;
 
 /// Returns the failure with this text, or `Memory` if memory ran out for the text.

@@ -66,8 +66,8 @@ impl Splitter {
     /// Adds the fields of bytes to the rows, up to the end of a row. Returns the number of bytes it
     /// read, and whether a row has ended.
     ///
-    /// An error has the line, the field and the reason. `rows` then has the rows before it, and a
-    /// part of a row.
+    /// The error of malformed bytes has the line, the field and the reason. After an error `rows`
+    /// has the rows before it, and may end in a part of a row.
     pub fn feed(&mut self, bytes: &[u8], rows: &mut Rows) -> Result<(usize, bool), CsvError> {
         let mut taken = 0usize;
         for byte in bytes {

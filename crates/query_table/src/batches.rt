@@ -30,8 +30,8 @@ impl<F: Read + Drop> Batches<F> {
         &self.rows
     }
 
-    /// Reads the next batch of a table's rows. Returns whether there is one. Skips empty lines; in
-    /// a table of one column they are nulls instead.
+    /// Reads the next batch of a table's rows. Returns whether there is one. Skips empty lines, and
+    /// lines of one empty quoted field; in a table of one column both are nulls instead.
     ///
     /// Fails if the file can't be read, isn't CSV, or a row has more fields than the table has
     /// columns, or fewer unless rows may be short.

@@ -49,7 +49,7 @@ impl Table {
     /// reads the whole file.
     ///
     /// Fails if the file isn't a regular one, can't be read, is empty, or begins with no row of
-    /// CSV.
+    /// CSV; where it reads the whole file, if any row isn't CSV.
     pub fn open<R: Files + AllocGlobal>(rt: &R, path: &str, format: Format) -> Result<Table> {
         let alloc = rt.alloc();
         let is_file = match fs::metadata(rt, path) {
@@ -141,7 +141,7 @@ impl Table {
         }
     }
 
-    /// Returns a field of the header line as it is in the file.
+    /// Returns a field of the first row, without its quotes; no bytes if it doesn't exist.
     pub fn header(&self, column: usize) -> &[u8] {
         self.first.nth_field(column)
     }

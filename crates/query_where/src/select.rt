@@ -73,7 +73,7 @@ impl Answer {
 
 /// Returns the answers of a list, such as `count(*), sum(size)`.
 ///
-/// Fails at the first unexpected word.
+/// Fails where no word can be read, wherever that is; else at the first unexpected word.
 pub fn selection(alloc: Global, source: Source<'_>) -> Result<Vec<Answer>> {
     let mut words = Words::new(alloc, source)?;
     let mut answers = Vec::new(alloc);
@@ -93,7 +93,7 @@ pub fn selection(alloc: Global, source: Source<'_>) -> Result<Vec<Answer>> {
 
 /// Returns the names of a list of columns, such as `size, "the note"`.
 ///
-/// Fails at the first unexpected word.
+/// Fails where no word can be read, wherever that is; else at the first unexpected word.
 pub fn column_names(alloc: Global, source: Source<'_>) -> Result<Vec<Name>> {
     let mut words = Words::new(alloc, source)?;
     let mut names = Vec::new(alloc);

@@ -51,7 +51,7 @@ impl<'a> Query<'a> {
         }
     }
 
-    /// Tests that the table has the columns of the condition, before the file is read.
+    /// Tests that the table has the columns of the condition, before the first pass over the file.
     pub fn check_names(&self, table: &Table) -> Result<()> {
         let Some(condition) = &self.condition else {
             return Ok(());
