@@ -11,6 +11,7 @@ import sqlite3
 import subprocess
 import sys
 import tempfile
+from collections.abc import Callable
 from dataclasses import dataclass, field
 from pathlib import Path
 
@@ -188,11 +189,12 @@ PICTURES = [
 
 @dataclass
 class Query:
-    """A command line over files, with its output and the files that it writes."""
+    """A command line over files, with its output, None if `to` is set, and the files that it
+    writes."""
 
     name: str
     arguments: list[str]
-    output: bytes
+    output: bytes | None
     complaint: str = ""
     status: int = 0
     files: dict[str, bytes] = field(default_factory=dict)
@@ -200,6 +202,8 @@ class Query:
     # The file that is standard input, or the bytes of a pipe; otherwise standard input is empty.
     given: str = ""
     piped: bytes = b""
+    to: Callable[[], int] | None = None
+    before: Callable[[], None] | None = None
 
 
 class Table:
