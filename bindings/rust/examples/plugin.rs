@@ -19,8 +19,10 @@ const EINVAL: c_int = 22;
 #[derive(Clone, Copy)]
 #[repr(C)]
 pub struct Pair {
-    array: *mut ArrowArray,
-    schema: *mut ArrowSchema,
+    /// The array.
+    pub array: *mut ArrowArray,
+    /// Its schema.
+    pub schema: *mut ArrowSchema,
 }
 
 /// # Safety
@@ -123,7 +125,9 @@ pub unsafe extern "C" fn plugin_forward(given: Pair, out: Pair) -> c_int {
     unsafe { answer(given, out, Array::try_into_export) }
 }
 
-/// Writes the same rows. Copies the numbers, truth values and texts into memory of this library.
+/// Writes the same rows. Copies truth values, signed numbers of 16 to 64 bits, floats, days, times
+/// and texts of the formats that GDAL has into memory of this library. Passes on all other columns,
+/// and those with a dictionary, without a copy.
 ///
 /// # Safety
 ///
@@ -132,27 +136,33 @@ pub unsafe extern "C" fn plugin_forward(given: Pair, out: Pair) -> c_int {
 pub unsafe extern "C" fn plugin_rebuild(given: Pair, out: Pair) -> c_int {
     let rebuild = |rows: Array| {
         let columns = rows.columns()?.map(|column| rebuilt(&column));
-        Ok(Export::batch(columns.collect::<Result<Vec<_>, _>>()?))
+        let columns = columns.collect::<Result<Vec<_>, _>>()?;
+        Export::structs(rows.len(), columns, valid(&rows)?).with_field(rows.field())
     };
     // SAFETY: as for this function.
     unsafe { answer(given, out, rebuild) }
 }
 
+/// Returns a copy of the validity; None if there are no bits.
+fn valid(rows: &Array) -> Result<Option<Bitmap>, ArrowError> {
+    Ok(rows.validity()?.bits().map(Bitmap::from))
+}
+
 fn rebuilt(column: &Array) -> Result<Export, ArrowError> {
-    let valid = column.validity()?.bits().map(Bitmap::from);
     let made = match column.field().format() {
-        "b" => Export::bits(Bitmap::from(column.bits()?), valid),
-        "s" => Export::values(column.values::<i16>()?.to_vec(), valid),
-        "i" | "tdD" | "ttm" => Export::values(column.values::<i32>()?.to_vec(), valid),
-        "l" | "tsm:" => Export::values(column.values::<i64>()?.to_vec(), valid),
-        "f" => Export::values(column.values::<f32>()?.to_vec(), valid),
-        "g" => Export::values(column.values::<f64>()?.to_vec(), valid),
+        _ if column.dictionary().is_some() => return column.clone().try_into_export(),
+        "b" => Export::bits(Bitmap::from(column.bits()?), valid(column)?),
+        "s" => Export::values(column.values::<i16>()?.to_vec(), valid(column)?),
+        "i" | "tdD" | "ttm" => Export::values(column.values::<i32>()?.to_vec(), valid(column)?),
+        "l" | "tsm:" => Export::values(column.values::<i64>()?.to_vec(), valid(column)?),
+        "f" => Export::values(column.values::<f32>()?.to_vec(), valid(column)?),
+        "g" => Export::values(column.values::<f64>()?.to_vec(), valid(column)?),
         "u" => {
             let texts = column.texts()?;
             let text = |row: &[u8]| String::from_utf8_lossy(row).into_owned();
             Export::texts_or_nulls(texts.iter().map(|row| row.map(text))).narrow()?
         }
-        _ => return Ok(column.clone().into()),
+        _ => return column.clone().try_into_export(),
     };
     made.with_field(column.field())
 }

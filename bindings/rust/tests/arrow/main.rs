@@ -22,6 +22,7 @@ mod offsets;
 mod panics;
 mod parts;
 mod plain;
+mod plugin;
 mod predicates;
 mod ranges;
 mod raw;
