@@ -206,11 +206,20 @@ pub fn and_compare<T: Compare>(values: &[T], op: Comparison, number: T, mask: Bi
 /// Panics if there isn't one other per value, or `mask` doesn't have one bit per value.
 #[track_caller]
 pub fn and_compare_with<T: Compare>(values: &[T], op: Comparison, others: &[T], mask: BitsMut<'_>) {
-    alike(others.len(), values.len());
+    one_other_each(values, others);
     alike(mask.len(), values.len());
     and_blocks(mask, |out, rows| {
         kernels::compare_with(out, &values[rows.clone()], op, &others[rows]);
     });
+}
+
+/// # Panics
+///
+/// Panics if there isn't one other per value.
+#[track_caller]
+fn one_other_each<T>(values: &[T], others: &[T]) {
+    let (values, others) = (values.len(), others.len());
+    assert!(others == values, "{others} others for {values} values");
 }
 
 /// Combines `mask` by `&=` with the bits that `write` writes for a range of its rows, a block at a
@@ -249,7 +258,7 @@ pub fn compare_with_into<T: Compare>(
     others: &[T],
     mut out: BitsMut<'_>,
 ) {
-    alike(others.len(), values.len());
+    one_other_each(values, others);
     alike(out.len(), values.len());
     kernels::compare_with(&mut out.written(), values, op, others);
 }
@@ -293,7 +302,7 @@ pub fn compare<T: Compare>(values: &[T], op: Comparison, number: T) -> Bitmap {
 #[must_use]
 #[track_caller]
 pub fn compare_with<T: Compare>(values: &[T], op: Comparison, others: &[T]) -> Bitmap {
-    alike(others.len(), values.len());
+    one_other_each(values, others);
     Bitmap::make(values.len(), |out| {
         compare_with_into(values, op, others, out);
     })

@@ -198,6 +198,23 @@ fn comparisons_in_place_are_those_of_a_loop() {
     assert!(refused.is_some() && mask.all());
 }
 
+#[test]
+fn values_without_another_one_are_refused_by_name() {
+    let (values, others, less) = ([0u8; 3], [1u8; 2], Comparison::Less);
+    let mut rows = Bitmap::new_set(3);
+    let refused = [
+        panics(|| _ = values::compare_with(&values, less, &others)),
+        panics(|| values::compare_with_into(&values, less, &others, rows.bits_mut())),
+        panics(|| values::and_compare_with(&values, less, &others, rows.bits_mut())),
+    ];
+    assert!(
+        refused
+            .iter()
+            .all(|it| it.as_deref() == Some("2 others for 3 values"))
+    );
+    assert!(rows.all());
+}
+
 /// Tests the members of a set by a type of values.
 macro_rules! members {
     ($random:ident, $rows:ident, $set:ident: $($value:ty)*) => {$(
