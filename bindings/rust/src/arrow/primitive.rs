@@ -14,8 +14,8 @@ use core::ops::Range;
 /// - `f32` and `f64` read floats of that width;
 /// - `i128` reads decimals of 128 bits, whose buffers often aren't aligned for it;
 /// - `[u8; N]` reads values of N bytes of any meaning;
-/// - `[u64; 2]` and `[i64; 2]` read values of 16 bytes, the lower half first.
-///   [`values::filter`](crate::values::filter) filters decimals as these.
+/// - `[u64; 2]` and `[i64; 2]` read values of 16 bytes as halves, on little-endian machines the
+///   lower half first. [`values::filter`](crate::values::filter) filters decimals as these.
 #[diagnostic::on_unimplemented(
     message = "no array has values of `{Self}`",
     label = "whole numbers of 8 to 64 bits, `i128`, floats, `[u8; N]`, `[u64; 2]` and `[i64; 2]`",

@@ -191,6 +191,31 @@ fn nulls_are_refused_where_a_stream_has_none() {
     assert_eq!(said(coded(full), of(strict())), "3");
 }
 
+/// A type that allows no null hides those that its own rows have. They are passed on.
+#[test]
+fn nulls_of_rows_whose_own_type_allows_none_are_passed_on() {
+    let count = Count::default();
+    let array = raw::Array::values(3, Some(&[0b101]), &[7, 8, 9], &count);
+    let mut schema = Schema::new("a", "C", &count);
+    schema.flags = 0;
+    let rows = import(array, schema).unwrap();
+    let field = rows.field().clone();
+    let passed = [
+        Export::concat(&field, &[rows.clone(), rows.slice(1..)]),
+        rows.filter(None::<Bits>),
+        rows.filter(Bits::new(&[0b111], 0, 3)),
+        Export::from(rows.clone()).with_field(&field),
+    ];
+    for passed in passed {
+        let passed = passed.unwrap().into_array();
+        assert_eq!(
+            (passed.field(), passed.validity().unwrap().get(1)),
+            (&field, Some(false))
+        );
+    }
+    assert_eq!(said(Export::from(rows), field), "3");
+}
+
 /// Arrays without a validity: only those of type null have nulls. Unions and runs have them in
 /// their children.
 #[test]

@@ -30,10 +30,11 @@ impl Array {
     ///
     /// # Errors
     ///
-    /// Returns [`ArrowError::Type`] if the array isn't of texts or lists. Returns
-    /// [`ArrowError::Malformed`] with [`Fault::Range`] if an offset is negative or below the one
-    /// before it, with [`Fault::Short`] if the rows end after the last item, and with
-    /// [`Fault::Back`] if these rows are a slice and end after the last row of the array.
+    /// Returns [`ArrowError::Type`] if the array isn't of texts or lists between offsets: views,
+    /// list views and fixed-size lists aren't. Returns [`ArrowError::Malformed`] with
+    /// [`Fault::Range`] if an offset is negative or below the one before it, with [`Fault::Short`]
+    /// if the rows end after the last item, and with [`Fault::Back`] if these rows are a slice and
+    /// end after the last row of the array.
     pub fn ranges(&self) -> Result<Ranges<'_>, ArrowError> {
         let ranges = self.offsets()?;
         if let Some(items) = self.node.children.first() {
@@ -119,8 +120,9 @@ impl Array {
     /// # Errors
     ///
     /// Returns [`ArrowError::Type`] if the array has another type. Returns
-    /// [`ArrowError::Malformed`] if an offset is below the one before it, if a valid row isn't in a
-    /// buffer, or if a buffer with bytes is null.
+    /// [`ArrowError::Malformed`] as [`ranges`](Array::ranges) does, if a valid view isn't in a
+    /// buffer, if the size of a buffer of views is negative, or if a buffer with bytes or with
+    /// sizes is null.
     pub fn texts(&self) -> Result<Texts<'_>, ArrowError> {
         let Some(views) = self.views() else {
             let (ranges, bytes) = self.joined()?;
@@ -212,8 +214,9 @@ impl Array {
     ///
     /// # Errors
     ///
-    /// Returns the errors of [`ranges`](Array::ranges), and [`ArrowError::Malformed`] if the rows
-    /// have bytes and the buffer is null.
+    /// Returns [`ArrowError::Type`] if the array isn't of texts or binary values between offsets.
+    /// Returns [`ArrowError::Malformed`] as [`ranges`](Array::ranges) does, or if the rows have
+    /// bytes and the buffer is null.
     pub fn bytes(&self) -> Result<&[u8], ArrowError> {
         Ok(self.joined()?.1)
     }
@@ -257,7 +260,7 @@ impl Array {
     ///
     /// # Errors
     ///
-    /// Returns [`ArrowError::Type`] if the array isn't of lists.
+    /// Returns [`ArrowError::Type`] if the array isn't of lists between offsets.
     pub fn items(&self) -> Result<Array, ArrowError> {
         match (self.node.field.layout, self.node.children.first()) {
             (Layout::Ranges(_, Of::Items), Some(items)) => Ok(Array::whole(items)),

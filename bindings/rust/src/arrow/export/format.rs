@@ -36,7 +36,8 @@ impl Export {
     /// Returns [`ArrowError::Malformed`] if no type has the format. Returns [`ArrowError::Format`]
     /// with both formats if the conversion isn't allowed, and with the first row whose value
     /// doesn't fit. Children keep their types, so a list, union or struct can't get other children,
-    /// another length or other type ids.
+    /// another length or other type ids. For binary values of another part of the program that
+    /// become texts, returns the errors of [`Array::texts`].
     pub fn with_format(self, format: &str) -> Result<Export, ArrowError> {
         let layout = Layout::of(format).ok_or_else(|| Fault::Format(format.into()))?;
         let Some(proof) = Proof::of(&self.field, format, layout) else {

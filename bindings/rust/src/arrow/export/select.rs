@@ -78,8 +78,8 @@ impl Array {
     ///
     /// - Returns [`ArrowError::Mask`] if the mask has another number of bits than there are rows.
     /// - Returns [`ArrowError::Malformed`] if a selected text or list, except views, ends before it
-    ///   begins or after the last byte or item of the array, if runs end before the rows do, if a
-    ///   row of a union names no child or item, or if a buffer that the rows need is null.
+    ///   begins or after the last byte or item of the array, if a row of a union names no child or
+    ///   item, or if a buffer that the rows need is null.
     ///   Below lists, runs and unions, the row in the error counts from the first item that the
     ///   selected rows have.
     /// - Returns [`ArrowError::TooLong`] if one child has more than 2^31 rows of a dense union, and
@@ -271,8 +271,8 @@ impl Export {
     /// Errors name the columns as the field does.
     ///
     /// - Returns [`ArrowError::Field`] if an array doesn't have the type of the field, or has a
-    ///   null and the field allows none. Nulls in dictionaries and in the items of lists, runs and
-    ///   unions count even if no row has them.
+    ///   null that its own type allows and the field doesn't. Nulls in dictionaries and in the
+    ///   items of lists, runs and unions count even if no row has them.
     /// - Returns [`ArrowError::LongTexts`] or [`ArrowError::TooLong`] if offsets of 32 bits, the
     ///   ends of runs or the indices of a dictionary can't represent all rows.
     /// - Returns [`ArrowError::TooLong`] if there are 2^63 rows or items or more, and
