@@ -17,8 +17,8 @@ use crate::{BitIndex, Bits, BitsMut, portable};
 
 /// Bits that own their bytes, to store and to return. By default the bytes are shared: a slice is
 /// another window of them. They can also be an engine's own buffer `B`. A bitmap has the calls of
-/// [`Bits`], except `bytes` and `offset`, which the bits that it lends have. In [`SharedBytes`] and
-/// in [`AlignedBytes`] it also grows and can be edited.
+/// [`Bits`], except `from_bytes`, and except `bytes` and `offset`, which the bits that it lends
+/// have. In [`SharedBytes`] and in [`AlignedBytes`] it also grows and can be edited.
 ///
 /// ```
 /// use vortex_bits::{Bits, Bitmap};

@@ -7,8 +7,9 @@ use core::fmt;
 use super::{Ranks, blocks};
 use crate::{Bitmap, Bits, SharedBytes};
 
-/// A [`Bitmap`] with the table of its [`Ranks`], to keep and to return. It has the calls of
-/// `Ranks`, except `table`: `ranks().table()` returns that.
+/// A [`Bitmap`] with the table of its [`Ranks`], to keep and to return. [`Bitmap::ranked`] returns
+/// one. It has the calls of `Ranks`, except the constructors and `table`: `ranks().table()` returns
+/// that.
 ///
 /// ```
 /// use vortex_bits::Bitmap;
