@@ -91,13 +91,16 @@ pub struct File<'a> {
 }
 
 impl File<'_> {
-    /// Returns the result of `read` for the stream of a layer with these options of GDAL's. A
-    /// stream has to end before its file is closed; its batches may stay.
+    /// Returns the result of `read` for the stream of a layer with these options of GDAL's.
     ///
     /// # Errors
     ///
     /// Returns an error if the file has no such layer, or GDAL makes no stream of it.
-    pub fn read<T>(
+    ///
+    /// # Safety
+    ///
+    /// The stream is dropped before the file is closed. Its batches may stay.
+    pub unsafe fn read<T>(
         &self,
         layer: &str,
         options: &[&str],

@@ -40,10 +40,13 @@ fn all(trucks: Stream) -> Result<Array, Box<dyn Error>> {
 fn ask(file: &File<'_>, rows: usize) -> Result<(), Box<dyn Error>> {
     let most = format!("MAX_FEATURES_IN_BATCH={rows}");
     let options = [most.as_str(), "INCLUDE_FID=YES"];
-    let trucks = file.read("trucks", &options, all)??;
+    // SAFETY: `all` drops the stream, and keeps only its batches.
+    let trucks = unsafe { file.read("trucks", &options, all)?? };
     for query in &QUERIES {
         println!("-- {};", query.sql);
-        let answer = file.read("parcels", &options, |parcels| (query.run)(parcels, &trucks))??;
+        let run = |parcels| (query.run)(parcels, &trucks);
+        // SAFETY: each query drops the stream, and keeps only batches.
+        let answer = unsafe { file.read("parcels", &options, run)?? };
         show::print(&answer)?;
     }
     Ok(())

@@ -12,7 +12,8 @@ fn read<T>(gdal: &Gdal, file: &Path, each: usize, read: impl FnOnce(Stream) -> T
     let most = format!("MAX_FEATURES_IN_BATCH={each}");
     let layer = file.file_stem().unwrap().to_str().unwrap();
     let file = gdal.open(file).unwrap();
-    file.read(layer, &["INCLUDE_FID=NO", &most], read).unwrap()
+    // SAFETY: both callers drop the stream in `read`.
+    unsafe { file.read(layer, &["INCLUDE_FID=NO", &most], read).unwrap() }
 }
 
 fn names(stream: &Stream) -> Vec<(String, String)> {
