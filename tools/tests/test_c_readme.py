@@ -41,6 +41,10 @@ class CReadme(unittest.TestCase):
         self.assertEqual(printed(command.split(), cwd=self.folder), [])
         self.assertEqual(printed([str(self.folder / "a.out")]), lines)
 
+    def test_the_page_has_the_commands(self):
+        self.assertIn(f"`{C}`", README)
+        self.assertIn("For C++ write `c++ -std=c++17` for `cc`.", README)
+
     @HAS_C
     def test_c_is_taken(self):
         self.is_taken(C, "c")
@@ -52,13 +56,11 @@ class CReadme(unittest.TestCase):
     @HAS_C
     @HAS_ARCHIVE
     def test_c_prints_what_the_page_says(self):
-        self.assertIn(f"`{C}`", README)
         self.prints(C, "c")
 
     @HAS_CPP
     @HAS_ARCHIVE
     def test_cpp_prints_what_the_page_says(self):
-        self.assertIn("write `c++ -std=c++17` in place of `cc`", README)
         self.prints(CPP, "cpp")
 
     def test_a_release_has_what_is_linked(self):
