@@ -5,13 +5,15 @@ import unittest
 from tests.test_parts import Folder
 
 # An `rt` that builds an empty library for each crate, and a compiler for C whose output is always a
-# script in place of the benchmarks.
+# script in place of the benchmarks. It reads a source from standard input: if it ended before the
+# source is written, the pipe and so bench/rows would fail.
 EMPTY = """[ "$1" != doc ] || { echo kit/START-HERE.md; exit 0; }
 name=$(basename "$PWD")
 echo "rt: chose --jobs 1 for $name"
 mkdir -p out && : >"out/lib$name.a"
 echo 'logic=proved functions=1'"""
-BENCHMARKS = """while [ "$1" != -o ]; do shift; done
+BENCHMARKS = """[ "$1" != -x ] || cat >/dev/null
+while [ "$1" != -o ]; do shift; done
 cat >"$2" <<'END'
 #!/bin/sh
 echo '  measures Counts' >&2
