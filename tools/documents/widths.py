@@ -34,9 +34,8 @@ def widths(repository: Repository) -> list[str]:
 
 
 def lengths(repository: Repository) -> list[str]:
-    """Returns the files of code that have more than 500 lines."""
-    paths = [it for it in repository.paths if Path(it).suffix in CODE]
-    counts = {it: repository.read(it).count("\n") for it in paths}
+    """Returns the files of code and the scripts that have more than 500 lines."""
+    counts = {path: text.count("\n") for path, text in code(repository)}
     return [
         f"{path}: {count} lines, where {LONGEST} are the most"
         for path, count in counts.items()

@@ -355,7 +355,7 @@ class Check(Folder):
 class Bindings(Folder):
     def setUp(self):
         super().setUp()
-        for name in ("run", "build", "release"):
+        for name in ("run", "refused.sh", "build", "release"):
             self.copy(f"bindings/{name}")
         self.write("bindings/rust/Cargo.toml", 'version = "0.1.0"\n')
         self.command("bindings/c/functions", "exit 0")
@@ -392,6 +392,10 @@ class Bindings(Folder):
 
 class WithoutRt(Folder):
     """Tests that each command reports a missing `rt` at once, and where it comes from."""
+
+    def setUp(self):
+        super().setUp()
+        self.copy("bindings/refused.sh")
 
     def test_each_says_so_in_one_line(self):
         commands = {

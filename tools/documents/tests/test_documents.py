@@ -314,16 +314,23 @@ class Checked(unittest.TestCase):
             self.assertEqual(self.widths_with(path, "it " * 40), [], path)
 
     def widths_with(self, path: str, text: str) -> list[str]:
-        """Returns the faults of the repository with one more file."""
+        """Returns the lines that are too wide in the repository with one more file."""
+        return widths(self.repository_with(path, text))
+
+    def repository_with(self, path: str, text: str) -> Repository:
+        """Returns the repository with one more file."""
         repository = self.repository()
         (repository.root / path).parent.mkdir(parents=True, exist_ok=True)
         (repository.root / path).write_text(text, encoding="utf-8")
-        return widths(repository)
+        return repository
 
     def test_a_file_of_too_many_lines(self):
         self.assertEqual(lengths(self.repository(bits_dot_rs=("pub", "\n" * 496 + "pub"))), [])
         found = lengths(self.repository(bits_dot_rs=("pub", "\n" * 497 + "pub")))
         self.assertEqual(found, ["bindings/rust/src/bits.rs: 501 lines, where 500 are the most"])
+        long = self.repository_with("tools/any", "#!/bin/sh\n" + "true\n" * 500)
+        self.assertEqual(lengths(long), ["tools/any: 501 lines, where 500 are the most"])
+        self.assertEqual(lengths(self.repository_with("NOTICE", "a line\n" * 501)), [])
 
 
 if __name__ == "__main__":
