@@ -9,7 +9,8 @@ has_error() {
         printf '    std::vector<std::uint8_t> bytes(1);\n    vortex_bits::bits rows(bytes, 0, 8);\n'
         printf '    %s\n}\n' "$1"
     } >"$out/tells.cpp"
-    ! c++ -std=c++17 -fsyntax-only -I "$here/c" "$out/tells.cpp" 2>"$out/log" &&
+    ! c++ -std=c++17 -Werror=return-type -fsyntax-only -I "$here/c" "$out/tells.cpp" \
+        2>"$out/log" &&
         [ "$(grep -c 'error:' "$out/log")" = 1 ]
 }
 

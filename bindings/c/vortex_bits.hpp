@@ -186,10 +186,7 @@ public:
         return places;
     }
 
-    /*
-     * Returns the runs of set bits, as `Run`: vb_run, or vb_run_u32 of a window of fewer than 2^32
-     * bits.
-     */
+    /* Returns the runs of set bits, as `Run`: vb_run, or vb_run_u32 of fewer than 2^32 bits. */
     template <class Run = vb_run> std::vector<Run> set_slices() const
     {
         using index = decltype(Run::start);
@@ -213,6 +210,7 @@ public:
         } else if constexpr (std::is_same_v<index, std::size_t>) {
             return vb_set_indices(out.data(), detail::size(out), bytes_, size_, offset_, len_);
         }
+        return 0;
     }
     template <class Out> std::size_t set_slices_into(Out &&out) const
     {
@@ -225,6 +223,7 @@ public:
         } else if constexpr (std::is_same_v<run, vb_run>) {
             return vb_set_slices(out.data(), detail::size(out), bytes_, size_, offset_, len_);
         }
+        return 0;
     }
 
     /*
