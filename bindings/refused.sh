@@ -58,6 +58,12 @@ refused_types() {
             'vortex_bits::compare(bytes.data(), VB_LESS, 1, {bytes, 0, 8});' &&
         tells "compare compares whole numbers with a whole number" \
             'std::vector<long> all(8); vortex_bits::compare(all, VB_LESS, 2.5, {bytes, 0, 8});' &&
+        tells "compare compares values with a number" \
+            'std::vector<double> all(8);
+              vortex_bits::compare(all, VB_LESS, std::string("2"), {bytes, 0, 8});' &&
+        tells "compare compares values with a number" \
+            'std::vector<long> all(8); enum class kind { one };
+              vortex_bits::compare(all, VB_LESS, kind::one, {bytes, 0, 8});' &&
         tells "compare_with compares values of one type" \
             'vortex_bits::compare_with(bytes, VB_LESS, std::vector<int>(1), {bytes, 0, 1});' &&
         tells "keep_into writes values of the type" \

@@ -48,13 +48,21 @@ template <class Value> constexpr bool is_compared()
     return is_index<Value>() || std::is_same_v<Value, float> || std::is_same_v<Value, double>;
 }
 
-/* Returns whether such values are compared with a `Number`: whole numbers with whole ones only. */
-template <class Value, class Number> constexpr bool is_compared_with()
+/* Returns whether it is a type of numbers that values are compared with. */
+template <class Number> constexpr bool is_number()
 {
     if constexpr (std::is_convertible_v<Number, double> && !std::is_class_v<Number>) {
         using promoted = decltype(+std::declval<Number>());
-        return is_index<promoted>()
-            || (std::is_floating_point_v<promoted> && std::is_floating_point_v<Value>);
+        return is_index<promoted>() || std::is_floating_point_v<promoted>;
+    }
+    return false;
+}
+
+/* Returns whether such values are compared with a `Number`: whole numbers with whole ones only. */
+template <class Value, class Number> constexpr bool is_compared_with()
+{
+    if constexpr (is_number<Number>()) {
+        return is_index<decltype(+std::declval<Number>())>() || std::is_floating_point_v<Value>;
     }
     return false;
 }
@@ -123,8 +131,9 @@ template <class Value, class Number> bound<Value> bound_of(Number number)
  * Writes to bit k of `out`, one bit per value, whether value k compares with `number` by `op`:
  * VB_EQUAL, VB_LESS, .. of vortex_bits_compare.h. Throws std::out_of_range if the lengths differ,
  * or `op` is none of these. Values are whole numbers of 8 to 64 bits, floats or doubles. `number`
- * is of any type of numbers, and a whole number if the values are. The comparison is exact, even if
- * their type can't represent `number`: all values of 8 bits are below 300, and no float equals 0.1.
+ * is of any standard type of numbers, and a whole number if the values are. The comparison is
+ * exact, even if their type can't represent it: all values of 8 bits are below 300, and no float
+ * equals 0.1.
  * With a NaN only VB_NOT_EQUAL is true, so `compare_with(values, VB_EQUAL, values, out)` finds the
  * values that aren't NaN.
  */
@@ -135,7 +144,10 @@ void compare(const Values &values, vb_comparison op, Number number, bits_mut out
     static_assert(detail::is_compared<value>(),
         "compare compares whole numbers of 8, 16, 32 or 64 bits, float and double, in a type "
         "with data() and size(): for a pointer write vortex_bits::view(pointer, count)");
-    static_assert(!detail::is_compared<value>() || detail::is_compared_with<value, Number>(),
+    static_assert(!detail::is_compared<value>() || detail::is_number<Number>(),
+        "compare compares values with a number of a standard type of C++");
+    static_assert(!detail::is_compared<value>() || !detail::is_number<Number>()
+            || detail::is_compared_with<value, Number>(),
         "compare compares whole numbers with a whole number: round this one as you mean it");
     if constexpr (detail::is_compared<value>() && detail::is_compared_with<value, Number>()) {
         detail::expect(op <= VB_GREATER_OR_EQUAL, "not a comparison");
