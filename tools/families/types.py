@@ -315,6 +315,7 @@ class Sought:
 
 
 SOUGHT = [Sought(True), Sought(False)]
+
 # The functions of vb_group that undo an addition that stops, with the function that adds and the
 # mask in proofs.
 UNDONE = [

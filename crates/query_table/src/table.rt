@@ -49,7 +49,7 @@ impl Table {
     /// reads the whole file.
     ///
     /// Fails if the file isn't a regular one, can't be read, is empty, or begins with no row of
-    /// CSV; where it reads the whole file, if any row isn't CSV.
+    /// CSV. If it reads the whole file, it also fails if any row isn't CSV.
     pub fn open<R: Files + AllocGlobal>(rt: &R, path: &str, format: Format) -> Result<Table> {
         let alloc = rt.alloc();
         let is_file = match fs::metadata(rt, path) {

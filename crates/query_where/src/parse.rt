@@ -12,8 +12,8 @@ const DEEPEST: usize = 200;
 
 /// Returns the condition of a text.
 ///
-/// Fails where no word can be read, wherever that is; else at the first unexpected word, or where
-/// the condition is nested more than 200 deep.
+/// Fails where the text can't be split into words, even behind an unexpected word; else at the
+/// first unexpected word, or where the condition is nested more than 200 deep.
 pub fn parse_condition(alloc: Global, source: Source<'_>) -> Result<Condition> {
     let mut parser = Conditions::new(alloc, source)?;
     let mut next = Next::Condition;

@@ -73,7 +73,8 @@ impl Answer {
 
 /// Returns the answers of a list, such as `count(*), sum(size)`.
 ///
-/// Fails where no word can be read, wherever that is; else at the first unexpected word.
+/// Fails where the text can't be split into words, even behind an unexpected word; else at the
+/// first unexpected word.
 pub fn selection(alloc: Global, source: Source<'_>) -> Result<Vec<Answer>> {
     let mut words = Words::new(alloc, source)?;
     let mut answers = Vec::new(alloc);
@@ -93,7 +94,8 @@ pub fn selection(alloc: Global, source: Source<'_>) -> Result<Vec<Answer>> {
 
 /// Returns the names of a list of columns, such as `size, "the note"`.
 ///
-/// Fails where no word can be read, wherever that is; else at the first unexpected word.
+/// Fails where the text can't be split into words, even behind an unexpected word; else at the
+/// first unexpected word.
 pub fn column_names(alloc: Global, source: Source<'_>) -> Result<Vec<Name>> {
     let mut words = Words::new(alloc, source)?;
     let mut names = Vec::new(alloc);

@@ -246,7 +246,7 @@ impl<'a> Words<'a> {
         }
     }
 
-    /// Reads a name. Fails if the next word is none, or is a keyword without quotes.
+    /// Reads a name. Fails if the next word isn't a name, or is a keyword without quotes.
     pub fn name(&mut self, what: &str) -> Result<Name> {
         let token = self.take();
         self.name_of(token, what)

@@ -12,7 +12,7 @@ use crate::matches::{digits_of_any, matches_before, read_matches};
 use crate::nearest::{Nearest, nearest_in_look};
 use vb_count::{Glance, last_look};
 
-/// The number of words that one test passes together.
+/// The greatest number of words that one test passes together.
 const PASSED_WORDS: usize = 8;
 
 /// Returns the index of the last set bit of the window, or `None` if no bit is set. The index is

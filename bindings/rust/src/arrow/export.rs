@@ -180,7 +180,7 @@ impl Export {
     /// Returns the errors of `with_format`, and [`ArrowError::Field`] if
     ///
     /// - a child or the dictionary has another type,
-    /// - a row is null, which the rows' own type allows and the field doesn't: nulls in
+    /// - a row is null, and the rows' own type allows nulls but the field doesn't: nulls in
     ///   dictionaries and in the items of lists, runs and unions count even if no row has them,
     /// - the field has any other flag that the rows don't have.
     pub fn with_field(self, field: &Field) -> Result<Export, ArrowError> {
