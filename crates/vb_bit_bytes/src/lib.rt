@@ -1,8 +1,10 @@
 //! Bits in byte buffers: the steps from which sets of bits are made, edited and grown.
 //!
 //! The index of a bit counts from the start of the bytes, least significant bit first. Indices and
-//! lengths are in bits. An edit changes the bits that it names and no other bits of their bytes,
-//! and does not allocate.
+//! lengths are in bits. A window is the `len` bits from bit `offset` on; it must be in its bytes,
+//! and `offset + len` must fit in a `usize`. A "must" in a docstring is a condition that the caller
+//! has to prove. An edit changes the bits that it names and no other bits of their bytes, and does
+//! not allocate.
 #![tactic(auto)]
 
 mod bytewise;

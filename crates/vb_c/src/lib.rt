@@ -1,10 +1,11 @@
 //! The functions over bits of slices as C functions, for programs in other languages.
 //!
 //! C passes a slice as a pointer and the number of its items. A C caller must ensure that pointers
-//! are valid and not null; that during the call nothing else writes the memory that the function
-//! reads, and nothing else accesses the memory that it writes. For a slice of no items the C
-//! library of bindings/c also takes null, which it replaces. A window is the `len` bits from bit
-//! `offset` on, least significant first. Indices are relative to the window.
+//! are valid and not null; that an output overlaps no other argument; and that during the call
+//! nothing else writes the memory that the function reads, or accesses the memory that it writes.
+//! For a slice of no items the C library of bindings/c also takes null, which it replaces. A window
+//! is the `len` bits from bit `offset` on, least significant first. Indices are relative to the
+//! window.
 //!
 //! A function has the contract of the kernel that it calls. It requires that windows are in their
 //! bytes and that their ends fit in a `usize`, which nothing checks for a C caller. The checked

@@ -6,9 +6,10 @@
 //! group, and one count for each later group. Ranks and selects read few bits, as those of
 //! `vb_rank` over a table do.
 //!
-//! A rank or select is generic over a source of counts, and can read a count only by a probe of the
-//! source. Other crates can read counts only by these calls. Lengths, offsets and indices are in
-//! bits. A "must" in a docstring is a condition that the caller has to prove.
+//! Within this crate a rank or select is generic over a source of counts, and can read a count only
+//! by a probe of the source. Other crates can read counts only by the ranks and selects of
+//! [`Counts`]. Lengths, offsets and indices are in bits. A "must" in a docstring is a condition
+//! that the caller has to prove.
 #![tactic(auto)]
 
 mod count_added;

@@ -1,6 +1,7 @@
 //! Bits unpacked to bytes, and values scattered by a mask, over slices.
 //!
-//! Lengths and indices are in bits, or in values. No call allocates.
+//! Lengths, offsets and indices are in bits, or in values. A "must" in a docstring is a condition
+//! that the caller has to prove. No call allocates.
 #![tactic(auto)]
 
 mod scatter;

@@ -5,7 +5,8 @@
 //! `intersect_by_rank` is the same with the roles of mask and bits swapped. [`take_bits`] and
 //! [`Take::taken`] gather bits and items at indices. [`compared`] and [`compared_with`] compare
 //! values. [`and_kleene`] and [`or_kleene`] combine truth values, some of which may be null. The
-//! kernels over slices are in `vb_filter`, `vb_take`, `vb_compare`, `vb_kleene` and `vb_bits`.
+//! kernels over slices are in `vb_filter`, `vb_take`, `vb_compare`, `vb_kleene` and `vb_bits`. A
+//! "must" in a docstring is a condition that the caller has to prove.
 #![tactic(auto)]
 
 mod compare;

@@ -26,7 +26,7 @@ use vb_view::BitBufferView;
 ///
 /// Reads the bits once, four words at a time, at any offsets. If a window that is written doesn't
 /// begin at a byte boundary, it copies the results in blocks. Without validities it combines only
-/// the values. Does not allocate.
+/// the values, if there are more than 64. Does not allocate.
 pub fn and_kleene_into(
     trues: &mut [u8],
     trues_offset: usize,

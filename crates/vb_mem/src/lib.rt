@@ -2,7 +2,8 @@
 //!
 //! A [`BufferMut`] owns its storage and grows. [`BufferMut::freeze`] converts it to a [`Buffer`],
 //! which callers clone and slice without a copy. [`Buffer::into_mut`] converts a `Buffer` back to a
-//! `BufferMut`. No owner sees the writes of another one.
+//! `BufferMut`. No owner sees the writes of another one. A "must" in a docstring is a condition
+//! that the caller has to prove.
 #![tactic(auto)]
 
 mod buffer;

@@ -24,7 +24,8 @@ AsksWhole (Show k) = Unit {0}
 AsksWhole (Eq k j) = Unit {0}
 AsksWhole order = ⊥
 
--- an order that returns a number or an index, returns a list or a text, or compares two sets
+-- an order that returns the number of a set's bits or of its true ones, or an index, returns a list
+-- or a text, or compares two sets
 abbrev pub IsQuestion : Order → Type 0
 IsQuestion (Len k) = Unit {0}
 IsQuestion (Count k) = Unit {0}

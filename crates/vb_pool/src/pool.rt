@@ -24,7 +24,8 @@ use vb_set::{BitBuffer, BitBufferView};
 /// Sixteen slots for sets of bits, numbered from 0. Contracts see the list of their contents.
 ///
 /// A set keeps the allocator that it was made with: a clone of the one passed to [`Pool::serve`],
-/// the one of the bytes of an `import` passed by value, or the one of the set it was made from.
+/// the one of the bytes of an `import` passed by value, or the one of the set it was made from (for
+/// an operator the left one).
 #[derive(Drop)]
 pub struct Pool<A: Allocator + Clone = Global> {
     slots: Sixteen<Slot<A>>,

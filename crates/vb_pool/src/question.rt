@@ -11,9 +11,9 @@ use std::alloc::Allocator;
 use vb_command::{Answer, Command, Refusal};
 
 impl<A: Allocator + Clone> Pool<A> {
-    /// Returns the answer to a query for a number, an index, a list or a text, or to `eq`. It is a
-    /// separate function, so that other commands do not clear its stack frame: a function clears
-    /// its whole frame when it begins.
+    /// Returns the answer to `len`, `count`, `select`, `selectunset`, `last` or `eq`, or to a query
+    /// for a list or a text. It is a separate function, so that other commands do not clear its
+    /// stack frame: a function clears its whole frame when it begins.
     #[inline(never)]
     pub(crate) fn ask(&self, alloc: &A, question: &Command<A>) -> Result<Answer<A>, Refusal>
         requires { IsQuestion (order_of question.now) }

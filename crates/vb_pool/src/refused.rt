@@ -5,8 +5,9 @@ ghost use Rattle.vb_pool.specs.Answered.{IsOfSet};
 use vb_command::Refusal;
 use vb_set::BufferError;
 
-/// Returns the refusal of a command for an error of a set. Calls that make or change sets return
-/// only these three errors.
+/// Returns the refusal of a command for an error of a set. Except for the indices of `take`,
+/// commands test windows, ranges, indices and lengths first, so the calls that make or change sets
+/// then return only these three errors.
 pub(crate) fn refusal_of(error: BufferError) -> Refusal
     requires { IsOfSet error }
     ensures bits { error ≡ BufferError.TooManyBits → result ≡ Refusal.TooManyBits }

@@ -18,10 +18,10 @@ impl<A: Allocator + Clone> Pool<A> {
     /// Memory:
     ///
     /// - `import`, `full`, `indices`, `take`, `bits` and `places` allocate once, with a clone of
-    ///   `alloc`; so does `thaw` if another slot shares the storage. `runs` and `show` allocate
-    ///   with it as their list or text grows.
-    /// - `clone` of an open set, the appends, `sliced` and the operators allocate with the set's
-    ///   allocator.
+    ///   `alloc`, unless they have nothing to store; so does `thaw` if another slot shares the
+    ///   storage. `runs` and `show` allocate with it as their list or text grows.
+    /// - `clone` of an open set, the appends and `sliced` allocate with the set's allocator, and
+    ///   the operators with that of the left set.
     /// - `freeze`, `slice` and `clone` of a frozen set copy no bits, nor does `thaw` if no other
     ///   slot shares the storage. Operators with `own` copy none if the left set is the only owner
     ///   of its storage. But `thaw` and these operators move the bytes of a slice to the start of
@@ -38,8 +38,8 @@ impl<A: Allocator + Clone> Pool<A> {
     }
 
     /// Runs one command passed by value, as [`serve`](Self::serve) runs one passed by reference.
-    /// The bytes of an `import` become the bytes of its set, which then allocates only a count of
-    /// owners.
+    /// The bytes of an `import` become the bytes of its set. The call then allocates only a count
+    /// of owners, with a clone of `alloc`, and frees it again.
     pub fn serve_owned(&mut self, alloc: &A, command: Command<A>) -> Answer<A>
         ensures outcome { Outcome self.old (order_of command) (reply result) self.new }
         ensures slots { length self.new ≡ 16 }

@@ -46,8 +46,8 @@ pub fn rank_by<G: Glance, T: Probe>(
 
 /// Returns the number of set bits among the `i` bits from bit `offset` on. `before` is the number
 /// of set bits before block `block` of these bits; with another number the result is unspecified.
-/// The bits must be in the bytes of `src`, and must end in the block or where it begins. Makes at
-/// most 16 looks.
+/// The bits must be in the bytes of `src`, `offset + i` must fit in a `usize`, and the bits must
+/// end in the block or where it begins. Makes at most 16 looks.
 #[inline(always)]
 pub fn rank_from<G: Glance>(
     src: &mut G,

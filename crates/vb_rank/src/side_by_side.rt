@@ -136,8 +136,11 @@ fn choose(step: usize, rest: usize, upper: usize, lower: usize) -> usize
 
 /// Does [`select_from`] for eight selects: returns for each the index of the `ns[k]`-th bit of the
 /// window that is `value`. Block `blocks[k]` must begin before `len`, and `befores[k]` must be at
-/// most `ns[k]`. Makes at most 136 looks. Loads the chunks of all before it searches any, so that
-/// it waits for them together.
+/// most `ns[k]`. Makes at most 136 looks.
+///
+/// If bit `offset` is the first of a byte, it loads 64 bytes of each block, where the bytes have
+/// that many, before it searches any block, so that it waits for them together. At any other offset
+/// it searches the blocks one after another.
 pub fn select_each_from<G: Glance>(
     src: &mut G,
     offset: usize,

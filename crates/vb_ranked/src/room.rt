@@ -7,7 +7,8 @@ use std::alloc::Allocator;
 use vb_directory::Counts;
 use vb_set::{BitBufferMut, BufferError, Result};
 
-/// The least capacity in bits of a set that has grown.
+/// A set that grows gets bytes for at least this number of bits, counted from the start of its
+/// bytes.
 const LEAST_ROOM: usize = 64;
 
 /// Reserves capacity for one more bit in a set with bits, and for the counts of all bits that the

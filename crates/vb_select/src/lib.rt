@@ -8,7 +8,7 @@
 //!
 //! The calls whose names end in `_by` read a `Glance`, a source of bytes that counts its reads;
 //! `vb_count::most_looks` bounds these. Apart from the selects, they stop at the bit that decides:
-//! their looks are at most those of a count of the bits up to it.
+//! their looks are at most those of a count of the bits that they search, that bit included.
 #![tactic(auto)]
 
 mod chunk;

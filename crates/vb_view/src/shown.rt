@@ -3,25 +3,27 @@ use crate::mut_view::{BitBufferMutView, BitStore};
 use crate::view::BitBufferView;
 use std::fmt;
 
-/// The number of bits that are printed.
+/// The most bits that are printed.
 const SHOWN: usize = 64;
 
-/// Prints the first 64 bits, as `BitBufferView(01101..)`.
+/// Prints at most the first 64 bits, for example `BitBufferView(01101)`, and `..` after them if
+/// there are more.
 impl<'a> fmt::Debug for BitBufferView<'a> {
     fn fmt<W: fmt::Write>(&self, f: &mut fmt::Formatter<W>) -> fmt::Result {
         write_view(f, "BitBufferView", *self)
     }
 }
 
-/// Prints the first 64 bits, as `BitBufferMutView(01101..)`.
+/// Prints at most the first 64 bits, for example `BitBufferMutView(01101)`, and `..` after them if
+/// there are more.
 impl<S: BitStore> fmt::Debug for BitBufferMutView<S> {
     fn fmt<W: fmt::Write>(&self, f: &mut fmt::Formatter<W>) -> fmt::Result {
         write_view(f, "BitBufferMutView", self.as_view())
     }
 }
 
-/// Writes the name of a type and the first 64 bits as digits, with `..` after them if there are
-/// more.
+/// Writes the name of a type and at most the first 64 bits as digits, with `..` after them if there
+/// are more.
 fn write_view<W: fmt::Write>(
     f: &mut fmt::Formatter<W>,
     name: &str,

@@ -2,8 +2,9 @@
 //!
 //! It re-exports types and calls of the crates below it, with the definitions that their clauses
 //! cite. It adds buffers whose alignment is part of their type ([`ConstBuffer`]), buffers of text
-//! ([`BufferString`]), and reading from the front of bytes ([`AlignedBuf`]). CALLING.md says how to
-//! depend on it.
+//! ([`BufferString`]), and reading from the front of bytes ([`AlignedBuf`]). A "must" in a
+//! docstring is a condition that the caller has to prove. CALLING.md says how to depend on this
+//! crate.
 #![tactic(auto)]
 
 mod aligned_buf;

@@ -63,7 +63,8 @@ impl<A: Allocator + Clone> BitBuffer<A> {
     /// the results of full words as SIMD vectors of bytes, and the rest bit by bit.
     ///
     /// The new set has its own storage: the call allocates its bytes and the count of owners with
-    /// this set's allocator. Returns `OutOfMemory`, before it calls `f`, if memory runs out.
+    /// this set's allocator. Returns `OutOfMemory`, before it calls `f`, if memory runs out, or if
+    /// this set's storage already has the maximum number of owners.
     pub fn map_cmp<F: FnMut(usize, bool) -> bool>(&self, f: &mut F) -> Result<Self>
         requires { CanAsk (λ p i. F.pre p i (at self.now.bits i))
             (asked_of F.step self.now.bits)
@@ -108,7 +109,8 @@ impl<A: Allocator + Clone> BitBuffer<A> {
     }
 
     /// Returns the items of an iterator, in order, as a set. The caller must prove that the
-    /// iterator ends. Does not use the iterator's size hint: it allocates as the items come.
+    /// iterator ends. Does not use the iterator's size hint: it allocates as the items come, and
+    /// the count of owners after the last one.
     ///
     /// Returns `TooManyBits`, at the first item that exceeds `usize::MAX` items, or `OutOfMemory`
     /// if memory runs out. Drops the iterator and its items on error.

@@ -1,8 +1,8 @@
 // Written in part by tools/write-lists from tools/families/lanes.txt.
 //! The results of a comparison of floats, one or 64 at a time.
 //!
-//! [`FloatLanes`] computes words for `f64` too, unlike `CompareLanes` for whole numbers of 64 bits:
-//! the compiler builds vectors from comparisons of single whole numbers, but not of single floats.
+//! `IS_WIDE` is false for `f64` too, unlike for whole numbers of 64 bits: the compiler builds
+//! vectors from comparisons of single whole numbers, but not of single floats.
 ghost use Rattle.std.specs.Prelude.{◌≡◌, length, map};
 ghost use Rattle.std.specs.Simd.Lanes.{zip2};
 

@@ -259,8 +259,8 @@ impl<A: Allocator + Clone> BitBufferMut<A> {
     /// Returns `TooManyBits` if the offset and both lengths together exceed `usize::MAX`. Otherwise
     /// it returns `OutOfMemory` if memory runs out. The set and its capacity are unchanged on
     /// error. If both lengths together are at most [`capacity`](Self::capacity), the call does not
-    /// allocate and succeeds; if the view has at most 512 bits, the capacity does not change
-    /// either.
+    /// allocate and succeeds. Clause `stays` proves that the capacity does not change then, but
+    /// only for a view of at most 512 bits.
     pub fn append_view(&mut self, bits: BitBufferView<'_>) -> Result<()>
         ensures ok { OnOk result (AddsBits (bits_of bits.entry) self.old self.new) }
         ensures grows { KeepsStart self.old self.new }
