@@ -6,7 +6,7 @@ import unittest
 
 from tests.test_parts import Folder
 
-PROGRAMS = ("cc", "ar", "ld", "nm", "objcopy")
+PROGRAMS = ("cc", "ar", "ld", "nm", "objcopy", "objdump")
 CRATES = ("vb_c", "vb_c_gather", "vb_c_compare", "vb_c_aggregate")
 RT = """name=${PWD##*/}
 mkdir -p out
@@ -18,7 +18,7 @@ class Build(Folder):
     def setUp(self):
         super().setUp()
         self.top /= "a, b"
-        for path in ("tools/parts.sh", "bindings/build", "bindings/wide"):
+        for path in ("tools/parts.sh", "bindings/build", "bindings/wide", "bindings/align"):
             self.copy(path)
         self.command("tools/digest", "echo 0")
         self.command("bin/rt", RT)

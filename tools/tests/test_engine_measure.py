@@ -8,9 +8,11 @@ from pathlib import Path
 
 TOP = Path(__file__).resolve().parent.parent.parent
 NATIVE = "bindings/rust/native"
-# Prints a row of portable code, or of the code PROVED if it gets the folder of archives.
+# Prints a row of portable code, or of the code PROVED if it gets the folder of archives. Fails
+# without the flag that keeps jumps from crossing 32 bytes, or without the user's own flags.
 CARGO = """#!/bin/sh
 echo run >>"$RUNS"
+[ "$RUSTFLAGS" = "-C debuginfo=1 -C llvm-args=-x86-branches-within-32B-boundaries" ] || exit 9
 if [ "${VORTEX_BITS_NATIVE##*/}" = none ]; then code=Portable; else code=$PROVED; fi
 echo "# $code"
 echo "query,rows,batch,engine_ns_a_row,loop_ns_a_row,ratio"
@@ -40,7 +42,7 @@ class Measure(unittest.TestCase):
             (self.top / NATIVE / f"libvortex_bits_0_91_{level}.a").touch()
         runs = self.top / "runs"
         env = os.environ | {"PATH": f"{self.top}/bin:{os.environ['PATH']}", "RUNS": str(runs),
-                            "PROVED": proved}
+                            "PROVED": proved, "RUSTFLAGS": "-C debuginfo=1"}
         ended = subprocess.run([self.top / "bench/engine/measure", *words], env=env, text=True,
                                capture_output=True)
         self.said = ended.stdout
