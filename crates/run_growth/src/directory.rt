@@ -34,6 +34,7 @@ pub const ROWS: &[&str] = &[
     "counted append_view",
     "counted append_whole_view",
     "tables new",
+    "tables new_buffer",
     "tables freeze",
     "tables table_of",
     "tables rank_by",

@@ -67,6 +67,7 @@ fn measure(alloc: Global, family: &str, row: &str, case: Case) -> Result<usize> 
         | "taken"
         | "compared"
         | "packed"
+        | "moved"
         | "buffers"
         | "grown_buffers"
         | "owners" => values::measure(alloc, family, row, case),

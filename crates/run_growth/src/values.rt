@@ -4,6 +4,7 @@ mod buffers;
 mod compared;
 mod filtered;
 mod grown;
+mod moved;
 mod packed;
 mod taken;
 mod texts;
@@ -66,6 +67,12 @@ pub const ROWS: &[&str] = &[
     "packed pack_truthy",
     "packed filter_values_into",
     "packed collect_bool_words",
+    "packed collect_bool_bytes",
+    "packed map_bool_bytes",
+    "packed pack_bools_into_words",
+    "moved retain_values",
+    "moved scatter_values_into",
+    "moved unpack_bytes",
     "buffers clone",
     "buffers slice_unaligned",
     "buffers freeze",
@@ -100,6 +107,7 @@ pub fn measure(alloc: Global, family: &str, row: &str, case: Case) -> Result<usi
         "taken" => taken::measure(alloc, row, case),
         "compared" => compared::measure(alloc, row, case),
         "packed" => packed::measure(alloc, row, case),
+        "moved" => moved::measure(alloc, row, case),
         "buffers" => buffers::measure(alloc, row, case),
         "grown_buffers" => grown::measure(alloc, row, case),
         "owners" => texts::measure(alloc, row, case),

@@ -5,15 +5,17 @@ use crate::directory::asked::{filled_set, ranked};
 use crate::input::{Case, mixed, window};
 use anyhow::{Result, bail};
 use std::alloc::Global;
+use vb_bit_buffer::BitBuffer;
 use vb_count::Plain;
 use vb_rank::{PlainTable, rank_by, select_by, select_unset_by, table_of};
-use vb_ranked::Ranked;
+use vb_ranked::{Ranked, RankedBuffer};
 use vb_view::BitBufferView;
 
 /// Makes the calls of a row.
 pub fn measure(alloc: Global, row: &str, case: Case) -> Result<usize> {
     match row {
         "new" => return counted(alloc, case),
+        "new_buffer" => return counted_buffer(alloc, case),
         "freeze" => return frozen(alloc, case),
         _ => {}
     }
@@ -28,6 +30,17 @@ fn counted(alloc: Global, case: Case) -> Result<usize> {
     let mut set = filled_set(alloc, case)?;
     for _ in 0..case.calls {
         set = Ranked::new(alloc, set)?.into_inner();
+    }
+    let len = set.len();
+    drop(set);
+    Ok(len)
+}
+
+/// Does the same with a frozen set.
+fn counted_buffer(alloc: Global, case: Case) -> Result<usize> {
+    let mut set = BitBuffer::full(alloc, true, case.size)?;
+    for _ in 0..case.calls {
+        set = RankedBuffer::new(alloc, set)?.into_inner();
     }
     let len = set.len();
     drop(set);
