@@ -8,7 +8,7 @@ from pathlib import Path
 TOP = Path(__file__).resolve().parent.parent.parent
 PROGRAMS = ("cc", "ld", "nm", "objdump")
 # If they start at 0, a jump of `crossing` ends at byte 32, and `fused` has one that is decoded with
-# the comparison from byte 30 on; no jump of `within` crosses. In `looping` two jumps cross, but at
+# the subtraction from byte 30 on; no jump of `within` crosses. In `looping` two jumps cross, but at
 # 16 that of a loop. `crossing` calls `fused` by a relocation.
 CODE = """
 .macro function name
@@ -25,7 +25,7 @@ function crossing
     ret
 function fused
     .fill 30, 1, 0x90
-    cmp %eax, %eax
+    sub %eax, %eax
     jne 1f
     mov $7, %eax
 1:  ret
