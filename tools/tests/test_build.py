@@ -37,6 +37,13 @@ class Build(Folder):
         shown = subprocess.run(["nm", "--dynamic", "--defined-only", library], check=True,
                                capture_output=True, text=True).stdout
         self.assertIn(" T vb_shown@@VORTEX_BITS_0_1\n", shown)
+        # bindings/align was called for the functions of each level and for those in front of them.
+        for archive in ("out/libvortex_bits.a", "rust/native/libvortex_bits_0_1_v3.a"):
+            listed = subprocess.run(["objdump", "-hw", self.top / "bindings" / archive], check=True,
+                                    capture_output=True, text=True).stdout
+            code = [line.split() for line in listed.splitlines() if "CODE" in line]
+            self.assertTrue(code)
+            self.assertEqual({it[6] for it in code if int(it[2], 16)}, {"2**5"}, listed)
 
 
 if __name__ == "__main__":

@@ -75,8 +75,8 @@ impl<A: Allocator + Clone> BitBuffer<A> {
 
     /// Returns the `len` bits of a byte buffer from bit `offset` on as a set. The bits must be in
     /// bounds of the buffer, and `offset + len` must fit in `usize`; `window_fits` tests both. The
-    /// set shares the buffer's storage, from the byte of the first bit on; if there are no bytes
-    /// from there on, it keeps no storage. Does not allocate.
+    /// set shares the buffer's storage, from the byte of the first bit on, unless there are no
+    /// bytes from there on. Does not allocate.
     pub fn new_with_offset(buffer: ByteBuffer<A>, len: usize, offset: usize) -> Self
         requires window { InBytes buffer.list offset len }
         ensures bits { result.bits ≡ bits buffer.list offset len }
@@ -152,10 +152,10 @@ impl<A: Allocator + Clone> BitBuffer<A> {
         })
     }
 
-    /// Returns the bits of `range` as a set that shares the storage, in constant time. The range
-    /// must be in order, and its end must be at most the length. The bytes of the new set are the
-    /// bytes of this one from the byte of the first bit to the end, and its offset is below 8. If
-    /// there are no such bytes, the new set keeps no storage.
+    /// Returns the bits of `range` as a set that shares the storage, unless it has no bytes, in
+    /// constant time. The range must be in order, and its end must be at most the length. The bytes
+    /// of the new set are the bytes of this one from the byte of the first bit to the end, and its
+    /// offset is below 8.
     /// [`shrink_offset`](Self::shrink_offset) removes the bytes after the last bit.
     ///
     /// Allocates nothing but what a clone of the allocator needs. Returns `OutOfMemory` if the

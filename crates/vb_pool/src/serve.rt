@@ -39,7 +39,7 @@ impl<A: Allocator + Clone> Pool<A> {
 
     /// Runs one command passed by value, as [`serve`](Self::serve) runs one passed by reference.
     /// The bytes of an `import` become the bytes of its set. The call then allocates only a count
-    /// of owners, with a clone of `alloc`, and frees it again.
+    /// of owners, with a clone of `alloc`.
     pub fn serve_owned(&mut self, alloc: &A, command: Command<A>) -> Answer<A>
         ensures outcome { Outcome self.old (order_of command) (reply result) self.new }
         ensures slots { length self.new ≡ 16 }

@@ -141,7 +141,7 @@ impl<A: Allocator + Clone> BitBufferMut<A> {
         Ok(BitBufferMut::from_buffer(buffer, set.offset(), set.len()))
     }
 
-    /// Returns a copy of the set, with all its bytes; it does not keep the capacity. Allocates
+    /// Returns a copy of the set, with all its bytes; its capacity may be another one. Allocates
     /// these bytes with the set's allocator. Returns `OutOfMemory` if memory runs out.
     pub fn clone(&self) -> Result<Self>
         ensures { Makes (λ s. s ≡ record self.now { room = s.room }) result }
@@ -150,8 +150,8 @@ impl<A: Allocator + Clone> BitBufferMut<A> {
         Ok(BitBufferMut::from_buffer(buffer, self.offset, self.len))
     }
 
-    /// Returns the set with its storage, and leaves an empty one without storage, with the same
-    /// alignment and offset 0. Allocates nothing but what a clone of the allocator needs.
+    /// Returns the set, with its capacity, and leaves an empty one with the same alignment and
+    /// offset 0.
     ///
     /// Returns `OutOfMemory` if the allocator cannot be cloned; the set and its capacity are
     /// unchanged then.
