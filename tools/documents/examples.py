@@ -9,7 +9,7 @@ from documents.files import Repository
 SOURCES, README = "bindings/rust/src", "bindings/rust/README.md"
 # Files without calls for users, or whose calls tests cover: the kernels, the parts of iterators,
 # the levels, and Arrow's structs.
-WITHIN = re.compile(r"(kernels|portable|iter|arrow|level|native)(/|\.rs$)")
+WITHIN = re.compile(r"(kernels|portable|prefetch|iter|arrow|level|native)(/|\.rs$)")
 COMMENT = re.compile(r"^\s*//[/!] ?(.*)$")
 PUBLIC = re.compile(r"^\s*pub (?:const |unsafe )*fn (\w+)", re.MULTILINE)
 # A call of a bitmap that bitmap/ask.rs forwards to the bitmap's window.

@@ -1,6 +1,7 @@
 //! Takes bits and values at indices, and sets bits there.
 
 use super::word::{only_word, word_at};
+use crate::prefetch::Ahead;
 use crate::take::BitIndex;
 use crate::written::Written;
 use crate::{Bits, Value};
@@ -88,14 +89,17 @@ fn members<I: BitIndex>(
     indices: &[I],
     selected: impl Fn(&Written<'_>, usize, usize) -> u64,
 ) {
-    for (i, indices) in indices.chunks(64).enumerate() {
-        let selected = selected(out, i, indices.len());
+    let mut ahead = Ahead::default();
+    for (i, block) in indices.chunks(64).enumerate() {
+        let selected = selected(out, i, block.len());
         let word = if selected.count_ones() < FEW {
-            some_among(bits, indices, selected)
+            some_among(bits, block, selected)
         } else {
-            among(bits, indices) & selected
+            // The next blocks probably select as many.
+            ahead.ask(indices, 64 * (i + 1));
+            among(bits, block) & selected
         };
-        out.write(64 * i, indices.len(), word);
+        out.write(64 * i, block.len(), word);
     }
 }
 

@@ -1,6 +1,7 @@
 //! Predicates over texts that write the mask of a `where` in place.
 
 use super::Texts;
+use super::predicates::GROUP;
 use super::test::{Contains, EndsWith, Equals, LessThan, StartsWith, Test};
 use super::wanted::Wanted;
 use crate::BitsMut;
@@ -124,6 +125,6 @@ impl Texts<'_> {
     fn and_test(&self, mut mask: BitsMut<'_>, test: &impl Test) {
         alike(mask.len(), self.len());
         let own = |mask: &Written<'_>, start, len| only_word(mask.as_bits().part(start, len));
-        self.write(&mut mask.written(), own, test);
+        self.write(&mut mask.written(), GROUP, own, test);
     }
 }

@@ -10,6 +10,7 @@ use super::{Rows, Texts, viewed};
 use crate::Bitmap;
 use crate::arrow::ranges::{Ranges, Spans, each_set};
 use crate::portable::{low, only_word};
+use crate::prefetch;
 use crate::written::Written;
 
 /// Predicates over the bytes of each row.
@@ -122,39 +123,100 @@ impl Texts<'_> {
     #[inline]
     fn test(&self, test: &impl Test) -> Bitmap {
         Bitmap::make(self.len(), |mut out| {
-            self.write(&mut out.written(), |_, _, len| low(len), test);
+            let group = if test.len().is_some() { GROUP } else { 64 };
+            self.write(&mut out.written(), group, |_, _, len| low(len), test);
         })
     }
 
     /// Writes a bit per row: whether it is selected, valid and passes the test. `selected` gets the
     /// window, the index of a first row and a number of rows up to 64, and returns the bits of the
     /// selected ones.
+    ///
+    /// Of each group of up to `group` rows it asks for the first bytes of the candidates, if they
+    /// are few, before it tests these.
     #[inline]
     pub(super) fn write(
         &self,
         out: &mut Written<'_>,
+        group: usize,
         selected: impl Fn(&Written<'_>, usize, usize) -> u64,
         test: &impl Test,
     ) {
         let (valid, mut spans) = (self.valid.bits(), None);
-        for start in (0..self.len()).step_by(64) {
-            let len = (self.len() - start).min(64);
-            let valid = valid.map_or(u64::MAX, |valid| only_word(valid.part(start, len)));
-            let rows = selected(out, start, len) & valid;
-            let passed = match &self.rows {
-                _ if rows == 0 => 0,
-                Rows::Joined(ranges, bytes) => {
-                    let all = start..start + len;
-                    joined(*ranges, bytes, all, rows, test, &mut spans)
-                }
-                Rows::Views(views, buffers) => each_set(rows, |row| {
-                    let row = viewed(&views[start + row], buffers);
-                    row.is_some_and(|row| test.of_row(Row::whole(row)))
-                }),
-            };
-            out.write(start, len, passed & rows);
+        for start in (0..self.len()).step_by(group) {
+            let (all, mut wanted) = (start..self.len().min(start + group), [0; GROUP / 64]);
+            for (wanted, block) in wanted.iter_mut().zip(blocks(&all)) {
+                let (start, len) = (block.start, block.len());
+                let valid = valid.map_or(u64::MAX, |valid| only_word(valid.part(start, len)));
+                let rows = selected(out, start, len) & valid;
+                *wanted = self.candidates(block, rows, test, &mut spans);
+            }
+            for (wanted, block) in wanted.into_iter().zip(blocks(&all)) {
+                let passed = self.passed(block.clone(), wanted, test, &mut spans);
+                out.write(block.start, block.len(), passed & wanted);
+            }
         }
     }
+
+    /// Returns which of `rows` may pass the test by their length. If these are few, it asks for the
+    /// first bytes of each.
+    #[inline]
+    fn candidates<T: Test>(
+        &self,
+        block: Range<usize>,
+        mut rows: u64,
+        test: &T,
+        spans: &mut Option<Spans>,
+    ) -> u64 {
+        let Rows::Joined(ranges, bytes) = &self.rows else {
+            return rows;
+        };
+        let start = block.start;
+        if let (Some(len), true) = (test.len(), rows.count_ones() >= T::MANY) {
+            let block = Block::new(*ranges, block, bytes, spans.get_or_insert_default());
+            rows &= block.map_or(u64::MAX, |block| block.lens_that(|it| it == len));
+        }
+        if rows.count_ones() < T::MANY {
+            each_set(rows, |row| {
+                let range = ranges.get(start + row).unwrap_or_default();
+                prefetch::line(bytes.as_ptr().wrapping_add(range.start));
+                true
+            });
+        }
+        rows
+    }
+
+    /// Returns which rows of a block pass the test, among those whose bit of `wanted` is set. Other
+    /// bits are arbitrary.
+    #[inline]
+    fn passed<T: Test>(
+        &self,
+        block: Range<usize>,
+        wanted: u64,
+        test: &T,
+        spans: &mut Option<Spans>,
+    ) -> u64 {
+        let start = block.start;
+        match &self.rows {
+            _ if wanted == 0 => 0,
+            Rows::Joined(ranges, bytes) => joined(*ranges, bytes, block, wanted, test, spans),
+            Rows::Views(views, buffers) => each_set(wanted, |row| {
+                let row = viewed(&views[start + row], buffers);
+                row.is_some_and(|row| test.of_row(Row::whole(row)))
+            }),
+        }
+    }
+}
+
+/// The greatest number of rows of a group. Their first bytes fit in the smallest cache.
+pub(super) const GROUP: usize = 512;
+
+/// Returns the blocks of up to 64 rows that a group has.
+#[inline]
+fn blocks(group: &Range<usize>) -> impl Iterator<Item = Range<usize>> {
+    let end = group.end;
+    let starts = group.clone().step_by(64);
+    starts.map(move |start| start..end.min(start + 64))
 }
 
 /// Returns which rows of a range pass the test, among those whose bit of `wanted` is set. Other

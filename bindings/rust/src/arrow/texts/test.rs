@@ -12,6 +12,12 @@ pub(super) trait Test {
     /// each.
     const MANY: u32;
 
+    /// Returns the number of bytes of each row that passes; None if such rows may differ in it.
+    #[inline]
+    fn len(&self) -> Option<u32> {
+        None
+    }
+
     /// Tests a row.
     fn of_row(&self, row: Row<'_>) -> bool;
 
@@ -70,6 +76,11 @@ impl<'a> Equals<'a> {
 
 impl Test for Equals<'_> {
     const MANY: u32 = 16;
+
+    #[inline]
+    fn len(&self) -> Option<u32> {
+        Some(self.0.len)
+    }
 
     #[inline]
     fn of_row(&self, row: Row<'_>) -> bool {
