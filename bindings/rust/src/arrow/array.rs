@@ -14,7 +14,7 @@ use super::error::{ArrowError, Fault};
 use super::ffi::{ArrowArray, ArrowSchema, Owned};
 use super::field::Field;
 use super::layout::Layout;
-use super::node::{Node, OriginOf, Tree, unknown};
+use super::node::{Node, NodeRef, OriginOf, unknown};
 use super::primitive::{Primitive, Unaligned};
 use super::texts::View;
 use crate::bits::within;
@@ -49,7 +49,7 @@ use crate::{Bits, Validity};
 /// ```
 #[derive(Clone)]
 pub struct Array {
-    pub(super) node: Arc<Node>,
+    pub(super) node: Node,
     /// The number of items in the buffers before the first row.
     pub(super) start: usize,
     /// The number of rows. They are items of the node.
@@ -94,17 +94,16 @@ impl Array {
         field: &Arc<Field>,
         origin: OriginOf,
     ) -> Result<Array, ArrowError> {
-        let owner = &Arc::new(array);
-        // SAFETY: the caller promises it; the node keeps the owner.
-        let node = unsafe { Node::read(owner.get(), field, Tree { owner, origin })? };
-        Ok(Array::whole(&Arc::new(node)))
+        // SAFETY: the caller promises it; the node keeps the array.
+        let node = unsafe { Node::owned(array, field, origin)? };
+        Ok(Array::whole(node.as_ref()))
     }
 
-    pub(super) fn whole(node: &Arc<Node>) -> Array {
+    pub(super) fn whole(node: NodeRef<'_>) -> Array {
         Array {
             start: node.offset,
             len: node.len,
-            node: Arc::clone(node),
+            node: node.to_node(),
         }
     }
 
@@ -340,7 +339,7 @@ impl Array {
     /// other types are whole.
     pub(super) fn parts(&self) -> impl ExactSizeIterator<Item = Array> + '_ {
         let has_rows = self.children_have_rows();
-        let children = self.node.children.iter();
+        let children = self.node.as_ref().children();
         children.map(move |child| self.part_of(child, has_rows))
     }
 
@@ -350,7 +349,7 @@ impl Array {
     ///
     /// Panics if there is no such child.
     pub(super) fn part(&self, place: usize) -> Array {
-        self.part_of(&self.node.children[place], self.children_have_rows())
+        self.part_of(self.node.as_ref().child(place), self.children_have_rows())
     }
 
     fn children_have_rows(&self) -> bool {
@@ -361,12 +360,12 @@ impl Array {
     }
 
     #[inline]
-    fn part_of(&self, child: &Arc<Node>, has_rows: bool) -> Array {
+    fn part_of(&self, child: NodeRef<'_>, has_rows: bool) -> Array {
         if !has_rows {
             return Array::whole(child);
         }
         Array {
-            node: Arc::clone(child),
+            node: child.to_node(),
             start: child.offset + self.start,
             len: self.len,
         }
@@ -378,7 +377,7 @@ impl Array {
     /// [`dictionary_texts`](Array::dictionary_texts) ignore it.
     #[must_use]
     pub fn dictionary(&self) -> Option<Array> {
-        self.node.dictionary.as_ref().map(Array::whole)
+        self.node.as_ref().dictionary().map(Array::whole)
     }
 
     /// Returns the rows of a range, which share the array. Does not allocate.
@@ -400,7 +399,7 @@ impl Array {
     pub fn try_slice(&self, range: impl RangeBounds<usize>) -> Result<Array, OutOfBounds> {
         let (start, len) = within(&range, self.len).map_err(OutOfBounds::of_rows)?;
         Ok(Array {
-            node: Arc::clone(&self.node),
+            node: self.node.clone(),
             start: self.start + start,
             len,
         })

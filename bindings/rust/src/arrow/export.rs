@@ -21,7 +21,7 @@ use super::error::ArrowError;
 use super::ffi::{ArrowArray, ArrowSchema, Below, Owned};
 use super::field::Field;
 use super::layout::Layout;
-use super::node::{Node, Origin, Tree, unknown};
+use super::node::{Node, NodeRef, Origin, unknown};
 use super::primitive::Primitive;
 use crate::Bitmap;
 use crate::error::expect;
@@ -139,7 +139,7 @@ impl Export {
         let held = Held {
             buffers: [&[validity], values].concat(),
             below: Below::new([]),
-            kept: (Some(kept), valid, None),
+            kept: Kept::Column(kept, valid),
         };
         Export {
             array: held.array(len, Some(nulls), offset),
@@ -254,14 +254,10 @@ impl Export {
         &self,
         read: impl FnOnce(&Array) -> Result<T, ArrowError>,
     ) -> Result<T, ArrowError> {
-        let (field, no_owner) = (Arc::new(self.field.clone()), Arc::new(Owned::empty()));
-        let tree = Tree {
-            owner: &no_owner,
-            origin: unknown,
-        };
+        let field = Arc::new(self.field.clone());
         // SAFETY: the array is as the interface requires, and lives longer than the node.
-        let node = unsafe { Node::read(self.array.get(), &field, tree)? };
-        read(&Array::whole(&Arc::new(node)))
+        let node = unsafe { Node::borrowed(self.array.get(), &field, unknown)? };
+        read(&Array::whole(node.as_ref()))
     }
 
     /// Returns the array as an imported one, for readers of this crate.
@@ -348,7 +344,7 @@ impl Array {
     pub fn try_into_export(self) -> Result<Export, ArrowError> {
         self.ends_with_all()?;
         Ok(Export {
-            array: shared(&self.node, self.start, self.len),
+            array: shared(self.node.as_ref(), self.start, self.len),
             field: self.field().clone(),
             len: self.len,
         })
@@ -362,29 +358,30 @@ impl Array {
 /// [`Held::array`] made the array, and it isn't released.
 pub(super) unsafe fn origin(array: &ArrowArray) -> Origin {
     // SAFETY: the caller promises it.
-    let (kept, _, owners) = unsafe { &(*array.private_data.cast::<Held>()).kept };
-    let node = kept.as_ref().map(Arc::clone);
-    Origin {
-        node: node.and_then(|it| it.downcast().ok()),
-        shared: owners.as_ref().and_then(|(.., shared)| shared.clone()),
+    match unsafe { &(*array.private_data.cast::<Held>()).kept } {
+        Kept::Node(node) => Origin {
+            node: Some(node.clone()),
+            shared: None,
+        },
+        Kept::New((.., shared)) => Origin {
+            node: None,
+            shared: shared.clone(),
+        },
+        Kept::Column(..) | Kept::Struct(_) => Origin::default(),
     }
 }
 
 /// Returns `len` items of a node from `start` on, with its whole children and dictionary.
-fn shared(node: &Arc<Node>, start: usize, len: usize) -> Owned<ArrowArray> {
-    let whole = |node: &Arc<Node>| shared(node, node.offset, node.len);
-    let mut below = Below::new(node.children.iter().map(whole));
-    if let Some(dictionary) = &node.dictionary {
+fn shared(node: NodeRef<'_>, start: usize, len: usize) -> Owned<ArrowArray> {
+    let whole = |node: NodeRef<'_>| shared(node, node.offset, node.len);
+    let mut below = Below::new(node.children().map(whole));
+    if let Some(dictionary) = node.dictionary() {
         below.set_dictionary(whole(dictionary));
     }
     let held = Held {
         buffers: node.buffers.clone(),
         below,
-        kept: (
-            Some(Arc::clone(node.keeper()) as Arc<dyn Any + Send + Sync>),
-            None,
-            None,
-        ),
+        kept: Kept::Node(node.keeper().to_node()),
     };
     held.array(len, node.nulls_of(len), start)
 }
@@ -417,12 +414,20 @@ fn from_bit(bits: Bitmap, place: usize) -> Bitmap {
 struct Held {
     buffers: Vec<*const c_void>,
     below: Below<ArrowArray>,
-    /// The owner of the values, and the validity; or the owners of new rows.
-    kept: (
-        Option<Arc<dyn Any + Send + Sync>>,
-        Option<Bitmap>,
-        Option<Owners>,
-    ),
+    kept: Kept,
+}
+
+/// The owners of the buffers of an array.
+#[allow(dead_code, reason = "their drops free the buffers")]
+enum Kept {
+    /// The owner of the values, and the validity.
+    Column(Arc<dyn Any + Send + Sync>, Option<Bitmap>),
+    /// The validity.
+    Struct(Option<Bitmap>),
+    /// The owners of new rows.
+    New(Owners),
+    /// The array whose buffers they are.
+    Node(Node),
 }
 
 impl Held {

@@ -37,7 +37,7 @@ impl Array {
     /// end after the last row of the array.
     pub fn ranges(&self) -> Result<Ranges<'_>, ArrowError> {
         let ranges = self.offsets()?;
-        if let Some(items) = self.node.children.first() {
+        if let Some(items) = self.node.as_ref().children().next() {
             let (wanted, got) = (ranges.end(), items.len);
             if wanted > got {
                 return Err(self.malformed(Fault::Short { wanted, got }));
@@ -262,7 +262,7 @@ impl Array {
     ///
     /// Returns [`ArrowError::Type`] if the array isn't of lists between offsets.
     pub fn items(&self) -> Result<Array, ArrowError> {
-        match (self.node.field.layout, self.node.children.first()) {
+        match (self.node.field.layout, self.node.as_ref().children().next()) {
             (Layout::Ranges(_, Of::Items), Some(items)) => Ok(Array::whole(items)),
             _ => Err(self.is_not("that of lists")),
         }

@@ -380,7 +380,7 @@ fn with_each<'a, T, R>(
 /// Returns the child at `place` of each array, whole.
 fn whole(of: &[Array], place: usize) -> Vec<Array> {
     of.iter()
-        .map(|it| Array::whole(&it.node.children[place]))
+        .map(|it| Array::whole(it.node.as_ref().child(place)))
         .collect()
 }
 

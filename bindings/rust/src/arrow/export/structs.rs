@@ -3,7 +3,7 @@
 use alloc::vec::Vec;
 use core::ptr;
 
-use super::{Export, Held, from_bit, start_of};
+use super::{Export, Held, Kept, from_bit, start_of};
 use crate::Bitmap;
 use crate::arrow::ffi::Below;
 use crate::arrow::field::Field;
@@ -72,7 +72,7 @@ impl Export {
         let held = Held {
             buffers: [validity].into(),
             below,
-            kept: (None, valid, None),
+            kept: Kept::Struct(valid),
         };
         Export {
             array: held.array(len, Some(nulls), 0),

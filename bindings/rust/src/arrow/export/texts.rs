@@ -188,7 +188,7 @@ impl Export {
         let ends = Ends::new(true, ends).map_err(|bytes| long(&texts, bytes))?;
         let valid = texts.validity()?.bits().map(Bitmap::from);
         let buffers = [ends.pointer(), bytes[start..].as_ptr().cast()];
-        let (len, node) = (texts.len(), Arc::clone(&texts.node));
+        let (len, node) = (texts.len(), texts.node.clone());
         Ok(Export::column(
             field,
             len,

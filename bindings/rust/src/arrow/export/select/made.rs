@@ -11,10 +11,10 @@ use super::{below, selected, whole};
 use crate::Bits;
 use crate::arrow::array::Array;
 use crate::arrow::error::ArrowError;
-use crate::arrow::export::Held;
+use crate::arrow::export::{Held, Kept};
 use crate::arrow::ffi::{ArrowArray, Below, Owned};
 use crate::arrow::field::Field;
-use crate::arrow::node::{Node, Shared};
+use crate::arrow::node::{NodeRef, Shared};
 use crate::bytes::AlignedBytes;
 
 /// Which rows are null.
@@ -69,9 +69,9 @@ impl Made {
     }
 
     /// Keeps the owners of the buffers that the views of an array name, and of their sizes.
-    pub(super) fn keep(&mut self, node: &Arc<Node>) {
+    pub(super) fn keep(&mut self, node: NodeRef<'_>) {
         let new = || {
-            let nodes = vec![Arc::clone(node.keeper())];
+            let nodes = vec![node.keeper().to_node()];
             Arc::new(Shared {
                 nodes,
                 _sizes: None,
@@ -84,9 +84,9 @@ impl Made {
     pub(super) fn keep_all(&mut self, of: &[Array], sizes: AlignedBytes) {
         let mut nodes = Vec::new();
         for it in of {
-            match it.node.shared() {
+            match it.node.as_ref().shared() {
                 Some(shared) => nodes.extend(shared.nodes.iter().cloned()),
-                None => nodes.push(Arc::clone(it.node.keeper())),
+                None => nodes.push(it.node.as_ref().keeper().to_node()),
             }
         }
         self.owners = Some(Arc::new(Shared {
@@ -162,7 +162,7 @@ impl Made {
         let held = Held {
             buffers,
             below,
-            kept: (None, None, Some((valid, self.buffers, self.owners))),
+            kept: Kept::New((valid, self.buffers, self.owners)),
         };
         held.array(len, Some(number), 0)
     }

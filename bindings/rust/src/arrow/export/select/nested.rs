@@ -13,7 +13,6 @@ use crate::arrow::error::{ArrowError, Fault};
 use crate::arrow::export::shared;
 use crate::arrow::field::Field;
 use crate::arrow::layout::{Kind, Layout};
-use crate::arrow::node::Node;
 use crate::bytes::AlignedBytes;
 
 /// Selects rows of structs: the same rows of each column.
@@ -59,7 +58,7 @@ pub(super) fn list_views(
     rows: Rows<'_>,
     valid: Option<Bits<'_>>,
 ) -> Result<Made, ArrowError> {
-    let of_all = of.iter().map(|it| &it.node.children[0]);
+    let of_all = of.iter().map(|it| it.node.as_ref().child(0));
     if let Some(items) = only(of_all, nodes::items) {
         let numbers = of.iter().map(|it| it.list_view_numbers(width));
         let numbers = numbers.map(|[offsets, sizes]| (offsets, sizes));
@@ -70,7 +69,7 @@ pub(super) fn list_views(
         return Ok(made);
     }
     let used = with_valid_rows(field, of.len(), rows, valid)?;
-    let items = || used.arrays(of).map(|it| &it.node.children[0]);
+    let items = || used.arrays(of).map(|it| it.node.as_ref().child(0));
     let one = only(items(), nodes::items);
     let items = Nodes::of(items(), nodes::items);
     let before = used.each_before(&items);
@@ -120,7 +119,7 @@ fn move_lists(
 
 /// Returns the first item and the number of items of a list view.
 fn list_view(of: &Array, width: usize, row: usize) -> Result<(usize, usize), ArrowError> {
-    let ([offsets, sizes], items) = (of.list_view_numbers(width), of.node.children[0].len);
+    let ([offsets, sizes], items) = (of.list_view_numbers(width), of.node.as_ref().child(0).len);
     let (start, size) = (signed(offsets, row, width), signed(sizes, row, width));
     let end = start.saturating_add(size);
     match (usize::try_from(start), usize::try_from(size)) {
@@ -152,11 +151,14 @@ pub(super) fn coded(
 ) -> Result<Made, ArrowError> {
     let width = field.layout.widest().0;
     let used = with_valid_rows(field, of.len(), rows, valid)?;
-    let dictionaries = || used.arrays(of).filter_map(|it| it.node.dictionary.as_ref());
+    let dictionaries = || {
+        used.arrays(of)
+            .filter_map(|it| it.node.as_ref().dictionary())
+    };
     if let Some(one) = only(dictionaries(), nodes::items) {
         let mut made = Made::of([fixed::own_values(field, width, of, rows)?]);
-        let Node { offset, len, .. } = **one;
-        made.dictionary = Some(shared(one, offset, len));
+        let len = one.len;
+        made.dictionary = Some(shared(one, one.offset, len));
         // If there is no item, no row can name one.
         if len == 0 && rows.has_nulls() && !field.is_nullable() {
             return Err(of_column(field)(of[0].lost(0, 0, 0)));

@@ -2,12 +2,12 @@
 //! moved.
 
 use alloc::collections::BTreeMap;
-use alloc::sync::Arc;
 use alloc::vec::Vec;
 use core::ffi::c_void;
+use core::ptr;
 
 use crate::arrow::array::Array;
-use crate::arrow::node::Node;
+use crate::arrow::node::{NodeRef, Tested};
 
 /// The memory of all items of a node. Nodes of one type that are equal in it have the same items as
 /// long as both live. Exports of one array are such nodes.
@@ -22,35 +22,35 @@ pub(super) struct Memory<'a> {
     /// The memory of the children and of the dictionary.
     below: Vec<Memory<'a>>,
     /// The node that keeps the items, if these take no memory.
-    keeper: Option<*const Node>,
+    keeper: Option<*const Tested>,
 }
 
 /// Returns the memory of all items of a node.
-pub(super) fn items(node: &Arc<Node>) -> Memory<'_> {
-    let below = node.children.iter().chain(&node.dictionary);
-    let is_nowhere = node.buffers.is_empty() && node.children.is_empty();
+pub(super) fn items(node: NodeRef<'_>) -> Memory<'_> {
+    let below = node.children().chain(node.dictionary());
+    let is_nowhere = node.buffers.is_empty() && node.children().len() == 0;
     Memory {
         items: (node.offset, node.len),
         validity: node.validity,
-        buffers: &node.buffers,
+        buffers: &node.get().buffers,
         below: below.map(items).collect(),
-        keeper: is_nowhere.then(|| Arc::as_ptr(node.keeper())),
+        keeper: is_nowhere.then(|| ptr::from_ref(node.keeper().get())),
     }
 }
 
 /// Returns the buffers that the views of a node name, and the buffer of their sizes.
-pub(super) fn viewed(node: &Arc<Node>) -> &[*const c_void] {
-    &node.buffers[2..]
+pub(super) fn viewed(node: NodeRef<'_>) -> &[*const c_void] {
+    &node.get().buffers[2..]
 }
 
 /// Returns the first node if all nodes have the same memory; None if they don't, or if there is no
 /// node. `of` returns the memory of a node. It isn't called for clones of the first node.
 pub(super) fn only<'a, K: PartialEq>(
-    mut nodes: impl Iterator<Item = &'a Arc<Node>>,
-    of: impl Fn(&'a Arc<Node>) -> K,
-) -> Option<&'a Arc<Node>> {
+    mut nodes: impl Iterator<Item = NodeRef<'a>>,
+    of: impl Fn(NodeRef<'a>) -> K,
+) -> Option<NodeRef<'a>> {
     let first = nodes.next()?;
-    let is_same = |it| Arc::ptr_eq(it, first) || of(it) == of(first);
+    let is_same = |it: NodeRef<'a>| it.is(first) || of(it) == of(first);
     nodes.all(is_same).then_some(first)
 }
 
@@ -66,11 +66,11 @@ impl Nodes {
     /// Returns these nodes. `of` returns the memory of a node. Looks up each one among those before
     /// it, in a tree.
     pub(super) fn of<'a, K: Ord>(
-        nodes: impl Iterator<Item = &'a Arc<Node>>,
-        of: impl Fn(&'a Arc<Node>) -> K,
+        nodes: impl Iterator<Item = NodeRef<'a>>,
+        of: impl Fn(NodeRef<'a>) -> K,
     ) -> Nodes {
         let (mut each, mut found) = (Vec::new(), BTreeMap::new());
-        let place = |node: &'a Arc<Node>| {
+        let place = |node: NodeRef<'a>| {
             *found.entry(of(node)).or_insert_with(|| {
                 each.push(Array::whole(node));
                 each.len() - 1

@@ -136,7 +136,7 @@ impl Array {
     fn item_of_union(&self, ids: &Ids, row: usize) -> Result<(u8, usize, usize), ArrowError> {
         let id = self.type_ids()[row];
         let child = ids.child(self, row, id)?;
-        let (offset, items) = (self.union_offset(row), self.node.children[child].len);
+        let (offset, items) = (self.union_offset(row), self.node.as_ref().child(child).len);
         match usize::try_from(offset) {
             Ok(item) if item < items => Ok((id, child, item)),
             _ => Err(self.malformed(Fault::Item { row, offset, items })),

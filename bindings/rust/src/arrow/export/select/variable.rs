@@ -190,7 +190,7 @@ pub(super) fn views(
     valid: Option<Bits<'_>>,
 ) -> Result<Made, ArrowError> {
     let width = size_of::<View>();
-    let nodes = || of.iter().map(|it| &it.node);
+    let nodes = || of.iter().map(|it| it.node.as_ref());
     if let Some(node) = only(nodes(), nodes::viewed) {
         let mut views = fixed::own_values(field, width, of, rows)?;
         let nulls = valid.into_iter().flat_map(Bits::unset_indices);
