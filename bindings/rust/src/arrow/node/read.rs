@@ -175,7 +175,7 @@ fn in_use(
     Ok((buffer(0), buffer(1)))
 }
 
-/// Reads the children and the dictionary of the last array.
+/// Reads the children of an array and its dictionary, without those below them.
 ///
 /// # Safety
 ///
@@ -191,6 +191,7 @@ unsafe fn read_children(
     let (offset, len) = window(array, field.layout)?;
     let items = items_of_child(array, field.layout, offset + len)?;
     let first = all.len();
+    all.reserve(field.children.len());
     for (place, of) in field.children.iter().enumerate() {
         // SAFETY: the caller promises it.
         let child = unsafe { nth_child(array, place, of, origin, items) };
