@@ -49,6 +49,7 @@ mod ffi;
 mod field;
 mod layout;
 mod node;
+mod pointers;
 mod primitive;
 mod ranges;
 mod schema;

@@ -3,13 +3,12 @@
 mod dictionary;
 mod format;
 mod growing;
+mod held;
 mod select;
 mod structs;
 mod texts;
 
-use alloc::boxed::Box;
 use alloc::sync::Arc;
-use alloc::vec::Vec;
 use core::any::Any;
 use core::ffi::c_void;
 use core::fmt;
@@ -21,13 +20,14 @@ use super::error::ArrowError;
 use super::ffi::{ArrowArray, ArrowSchema, Below, Owned};
 use super::field::Field;
 use super::layout::Layout;
-use super::node::{Node, NodeRef, Origin, unknown};
+use super::node::{Node, NodeRef, unknown};
 use super::primitive::Primitive;
 use crate::Bitmap;
 use crate::error::expect;
 
 pub use growing::TextsMut;
-use select::Owners;
+pub(super) use held::origin;
+use held::{Held, Kept};
 
 /// The words for an array and for a field in an error.
 const OF_ARRAY: Between = Between {
@@ -137,7 +137,7 @@ impl Export {
             .as_ref()
             .map_or(ptr::null(), |valid| start_of(valid.bits()));
         let held = Held {
-            buffers: [&[validity], values].concat(),
+            buffers: [validity].iter().chain(values).copied().collect(),
             below: Below::new([]),
             kept: Kept::Column(kept, valid),
         };
@@ -351,26 +351,6 @@ impl Array {
     }
 }
 
-/// Returns what an array shares with others.
-///
-/// # Safety
-///
-/// [`Held::array`] made the array, and it isn't released.
-pub(super) unsafe fn origin(array: &ArrowArray) -> Origin {
-    // SAFETY: the caller promises it.
-    match unsafe { &(*array.private_data.cast::<Held>()).kept } {
-        Kept::Node(node) => Origin {
-            node: Some(node.clone()),
-            shared: None,
-        },
-        Kept::New((.., shared)) => Origin {
-            node: None,
-            shared: shared.clone(),
-        },
-        Kept::Column(..) | Kept::Struct(_) => Origin::default(),
-    }
-}
-
 /// Returns `len` items of a node from `start` on, with its whole children and dictionary.
 fn shared(node: NodeRef<'_>, start: usize, len: usize) -> Owned<ArrowArray> {
     let whole = |node: NodeRef<'_>| shared(node, node.offset, node.len);
@@ -408,61 +388,6 @@ fn from_bit(bits: Bitmap, place: usize) -> Bitmap {
     let len = place + bits.len();
     let copy = Bitmap::make(len, |mut out| out.slice(place..).copy_from(bits.bits()));
     copy.slice(place..)
-}
-
-/// The memory of an array, until it is released.
-struct Held {
-    buffers: Vec<*const c_void>,
-    below: Below<ArrowArray>,
-    kept: Kept,
-}
-
-/// The owners of the buffers of an array.
-#[allow(dead_code, reason = "their drops free the buffers")]
-enum Kept {
-    /// The owner of the values, and the validity.
-    Column(Arc<dyn Any + Send + Sync>, Option<Bitmap>),
-    /// The validity.
-    Struct(Option<Bitmap>),
-    /// The owners of new rows.
-    New(Owners),
-    /// The array whose buffers they are.
-    Node(Node),
-}
-
-impl Held {
-    /// Returns the array. `nulls` is None if the number of nulls isn't known, which the struct says
-    /// as -1.
-    fn array(self, len: usize, nulls: Option<usize>, offset: usize) -> Owned<ArrowArray> {
-        let mut held = Box::new(self);
-        let mut array = ArrowArray {
-            length: number(len),
-            null_count: nulls.map_or(-1, number),
-            offset: number(offset),
-            n_buffers: number(held.buffers.len()),
-            n_children: number(held.below.children.len()),
-            buffers: held.buffers.as_mut_ptr(),
-            children: held.below.children.as_mut_ptr(),
-            dictionary: held.below.dictionary,
-            release: Some(release),
-            private_data: ptr::null_mut(),
-        };
-        array.private_data = Box::into_raw(held).cast();
-        // SAFETY: the array is as the interface requires. Its bits and values stay where they are
-        // as long as `kept` lives, which may be dropped on any thread. No one else has the array.
-        unsafe { Owned::take(&raw mut array) }
-    }
-}
-
-/// # Safety
-///
-/// [`Held::array`] made the array, and it isn't released.
-unsafe extern "C" fn release(array: *mut ArrowArray) {
-    // SAFETY: the caller promises it.
-    unsafe {
-        drop(Box::from_raw((*array).private_data.cast::<Held>()));
-        array.write(ArrowArray::empty());
-    }
 }
 
 /// Converts a number of items or bits in memory.

@@ -5,13 +5,13 @@ mod read;
 use alloc::boxed::Box;
 use alloc::sync::Arc;
 use alloc::vec::Vec;
-use core::ffi::c_void;
 use core::ops::Deref;
 use core::sync::atomic::AtomicBool;
 
 use super::error::ArrowError;
 use super::ffi::{ArrowArray, Owned};
 use super::field::Field;
+use super::pointers::Pointers;
 use crate::bytes::AlignedBytes;
 
 /// An array of a tree of arrays. It keeps the whole tree.
@@ -53,7 +53,7 @@ pub(super) struct Tested {
     /// tested once.
     pub ascends: AtomicBool,
     /// All buffers, as the producer passed them.
-    pub buffers: Vec<*const c_void>,
+    pub buffers: Pointers,
     /// What its array shares.
     origin: Origin,
     /// The outermost array, in its own node. It is released with the tree.

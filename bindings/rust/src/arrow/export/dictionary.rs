@@ -1,6 +1,7 @@
 //! Exports values as indices of a dictionary.
 
-use super::{Export, Held};
+use super::Export;
+use super::held::Held;
 use crate::arrow::error::{ArrowError, Fault};
 use crate::arrow::layout;
 

@@ -3,7 +3,8 @@
 use alloc::vec::Vec;
 use core::ptr;
 
-use super::{Export, Held, Kept, from_bit, start_of};
+use super::held::{Held, Kept};
+use super::{Export, from_bit, start_of};
 use crate::Bitmap;
 use crate::arrow::ffi::Below;
 use crate::arrow::field::Field;
@@ -70,7 +71,7 @@ impl Export {
         let valid = valid.filter(|_| nulls > 0).map(|it| from_bit(it, 0));
         let validity = valid.as_ref().map_or(ptr::null(), |it| start_of(it.bits()));
         let held = Held {
-            buffers: [validity].into(),
+            buffers: [validity].into_iter().collect(),
             below,
             kept: Kept::Struct(valid),
         };

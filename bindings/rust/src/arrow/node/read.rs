@@ -12,6 +12,7 @@ use crate::arrow::error::{ArrowError, Fault};
 use crate::arrow::ffi::ArrowArray;
 use crate::arrow::field::{Field, child, count};
 use crate::arrow::layout::Layout;
+use crate::arrow::pointers::Pointers;
 
 impl Tested {
     /// Reads the numbers and the buffers of an array, without those below it.
@@ -142,20 +143,18 @@ const MOST_BUFFERS: i64 = i32::MAX as i64 + 4;
 /// # Safety
 ///
 /// As for [`Node::borrowed`].
-unsafe fn buffers(array: &ArrowArray, layout: Layout) -> Result<Vec<*const c_void>, Fault> {
+unsafe fn buffers(array: &ArrowArray, layout: Layout) -> Result<Pointers, Fault> {
     let too_many = Fault::OutOfRange("n_buffers", array.n_buffers);
     let least = layout.buffers().unwrap_or(array.n_buffers.max(3));
     let number = count("n_buffers", array.n_buffers, Some(least))?;
     if number > 0 && array.buffers.is_null() {
         return Err(Fault::Null("buffers"));
     }
-    let mut buffers = Vec::new();
-    if least > MOST_BUFFERS || buffers.try_reserve_exact(number).is_err() {
+    if least > MOST_BUFFERS {
         return Err(too_many);
     }
     // SAFETY: there are `number` pointers.
-    buffers.extend((0..number).map(|place| unsafe { *array.buffers.add(place) }));
-    Ok(buffers)
+    Pointers::try_from_fn(number, |place| unsafe { *array.buffers.add(place) }).ok_or(too_many)
 }
 
 /// Returns the buffers of the validity and of the values; null if the layout has none.

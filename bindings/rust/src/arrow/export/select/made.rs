@@ -11,7 +11,7 @@ use super::{below, selected, whole};
 use crate::Bits;
 use crate::arrow::array::Array;
 use crate::arrow::error::ArrowError;
-use crate::arrow::export::{Held, Kept};
+use crate::arrow::export::held::{Held, Kept};
 use crate::arrow::ffi::{ArrowArray, Below, Owned};
 use crate::arrow::field::Field;
 use crate::arrow::node::{NodeRef, Shared};
@@ -143,18 +143,17 @@ impl Made {
 
     /// Returns an array of `len` rows.
     pub(super) fn array(self, len: usize, nulls: Nulls) -> Owned<ArrowArray> {
-        let mut buffers = Vec::with_capacity(1 + MOST + self.shared.len());
-        let (number, valid) = match nulls {
-            Nulls::Unmarked(number) => (number, None),
-            Nulls::Marked(valid) => {
-                let (valid, number) = valid.map_or((None, 0), |(it, number)| (Some(it), number));
-                buffers.push(valid.as_ref().map_or(ptr::null(), |it| it.as_ptr().cast()));
-                (number, valid)
+        let (number, valid, validity) = match nulls {
+            Nulls::Unmarked(number) => (number, None, None),
+            Nulls::Marked(None) => (0, None, Some(ptr::null())),
+            Nulls::Marked(Some((valid, number))) => {
+                let validity = valid.as_ptr().cast::<c_void>();
+                (number, Some(valid), Some(validity))
             }
         };
         let own = self.buffers.iter().flatten();
-        buffers.extend(own.map(|it| it.address().cast::<c_void>()));
-        buffers.extend(self.shared);
+        let own = own.map(|it| it.address().cast::<c_void>());
+        let buffers = validity.into_iter().chain(own).chain(self.shared).collect();
         let mut below = Below::new(self.below);
         if let Some(dictionary) = self.dictionary {
             below.set_dictionary(dictionary);

@@ -1,0 +1,70 @@
+//! Pointers to the buffers of an array.
+
+use alloc::vec::Vec;
+use core::ffi::c_void;
+use core::ops::{Deref, DerefMut};
+use core::ptr;
+
+/// The number of pointers that need no allocation: those of each array but one of views.
+const FEW: usize = 3;
+
+/// Pointers to buffers.
+#[derive(Clone)]
+pub(super) enum Pointers {
+    /// The first `len` of them.
+    Few([*const c_void; FEW], usize),
+    Many(Vec<*const c_void>),
+}
+
+impl Pointers {
+    /// Returns `len` pointers; None if memory runs out.
+    pub(super) fn try_from_fn(
+        len: usize,
+        pointer: impl FnMut(usize) -> *const c_void,
+    ) -> Option<Pointers> {
+        let pointers = (0..len).map(pointer);
+        if len <= FEW {
+            return Some(pointers.collect());
+        }
+        let mut all = Vec::new();
+        all.try_reserve_exact(len).ok()?;
+        all.extend(pointers);
+        Some(Pointers::Many(all))
+    }
+}
+
+impl FromIterator<*const c_void> for Pointers {
+    fn from_iter<I: IntoIterator<Item = *const c_void>>(pointers: I) -> Pointers {
+        let (mut few, mut len) = ([ptr::null(); FEW], 0);
+        let mut pointers = pointers.into_iter();
+        while let Some(next) = pointers.next() {
+            if len == FEW {
+                return Pointers::Many(few.into_iter().chain([next]).chain(pointers).collect());
+            }
+            few[len] = next;
+            len += 1;
+        }
+        Pointers::Few(few, len)
+    }
+}
+
+impl Deref for Pointers {
+    type Target = [*const c_void];
+
+    #[inline]
+    fn deref(&self) -> &[*const c_void] {
+        match self {
+            Pointers::Few(few, len) => &few[..*len],
+            Pointers::Many(all) => all,
+        }
+    }
+}
+
+impl DerefMut for Pointers {
+    fn deref_mut(&mut self) -> &mut [*const c_void] {
+        match self {
+            Pointers::Few(few, len) => &mut few[..*len],
+            Pointers::Many(all) => all,
+        }
+    }
+}
