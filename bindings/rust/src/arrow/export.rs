@@ -9,6 +9,7 @@ mod structs;
 mod texts;
 
 use alloc::sync::Arc;
+use alloc::vec::Vec;
 use core::any::Any;
 use core::ffi::c_void;
 use core::fmt;
@@ -138,7 +139,7 @@ impl Export {
             .map_or(ptr::null(), |valid| start_of(valid.bits()));
         let held = Held {
             buffers: [validity].iter().chain(values).copied().collect(),
-            below: Below::new([]),
+            below: Below::new(Vec::new()),
             kept: Kept::Column(kept, valid),
         };
         Export {
@@ -354,7 +355,7 @@ impl Array {
 /// Returns `len` items of a node from `start` on, with its whole children and dictionary.
 fn shared(node: NodeRef<'_>, start: usize, len: usize) -> Owned<ArrowArray> {
     let whole = |node: NodeRef<'_>| shared(node, node.offset, node.len);
-    let mut below = Below::new(node.children().map(whole));
+    let mut below = Below::new(node.children().map(whole).collect());
     if let Some(dictionary) = node.dictionary() {
         below.set_dictionary(whole(dictionary));
     }

@@ -219,12 +219,11 @@ pub(super) struct Below<S: Raw> {
 }
 
 impl<S: Raw> Below<S> {
-    pub(super) fn new(children: impl IntoIterator<Item = Owned<S>>) -> Below<S> {
-        let mut owned: Vec<Owned<S>> = children.into_iter().collect();
+    pub(super) fn new(mut children: Vec<Owned<S>>) -> Below<S> {
         Below {
-            children: owned.iter_mut().map(Owned::as_mut_ptr).collect(),
+            children: children.iter_mut().map(Owned::as_mut_ptr).collect(),
             dictionary: ptr::null_mut(),
-            _owned: owned,
+            _owned: children,
         }
     }
 

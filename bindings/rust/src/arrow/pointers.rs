@@ -31,20 +31,37 @@ impl Pointers {
         all.extend(pointers);
         Some(Pointers::Many(all))
     }
+
+    #[inline]
+    pub(super) fn push(&mut self, next: *const c_void) {
+        match self {
+            Pointers::Few(few, len) if *len < FEW => {
+                few[*len] = next;
+                *len += 1;
+            }
+            Pointers::Few(few, _) => {
+                *self = Pointers::Many(few.iter().copied().chain([next]).collect());
+            }
+            Pointers::Many(all) => all.push(next),
+        }
+    }
+}
+
+impl Default for Pointers {
+    #[inline]
+    fn default() -> Pointers {
+        Pointers::Few([ptr::null(); FEW], 0)
+    }
 }
 
 impl FromIterator<*const c_void> for Pointers {
+    #[inline]
     fn from_iter<I: IntoIterator<Item = *const c_void>>(pointers: I) -> Pointers {
-        let (mut few, mut len) = ([ptr::null(); FEW], 0);
-        let mut pointers = pointers.into_iter();
-        while let Some(next) = pointers.next() {
-            if len == FEW {
-                return Pointers::Many(few.into_iter().chain([next]).chain(pointers).collect());
-            }
-            few[len] = next;
-            len += 1;
+        let mut all = Pointers::default();
+        for next in pointers {
+            all.push(next);
         }
-        Pointers::Few(few, len)
+        all
     }
 }
 

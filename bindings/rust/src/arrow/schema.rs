@@ -23,7 +23,7 @@ impl Field {
             format: c_string(&self.format),
             name: c_string(&self.name),
             metadata: self.metadata.clone(),
-            below: Below::new(self.fields().map(Field::schema)),
+            below: Below::new(self.fields().map(Field::schema).collect()),
         });
         if let Some(dictionary) = self.dictionary() {
             held.below.set_dictionary(dictionary.schema());

@@ -15,6 +15,7 @@ use crate::arrow::export::held::{Held, Kept};
 use crate::arrow::ffi::{ArrowArray, Below, Owned};
 use crate::arrow::field::Field;
 use crate::arrow::node::{NodeRef, Shared};
+use crate::arrow::pointers::Pointers;
 use crate::bytes::AlignedBytes;
 
 /// Which rows are null.
@@ -143,17 +144,21 @@ impl Made {
 
     /// Returns an array of `len` rows.
     pub(super) fn array(self, len: usize, nulls: Nulls) -> Owned<ArrowArray> {
-        let (number, valid, validity) = match nulls {
-            Nulls::Unmarked(number) => (number, None, None),
-            Nulls::Marked(None) => (0, None, Some(ptr::null())),
-            Nulls::Marked(Some((valid, number))) => {
-                let validity = valid.as_ptr().cast::<c_void>();
-                (number, Some(valid), Some(validity))
+        let mut buffers = Pointers::default();
+        let (number, valid) = match nulls {
+            Nulls::Unmarked(number) => (number, None),
+            Nulls::Marked(valid) => {
+                let (valid, number) = valid.map_or((None, 0), |(it, number)| (Some(it), number));
+                buffers.push(valid.as_ref().map_or(ptr::null(), |it| it.as_ptr().cast()));
+                (number, valid)
             }
         };
-        let own = self.buffers.iter().flatten();
-        let own = own.map(|it| it.address().cast::<c_void>());
-        let buffers = validity.into_iter().chain(own).chain(self.shared).collect();
+        for own in self.buffers.iter().flatten() {
+            buffers.push(own.address().cast());
+        }
+        for shared in self.shared {
+            buffers.push(shared);
+        }
         let mut below = Below::new(self.below);
         if let Some(dictionary) = self.dictionary {
             below.set_dictionary(dictionary);
