@@ -23,8 +23,9 @@ fn and_are_or_null(rows: &mut Bitmap, column: &Array, test: impl Fn(&Texts) -> B
     let texts = items.as_ref().unwrap_or(column).texts()?;
     let mut others = !test(&texts) & texts.validity();
     if items.is_some() {
-        let valid = &*rows & column.validity()?;
-        others = values::is_in(column.values::<i32>()?, &others, valid);
+        let mut named = &*rows & column.validity()?;
+        values::and_is_in(column.values::<i32>()?, &others, named.bits_mut());
+        others = named;
     }
     rows.bits_mut().and_not(others.bits());
     Ok(())

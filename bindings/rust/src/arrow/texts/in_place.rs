@@ -125,6 +125,6 @@ impl Texts<'_> {
     fn and_test(&self, mut mask: BitsMut<'_>, test: &impl Test) {
         alike(mask.len(), self.len());
         let own = |mask: &Written<'_>, start, len| only_word(mask.as_bits().part(start, len));
-        self.write(&mut mask.written(), GROUP, own, test);
+        self.write::<GROUP>(&mut mask.written(), own, test);
     }
 }

@@ -8,7 +8,7 @@ use super::test::{Contains, EndsWith, Equals, LessThan, StartsWith, Test};
 use super::wanted::Wanted;
 use super::{Rows, Texts, viewed};
 use crate::Bitmap;
-use crate::arrow::ranges::{Ranges, Spans, each_set};
+use crate::arrow::ranges::{Spans, each_set};
 use crate::portable::{low, only_word};
 use crate::prefetch;
 use crate::written::Written;
@@ -121,10 +121,14 @@ impl Texts<'_> {
 
     /// Returns a bitmap of the valid rows that pass the test.
     #[inline]
-    fn test(&self, test: &impl Test) -> Bitmap {
+    fn test<T: Test>(&self, test: &T) -> Bitmap {
         Bitmap::make(self.len(), |mut out| {
-            let group = if test.len().is_some() { GROUP } else { 64 };
-            self.write(&mut out.written(), group, |_, _, len| low(len), test);
+            let (out, all) = (&mut out.written(), |_: &Written<'_>, _, len| low(len));
+            if T::IS_RARE {
+                self.write::<GROUP>(out, all, test);
+            } else {
+                self.write::<1>(out, all, test);
+            }
         })
     }
 
@@ -132,74 +136,79 @@ impl Texts<'_> {
     /// window, the index of a first row and a number of rows up to 64, and returns the bits of the
     /// selected ones.
     ///
-    /// Of each group of up to `group` rows it asks for the first bytes of the candidates, if they
-    /// are few, before it tests these.
+    /// If few rows of a block may pass, it asks for the first bytes of each, and tests them after
+    /// all blocks of a group of `BLOCKS` blocks, unless that is 1.
     #[inline]
-    pub(super) fn write(
+    pub(super) fn write<const BLOCKS: usize>(
         &self,
         out: &mut Written<'_>,
-        group: usize,
         selected: impl Fn(&Written<'_>, usize, usize) -> u64,
         test: &impl Test,
     ) {
         let (valid, mut spans) = (self.valid.bits(), None);
-        for start in (0..self.len()).step_by(group) {
-            let (all, mut wanted) = (start..self.len().min(start + group), [0; GROUP / 64]);
-            for (wanted, block) in wanted.iter_mut().zip(blocks(&all)) {
+        for start in (0..self.len()).step_by(64 * BLOCKS) {
+            let group = start..self.len().min(start + 64 * BLOCKS);
+            let mut words = [Tested::default(); BLOCKS];
+            for (word, block) in words.iter_mut().zip(blocks(&group)) {
                 let (start, len) = (block.start, block.len());
                 let valid = valid.map_or(u64::MAX, |valid| only_word(valid.part(start, len)));
                 let rows = selected(out, start, len) & valid;
-                *wanted = self.candidates(block, rows, test, &mut spans);
+                *word = self.tested(block, rows, test, group.len() > 64, &mut spans);
             }
-            for (wanted, block) in wanted.into_iter().zip(blocks(&all)) {
-                let passed = self.passed(block.clone(), wanted, test, &mut spans);
-                out.write(block.start, block.len(), passed & wanted);
+            for (word, block) in words.into_iter().zip(blocks(&group)) {
+                let passed = word.passed | self.each(block.start, word.left, test);
+                out.write(block.start, block.len(), passed);
             }
         }
     }
 
-    /// Returns which of `rows` may pass the test by their length. If these are few, it asks for the
-    /// first bytes of each.
+    /// Tests the rows of a block whose bit of `rows` is set. It leaves a few candidates if `leaves`
+    /// is true.
     #[inline]
-    fn candidates<T: Test>(
+    fn tested<T: Test>(
         &self,
-        block: Range<usize>,
-        mut rows: u64,
-        test: &T,
-        spans: &mut Option<Spans>,
-    ) -> u64 {
-        let Rows::Joined(ranges, bytes) = &self.rows else {
-            return rows;
-        };
-        let start = block.start;
-        if let (Some(len), true) = (test.len(), rows.count_ones() >= T::MANY) {
-            let block = Block::new(*ranges, block, bytes, spans.get_or_insert_default());
-            rows &= block.map_or(u64::MAX, |block| block.lens_that(|it| it == len));
-        }
-        if rows.count_ones() < T::MANY {
-            each_set(rows, |row| {
-                let range = ranges.get(start + row).unwrap_or_default();
-                prefetch::line(bytes.as_ptr().wrapping_add(range.start));
-                true
-            });
-        }
-        rows
-    }
-
-    /// Returns which rows of a block pass the test, among those whose bit of `wanted` is set. Other
-    /// bits are arbitrary.
-    #[inline]
-    fn passed<T: Test>(
-        &self,
-        block: Range<usize>,
+        rows: Range<usize>,
         wanted: u64,
         test: &T,
+        leaves: bool,
         spans: &mut Option<Spans>,
-    ) -> u64 {
-        let start = block.start;
+    ) -> Tested {
+        let (start, mut wanted) = (rows.start, wanted);
+        if let (Rows::Joined(ranges, bytes), true) = (&self.rows, wanted.count_ones() >= T::MANY) {
+            if let Some(block) = Block::new(*ranges, rows, bytes, spans.get_or_insert_default()) {
+                wanted = test.candidates(block, wanted);
+                if !leaves || wanted.count_ones() >= T::MANY {
+                    let passed = test.of_candidates(block, wanted) & wanted;
+                    return Tested { passed, left: 0 };
+                }
+            }
+        }
         match &self.rows {
-            _ if wanted == 0 => 0,
-            Rows::Joined(ranges, bytes) => joined(*ranges, bytes, block, wanted, test, spans),
+            Rows::Joined(ranges, bytes) if leaves => {
+                each_set(wanted, |row| {
+                    let range = ranges.get(start + row).unwrap_or_default();
+                    prefetch::line(bytes.as_ptr().wrapping_add(range.start));
+                    true
+                });
+                let (passed, left) = (0, wanted);
+                Tested { passed, left }
+            }
+            _ => {
+                let (passed, left) = (self.each(start, wanted, test), 0);
+                Tested { passed, left }
+            }
+        }
+    }
+
+    /// Returns which of 64 rows from `start` on pass the test, among those whose bit of `wanted` is
+    /// set.
+    #[inline]
+    fn each(&self, start: usize, wanted: u64, test: &impl Test) -> u64 {
+        match &self.rows {
+            Rows::Joined(ranges, bytes) => each_set(wanted, |row| {
+                let range = ranges.get(start + row);
+                range.is_some_and(|range| test.of_row(Row::new(bytes, &range)))
+            }),
             Rows::Views(views, buffers) => each_set(wanted, |row| {
                 let row = viewed(&views[start + row], buffers);
                 row.is_some_and(|row| test.of_row(Row::whole(row)))
@@ -208,8 +217,15 @@ impl Texts<'_> {
     }
 }
 
-/// The greatest number of rows of a group. Their first bytes fit in the smallest cache.
-pub(super) const GROUP: usize = 512;
+/// The rows of a block that passed a test, and those that are still to be tested.
+#[derive(Clone, Copy, Default)]
+struct Tested {
+    passed: u64,
+    left: u64,
+}
+
+/// The number of blocks of a group. The first bytes of their rows fit in the smallest cache.
+pub(super) const GROUP: usize = 8;
 
 /// Returns the blocks of up to 64 rows that a group has.
 #[inline]
@@ -217,27 +233,4 @@ fn blocks(group: &Range<usize>) -> impl Iterator<Item = Range<usize>> {
     let end = group.end;
     let starts = group.clone().step_by(64);
     starts.map(move |start| start..end.min(start + 64))
-}
-
-/// Returns which rows of a range pass the test, among those whose bit of `wanted` is set. Other
-/// bits are arbitrary.
-#[inline]
-fn joined<T: Test>(
-    ranges: Ranges<'_>,
-    bytes: &[u8],
-    rows: Range<usize>,
-    wanted: u64,
-    test: &T,
-    spans: &mut Option<Spans>,
-) -> u64 {
-    let start = rows.start;
-    if wanted.count_ones() >= T::MANY {
-        if let Some(block) = Block::new(ranges, rows, bytes, spans.get_or_insert_default()) {
-            return test.of_block(block, wanted);
-        }
-    }
-    each_set(wanted, |row| {
-        let range = ranges.get(start + row);
-        range.is_some_and(|range| test.of_row(Row::new(bytes, &range)))
-    })
 }

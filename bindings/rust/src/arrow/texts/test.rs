@@ -8,22 +8,24 @@ use crate::portable::{first_eight, low};
 
 /// A test of rows.
 pub(super) trait Test {
-    /// From this number of rows of 64 on, [`of_block`](Test::of_block) is faster than a test of
-    /// each.
+    /// From this number of rows of 64 on, it is faster to test a block than each row.
     const MANY: u32;
 
-    /// Returns the number of bytes of each row that passes; None if such rows may differ in it.
-    #[inline]
-    fn len(&self) -> Option<u32> {
-        None
-    }
+    /// Whether most rows are no [`candidates`](Test::candidates).
+    const IS_RARE: bool = false;
 
     /// Tests a row.
     fn of_row(&self, row: Row<'_>) -> bool;
 
-    /// Returns which rows of a block pass the test, among those whose bit of `rows` is set. Other
-    /// bits are arbitrary.
-    fn of_block(&self, block: Block<'_>, rows: u64) -> u64;
+    /// Returns which of `rows` may pass the test, if that takes much less time than the test.
+    #[inline]
+    fn candidates(&self, _: Block<'_>, rows: u64) -> u64 {
+        rows
+    }
+
+    /// Returns which rows of a block pass the test, among those whose bit of `rows` is set and that
+    /// [`candidates`](Test::candidates) returned. Other bits are arbitrary.
+    fn of_candidates(&self, block: Block<'_>, rows: u64) -> u64;
 }
 
 /// Some bytes, and the first eight of them as a number.
@@ -76,33 +78,33 @@ impl<'a> Equals<'a> {
 
 impl Test for Equals<'_> {
     const MANY: u32 = 16;
-
-    #[inline]
-    fn len(&self) -> Option<u32> {
-        Some(self.0.len)
-    }
+    const IS_RARE: bool = true;
 
     #[inline]
     fn of_row(&self, row: Row<'_>) -> bool {
         row.len() == self.0.bytes.len() && row.bytes() == Some(self.0.bytes)
     }
 
-    fn of_block(&self, block: Block<'_>, rows: u64) -> u64 {
+    #[inline]
+    fn candidates(&self, block: Block<'_>, rows: u64) -> u64 {
+        rows & block.lens_that(|len| len == self.0.len)
+    }
+
+    fn of_candidates(&self, block: Block<'_>, rows: u64) -> u64 {
         let text = &self.0;
-        let fit = rows & block.lens_that(|len| len == text.len);
         match text.bytes.len() {
-            0..=8 => each_set(fit, |row| text.begins(block.eight(row, 0))),
+            0..=8 => each_set(rows, |row| text.begins(block.eight(row, 0))),
             // The first eight bytes and the last eight are the whole text. It compares both without
             // a branch.
             9..=16 => {
                 let behind = text.bytes.len() - 8;
                 let last = first_eight(&text.bytes[behind..]);
-                each_set(fit, |row| {
+                each_set(rows, |row| {
                     let other = block.eight(row, 0) ^ text.first;
                     other | block.eight(row, behind) ^ last == 0
                 })
             }
-            _ => each_set(fit, |row| {
+            _ => each_set(rows, |row| {
                 text.begins(block.eight(row, 0)) && block.row(row).bytes() == Some(text.bytes)
             }),
         }
@@ -126,7 +128,7 @@ impl Test for LessThan<'_> {
         row.bytes().is_some_and(|row| row < self.0)
     }
 
-    fn of_block(&self, block: Block<'_>, rows: u64) -> u64 {
+    fn of_candidates(&self, block: Block<'_>, rows: u64) -> u64 {
         each_set(rows, |row| self.of_row(block.row(row)))
     }
 }
@@ -153,7 +155,7 @@ impl Test for StartsWith<'_> {
                 .is_some_and(|row| start.bytes.len() <= 8 || row.starts_with(start.bytes))
     }
 
-    fn of_block(&self, block: Block<'_>, rows: u64) -> u64 {
+    fn of_candidates(&self, block: Block<'_>, rows: u64) -> u64 {
         let start = &self.0;
         let fit = rows & block.lens_that(|len| len >= start.len);
         let begin = block.starts_that(fit, |eight| start.begins(eight));
@@ -184,7 +186,7 @@ impl Test for EndsWith<'_> {
         row.len() >= end.len() && row.bytes().is_some_and(|row| row.ends_with(end))
     }
 
-    fn of_block(&self, block: Block<'_>, rows: u64) -> u64 {
+    fn of_candidates(&self, block: Block<'_>, rows: u64) -> u64 {
         let end = &self.0;
         let fit = rows & block.lens_that(|len| len >= end.len);
         let found = block.ends_that(end.len, fit, |eight| end.begins(eight));
@@ -209,7 +211,7 @@ impl Test for Contains<'_> {
     }
 
     /// It searches the bytes of consecutive rows in one pass.
-    fn of_block(&self, block: Block<'_>, rows: u64) -> u64 {
+    fn of_candidates(&self, block: Block<'_>, rows: u64) -> u64 {
         /// Rows of up to this number of bytes are searched even if their bits aren't needed: that
         /// is faster than to begin again behind them.
         const SHORT: u32 = 16;

@@ -111,7 +111,7 @@ impl<T: AsRef<[u8]>> Test for Wanted<T> {
         self.may_have(key) && row.bytes().is_some_and(|row| self.finds(key, row))
     }
 
-    fn of_block(&self, block: Block<'_>, rows: u64) -> u64 {
+    fn of_candidates(&self, block: Block<'_>, rows: u64) -> u64 {
         let (shortest, longer) = (self.shortest, self.longer);
         let fit = rows & block.lens_that(|len| len.wrapping_sub(shortest) <= longer);
         let key = |row| key(block.row(row).first_eight());
