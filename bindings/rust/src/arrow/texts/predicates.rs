@@ -148,7 +148,7 @@ impl Texts<'_> {
         let (valid, mut spans) = (self.valid.bits(), None);
         for start in (0..self.len()).step_by(64 * BLOCKS) {
             let group = start..self.len().min(start + 64 * BLOCKS);
-            let mut words = [Tested::default(); BLOCKS];
+            let mut words = [Found::default(); BLOCKS];
             for (word, block) in words.iter_mut().zip(blocks(&group)) {
                 let (start, len) = (block.start, block.len());
                 let valid = valid.map_or(u64::MAX, |valid| only_word(valid.part(start, len)));
@@ -172,14 +172,14 @@ impl Texts<'_> {
         test: &T,
         leaves: bool,
         spans: &mut Option<Spans>,
-    ) -> Tested {
+    ) -> Found {
         let (start, mut wanted) = (rows.start, wanted);
         if let (Rows::Joined(ranges, bytes), true) = (&self.rows, wanted.count_ones() >= T::MANY) {
             if let Some(block) = Block::new(*ranges, rows, bytes, spans.get_or_insert_default()) {
                 wanted = test.candidates(block, wanted);
                 if !leaves || wanted.count_ones() >= T::MANY {
                     let passed = test.of_candidates(block, wanted) & wanted;
-                    return Tested { passed, left: 0 };
+                    return Found { passed, left: 0 };
                 }
             }
         }
@@ -191,11 +191,11 @@ impl Texts<'_> {
                     true
                 });
                 let (passed, left) = (0, wanted);
-                Tested { passed, left }
+                Found { passed, left }
             }
             _ => {
                 let (passed, left) = (self.each(start, wanted, test), 0);
-                Tested { passed, left }
+                Found { passed, left }
             }
         }
     }
@@ -219,7 +219,7 @@ impl Texts<'_> {
 
 /// The rows of a block that passed a test, and those that are still to be tested.
 #[derive(Clone, Copy, Default)]
-struct Tested {
+struct Found {
     passed: u64,
     left: u64,
 }
