@@ -7,8 +7,8 @@ from pathlib import Path
 from documents.files import Repository
 
 SOURCES, README = "bindings/rust/src", "bindings/rust/README.md"
-# Files without calls for users, or whose calls tests cover: the kernels, the parts of iterators,
-# the levels, and Arrow's structs.
+# Files without calls for users, or whose calls tests cover: the kernels, what asks for memory
+# ahead, the parts of iterators, the levels, and Arrow's structs.
 WITHIN = re.compile(r"(kernels|portable|prefetch|iter|arrow|level|native)(/|\.rs$)")
 COMMENT = re.compile(r"^\s*//[/!] ?(.*)$")
 PUBLIC = re.compile(r"^\s*pub (?:const |unsafe )*fn (\w+)", re.MULTILINE)

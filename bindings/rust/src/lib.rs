@@ -64,8 +64,8 @@
 //!   ranks, `BitmapsByCode`, `TopK`, and the calls that return a `Bitmap` or a `Vec`. The target
 //!   needs atomic numbers of its pointers' size, which count the owners of shared bytes.
 //! - `arrow` (enables `alloc`): reads arrays and streams of Arrow's C interfaces in place, and
-//!   exports them. Only this part, the calls of proved functions, and in builds with one of these
-//!   the hints to the processor's cache use `unsafe`.
+//!   exports them. Only this part and the calls of proved functions use `unsafe`. A build that has
+//!   one of them also uses it to ask the processor for memory ahead.
 //! - `levels`: adds `Level::make_current`, for measurements and tests.
 #![no_std]
 #![cfg_attr(docsrs, feature(doc_cfg))]

@@ -1,8 +1,9 @@
 //! Asks the processor to load memory before a call reads it. No result depends on that.
 //!
-//! A processor begins to load memory ahead of its use, but not further ahead than the next few
-//! hundred instructions. A loop with many instructions per cache line waits for each line that is
-//! in no cache, unless it asks for it earlier.
+//! A processor begins the loads of the next few hundred instructions before their turn, and often
+//! those of the next lines of a page that is read in order. A loop with many instructions per cache
+//! line still waits for lines on a page that it just reached, and for lines in no order, unless it
+//! asks for them earlier.
 
 /// The number of bytes that a loop asks for ahead of those that it reads.
 const AHEAD: usize = 2048;

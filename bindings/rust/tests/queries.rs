@@ -274,6 +274,31 @@ fn members_of_a_set_are_those_of_a_loop() {
     assert!(panics(and).is_some() && kept.all());
 }
 
+/// Blocks of 64 rows of which all, few or none are selected, one after the other.
+#[test]
+fn members_are_found_where_the_share_of_selected_rows_changes() {
+    let mut random = Random(11);
+    let set: Bitmap = (0..4000).map(|_| random.below(3) == 0).collect();
+    for len in [1000, 1024, 1025, 2113] {
+        let shares = [1, 30, usize::MAX, 1, 4, 1];
+        let mask: Bitmap = (0..len)
+            .map(|row| random.below(shares[row / 64 % shares.len()]) == 0)
+            .collect();
+        let column: Vec<u16> = (0..len)
+            .map(|_| u16::try_from(random.below(4100)).unwrap())
+            .collect();
+        let is_in = |row: &u16| set.get(usize::from(*row)) == Some(true);
+        let all = column.iter().map(is_in);
+        let wanted: Bitmap = all.zip(&mask).map(|(is_in, bit)| is_in && bit).collect();
+        let wide: Vec<i64> = column.iter().map(|it| i64::from(*it)).collect();
+        assert_eq!(values::is_in(&column, &set, &mask), wanted);
+        assert_eq!(values::is_in(&wide, &set, &mask), wanted);
+        let mut rows = mask.clone();
+        values::and_is_in(&wide, &set, rows.bits_mut());
+        assert_eq!(rows, wanted, "{len} rows");
+    }
+}
+
 /// Returns the first `k` selected rows in the order of `total_cmp`, without NaN.
 fn ordered(column: &[f64], rows: &Rows<'_>, k: usize, is_greatest: bool) -> Vec<usize> {
     let is_there = |row: &usize| rows.is_selected(*row) && !column[*row].is_nan();

@@ -16,8 +16,8 @@ use crate::bytes::AlignedBytes;
 
 /// An array of a tree of arrays. It keeps the whole tree.
 ///
-/// All arrays of a tree are in one allocation: a query reads few numbers of each column of a batch,
-/// and waits for the memory of each.
+/// All arrays of a tree are in one allocation. A query reads few numbers of each column of a batch.
+/// If each column had an allocation, it would first wait for a list of their addresses.
 #[derive(Clone)]
 pub(super) struct Node {
     tree: Arc<[Tested]>,
@@ -56,7 +56,8 @@ pub(super) struct Tested {
     pub buffers: Pointers,
     /// What its array shares.
     origin: Origin,
-    /// The outermost array, in its own node. It is released with the tree.
+    /// The outermost array, which is released with the tree. Only the first array of a tree has it,
+    /// unless the tree is borrowed.
     #[allow(dead_code, reason = "its drop releases the array")]
     owner: Option<Box<Owned<ArrowArray>>>,
 }
@@ -85,7 +86,7 @@ pub(super) fn unknown(_: &ArrowArray) -> Origin {
     Origin::default()
 }
 
-// SAFETY: the pointers lead to buffers of the tree's owner, which may be released on any thread.
+// SAFETY: the pointers lead to buffers of the outermost array, which may be released on any thread.
 unsafe impl Send for Tested {}
 
 // SAFETY: nothing writes to the buffers before they are released.

@@ -5,7 +5,7 @@ use core::ffi::c_void;
 use core::ops::{Deref, DerefMut};
 use core::ptr;
 
-/// The number of pointers that need no allocation: those of each array but one of views.
+/// The number of pointers that need no allocation. Only arrays of views have more.
 const FEW: usize = 3;
 
 /// Pointers to buffers.

@@ -13,16 +13,26 @@ struct Rows {
 }
 
 impl Rows {
-    /// Random pieces of a text. Most begin where it begins, and some have one byte changed.
+    /// Random pieces of a text. Most begin where it begins, and some have one byte changed. Of many
+    /// rows each block has its own share of nulls, and of rows of one length.
     fn random(maker: &mut Maker, text: &[u8]) -> Rows {
-        let number = maker.one_of(&[0, 1, 7, 17, 63, 64, 65, 66, 127, 130, 200]);
-        let (nulls, one) = (maker.one_of(&[2, 10, 1000]), maker.below(3) == 0);
+        let few = [0, 1, 7, 17, 63, 64, 65, 66, 127, 130, 200];
+        let many = [511, 512, 513, 576, 577, 1025];
+        let number = if maker.below(6) > 0 {
+            maker.one_of(&few)
+        } else {
+            maker.one_of(&many)
+        };
+        let (mut nulls, mut one) = (maker.one_of(&[2, 10, 1000]), maker.below(3) == 0);
         let len = some_len(maker);
         let mut rows = Rows {
             rows: Vec::new(),
             valid: Vec::new(),
         };
-        for _ in 0..number {
+        for row in 0..number {
+            if row % 64 == 0 && number > 200 {
+                (nulls, one) = (maker.one_of(&[1, 2, 10, 1000]), maker.below(2) == 0);
+            }
             let len = if one { len } else { some_len(maker) };
             let from = maker.one_of(&[0, 0, 0, 1, 5]);
             let mut row = text[from..from + len].to_vec();
@@ -109,8 +119,14 @@ fn compare(
     in_place: impl Fn(BitsMut<'_>),
 ) -> usize {
     assert_eq!(plain, wanted);
-    let (few, offset, len) = (maker.one_of(&[1, 2, 4, 30]), maker.below(10), wanted.len());
-    let mask: Bitmap = (0..len).map(|_| maker.below(few) == 0).collect();
+    let (mut few, offset, len) = (maker.one_of(&[1, 2, 4, 30]), maker.below(10), wanted.len());
+    let is_selected = |row: usize| {
+        if row % 64 == 0 && len > 200 {
+            few = maker.one_of(&[1, 2, 4, 30, 1000]);
+        }
+        maker.below(few) == 0
+    };
+    let mask: Bitmap = (0..len).map(is_selected).collect();
     let mut got = vec![0xA5; (offset + len).div_ceil(8) + 1];
     let mut both = got.clone();
     BitsMut::new(&mut got, offset, len).copy_from(mask.bits());

@@ -306,6 +306,45 @@ fn children_that_are_null_or_released_are_named() {
     }
 }
 
+/// A batch of structs `a` and `b`, each with a column `x` that has a dictionary.
+fn tree(spoil: impl Fn(&str, &mut Array)) -> String {
+    let none = Count::default();
+    let spoiled = |place: &str, mut it: Array| {
+        spoil(place, &mut it);
+        it
+    };
+    let rows =
+        |place: &str, columns| spoiled(place, Array::of(4, vec![None], columns, None, &none));
+    let part = |name: &str| {
+        let items = Array::values(2, None, &[0; 16], &none);
+        let items = spoiled(&format!("{name}.x.dictionary"), items);
+        let buffers = vec![None, Some(Buffer::new(&[0; 32], 0))];
+        let x = Array::of(4, buffers, vec![], Some(items), &none);
+        rows(name, vec![spoiled(&format!("{name}.x"), x)])
+    };
+    let of_x = || Schema::of("x", "c", vec![], Some(Schema::new("", "l", &none)), &none);
+    let of = |name| Schema::of(name, "+s", vec![of_x()], None, &none);
+    let batch = rows("", vec![part("a"), part("b")]);
+    let schema = Schema::of("", "+s", vec![of("a"), of("b")], None, &none);
+    import(batch, schema).map_or_else(|error| error.to_string(), |_| String::new())
+}
+
+#[test]
+fn arrays_at_each_level_are_named() {
+    assert_eq!(tree(|_, _| ()), "");
+    for (place, column) in [
+        ("a", "a"),
+        ("b", "b"),
+        ("a.x", "a.x"),
+        ("b.x", "b.x"),
+        ("a.x.dictionary", "a.x.dictionary"),
+        ("b.x.dictionary", "b.x.dictionary"),
+    ] {
+        let said = tree(|at, it| it.offset = if at == place { -1 } else { 0 });
+        assert_eq!(said, format!("column \"{column}\": offset is -1"));
+    }
+}
+
 #[test]
 fn dictionaries_are_those_of_the_type() {
     let none = Count::default();

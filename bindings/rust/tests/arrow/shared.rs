@@ -224,3 +224,23 @@ fn shared_list_views_out_of_bounds_stay_as_they_are() {
         assert_eq!(error, "column \"list\": row 0 lies from 5 to 14");
     }
 }
+
+/// Both columns are in the tree of one batch, and only one of them has these items.
+#[test]
+fn columns_of_a_batch_share_no_dictionary() {
+    let column = |name: &str, items: [&str; 2]| {
+        let codes = Export::values(vec![1u8, 0], None);
+        let items = Export::texts(items, None);
+        codes.with_dictionary(items).unwrap().named(name)
+    };
+    let batch = Export::batch([column("a", ["x", "y"]), column("b", ["p", "q"])]).into_array();
+    let columns = ["a", "b", "a"].map(|name| batch.column(name).unwrap());
+    let joined = Export::concat(columns[0].field(), &columns).unwrap();
+    let texts = joined.into_array().dictionary_texts().unwrap().into_array();
+    let texts = texts.texts().unwrap();
+    assert!(
+        texts
+            .iter()
+            .eq(["y", "x", "q", "p", "y", "x"].map(|it| Some(it.as_bytes())))
+    );
+}

@@ -19,7 +19,7 @@ impl Tested {
     ///
     /// # Safety
     ///
-    /// As for [`Node::borrowed`].
+    /// As for `Node::borrowed`.
     unsafe fn read(
         array: &ArrowArray,
         field: &Arc<Field>,
@@ -63,7 +63,7 @@ impl Tested {
 ///
 /// # Safety
 ///
-/// As for [`Node::borrowed`].
+/// As for `Node::borrowed`.
 pub(super) unsafe fn all(
     array: &ArrowArray,
     field: &Arc<Field>,
@@ -81,7 +81,7 @@ pub(super) unsafe fn all(
 ///
 /// # Safety
 ///
-/// As for [`Node::borrowed`]. `array` is the array at the index.
+/// As for `Node::borrowed`. `array` is the array at the index.
 unsafe fn read_below(
     all: &mut Vec<Tested>,
     place: usize,
@@ -93,7 +93,7 @@ unsafe fn read_below(
     // SAFETY: the caller promises it.
     unsafe { read_children(all, &field, array, origin)? };
     for place in 0..field.children.len() {
-        // SAFETY: the caller promises it.
+        // SAFETY: the caller promises it. The children were read in their order, from `first` on.
         let below = unsafe {
             let below = child(array.children, place)?.as_ref();
             read_below(all, first + place, below, origin)
@@ -102,7 +102,7 @@ unsafe fn read_below(
     }
     if let Some(items) = NonNull::new(array.dictionary) {
         let place = first + field.children.len();
-        // SAFETY: the caller promises it.
+        // SAFETY: the caller promises it. The dictionary was read after the children.
         let below = unsafe { read_below(all, place, items.as_ref(), origin) };
         below.map_err(|error| error.under("dictionary"))?;
     }
@@ -142,7 +142,7 @@ const MOST_BUFFERS: i64 = i32::MAX as i64 + 4;
 ///
 /// # Safety
 ///
-/// As for [`Node::borrowed`].
+/// As for `Node::borrowed`.
 unsafe fn buffers(array: &ArrowArray, layout: Layout) -> Result<Pointers, Fault> {
     let too_many = Fault::OutOfRange("n_buffers", array.n_buffers);
     let least = layout.buffers().unwrap_or(array.n_buffers.max(3));
@@ -178,7 +178,7 @@ fn in_use(
 ///
 /// # Safety
 ///
-/// As for [`Node::borrowed`].
+/// As for `Node::borrowed`.
 unsafe fn read_children(
     all: &mut Vec<Tested>,
     field: &Field,
@@ -252,7 +252,7 @@ unsafe fn runs(children: &[Tested], wanted: usize) -> Result<(), Fault> {
 ///
 /// # Safety
 ///
-/// As for [`Node::borrowed`], and there are more than `place` children.
+/// As for `Node::borrowed`, and there are more than `place` children.
 unsafe fn nth_child(
     array: &ArrowArray,
     place: usize,
@@ -273,7 +273,7 @@ unsafe fn nth_child(
 ///
 /// # Safety
 ///
-/// As for [`Node::borrowed`].
+/// As for `Node::borrowed`.
 unsafe fn dictionary(
     array: &ArrowArray,
     field: &Field,

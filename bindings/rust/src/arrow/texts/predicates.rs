@@ -136,8 +136,9 @@ impl Texts<'_> {
     /// window, the index of a first row and a number of rows up to 64, and returns the bits of the
     /// selected ones.
     ///
-    /// If few rows of a block may pass, it asks for the first bytes of each, and tests them after
-    /// all blocks of a group of `BLOCKS` blocks, unless that is 1.
+    /// If few rows of a block between offsets may pass, it asks for the first bytes of each, and
+    /// tests them after all blocks of a group. A group has up to `BLOCKS` blocks. In a group of one
+    /// block it tests each row at once.
     #[inline]
     pub(super) fn write<const BLOCKS: usize>(
         &self,
@@ -162,8 +163,8 @@ impl Texts<'_> {
         }
     }
 
-    /// Tests the rows of a block whose bit of `rows` is set. It leaves a few candidates if `leaves`
-    /// is true.
+    /// Tests the rows of a block whose bit of `wanted` is set. If `leaves` is true, it leaves
+    /// candidates for later: those of rows between offsets, unless there are many.
     #[inline]
     fn tested<T: Test>(
         &self,
@@ -224,7 +225,7 @@ struct Found {
     left: u64,
 }
 
-/// The number of blocks of a group. The first bytes of their rows fit in the smallest cache.
+/// The number of blocks of a group. Many more would have more lines than the smallest cache.
 pub(super) const GROUP: usize = 8;
 
 /// Returns the blocks of up to 64 rows that a group has.

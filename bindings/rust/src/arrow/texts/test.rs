@@ -11,7 +11,7 @@ pub(super) trait Test {
     /// From this number of rows of 64 on, it is faster to test a block than each row.
     const MANY: u32;
 
-    /// Whether most rows are no [`candidates`](Test::candidates).
+    /// Whether the code expects that most rows are no [`candidates`](Test::candidates).
     const IS_RARE: bool = false;
 
     /// Tests a row.
