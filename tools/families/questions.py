@@ -197,8 +197,8 @@ OF_PAIRS = [
                 "Returns whether no index below `len` has a set bit in both windows: `left` from "
                 "bit `l` on, and `right` from bit `r` on (true for no bits). Reads up to the first "
                 "word that has such an index.",
-                "Returns whether no bit is set both here and in `right`. Reads up to the first bit "
-                "that is.",
+                "Returns whether no bit is set both here and in `right`. Stops after the first word "
+                "that has one.",
                 "intersects",
                 "assert!(left.slice(..2).is_disjoint(right.slice(..2)) && "
                 "!left.is_disjoint(right));",
@@ -212,8 +212,8 @@ OF_PAIRS = [
                 "Returns whether each index below `len` that has a set bit in `left` from bit `l` "
                 "on also has one in `right` from bit `r` on (true for no bits). Reads up to the "
                 "first word that has a bit set in `left` alone.",
-                "Returns whether each bit set here is set in `right`. Reads up to the first bit "
-                "that isn't.",
+                "Returns whether each bit set here is set in `right`. Stops after the first word "
+                "with one that isn't.",
                 "contains",
                 "assert!(left.is_subset(right) && !right.is_subset(left));",
                 "assert!(left.is_subset(&right) && !right.is_subset(&left));",

@@ -87,7 +87,7 @@ impl<B: AsRef<[u8]>> Bitmap<B> {
     ///
     /// # Panics
     ///
-    /// Panics if `B` returns fewer bytes than it did before.
+    /// Panics if `B` now returns too few bytes for the window. So do all calls that read the bits.
     #[inline]
     #[must_use]
     #[track_caller]
@@ -233,7 +233,7 @@ impl Bitmap {
     ///
     /// # Panics
     ///
-    /// Panics if an index isn't below `len`.
+    /// Panics if an index is negative, or isn't below `len`.
     #[doc(alias("scatter"))]
     #[must_use]
     #[track_caller]
@@ -252,7 +252,7 @@ impl Bitmap {
     ///
     /// # Errors
     ///
-    /// Returns [`BadIndex`] with the first index that isn't below `len`.
+    /// Returns [`BadIndex`] with the first index that is negative, or isn't below `len`.
     pub fn try_from_indices<I: BitIndex>(len: usize, indices: &[I]) -> Result<Bitmap, BadIndex> {
         Bitmap::try_make(len, |mut out| {
             let refused = portable::set_all(&mut out.written(), indices);

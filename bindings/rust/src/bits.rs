@@ -434,7 +434,7 @@ impl<'a> Bits<'a> {
     ///
     /// # Panics
     ///
-    /// If there isn't one bool per bit.
+    /// Panics if there isn't one bool per bit.
     #[doc(alias("unpack"))]
     #[inline]
     #[track_caller]
@@ -447,7 +447,7 @@ impl<'a> Bits<'a> {
     ///
     /// # Panics
     ///
-    /// If there isn't one byte per bit.
+    /// Panics if there isn't one byte per bit.
     #[doc(alias("unpack", "unpackbits"))]
     #[inline]
     #[track_caller]
@@ -477,7 +477,7 @@ impl<'a> Bits<'a> {
     ///
     /// # Panics
     ///
-    /// If the window has more than 2^32 bits; `out` is unchanged.
+    /// Panics if the window has more than 2^32 bits; `out` is then unchanged.
     ///
     /// ```
     /// use vortex_bits::Bits;

@@ -116,7 +116,8 @@ impl<'a> BitsMut<'a> {
         Bits::new(self.bytes, self.offset, self.len)
     }
 
-    /// Returns the bytes of the constructor, including those outside of the window.
+    /// Returns the bytes of the constructor, including those outside of the window. A part that
+    /// `split_at_mut` returns has only the bytes with a bit of it.
     ///
     /// ```
     /// use vortex_bits::BitsMut;

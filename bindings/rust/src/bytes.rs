@@ -39,7 +39,7 @@ impl AlignedBytes {
     ///
     /// # Panics
     ///
-    /// Panics if they exceed the memory that a [`Vec`] can have, as do the calls below.
+    /// Panics if a [`Vec`] can't have these bytes and 63 more, as do the calls below.
     #[must_use]
     pub fn with_capacity(bytes: usize) -> AlignedBytes {
         if bytes == 0 {
@@ -322,8 +322,8 @@ impl<T> From<Vec<T>> for SharedVec<T> {
     }
 }
 
-/// Bytes in which a [`Bitmap`](crate::Bitmap) grows and can be edited: [`AlignedBytes`] in place,
-/// and [`SharedBytes`] in place if they have no other owner, otherwise in a copy.
+/// Bytes in which a [`Bitmap`](crate::Bitmap) grows and can be edited: [`AlignedBytes`], and
+/// [`SharedBytes`], of which it makes a copy first if they have another owner.
 #[diagnostic::on_unimplemented(
     message = "the bits of a `Bitmap<{Self}>` are read, and don't grow",
     label = "bits in `{Self}`",

@@ -78,7 +78,8 @@ impl Bits<'_> {
     }
 
     // Written by tools/write-lists from tools/families/questions.txt.
-    /// Returns whether no bit is set both here and in `right`. Reads up to the first bit that is.
+    /// Returns whether no bit is set both here and in `right`. Stops after the first word that has
+    /// one.
     ///
     /// ```
     /// use vortex_bits::Bits;
@@ -97,7 +98,8 @@ impl Bits<'_> {
         }
     }
 
-    /// Returns whether each bit set here is set in `right`. Reads up to the first bit that isn't.
+    /// Returns whether each bit set here is set in `right`. Stops after the first word with one
+    /// that isn't.
     ///
     /// ```
     /// use vortex_bits::Bits;

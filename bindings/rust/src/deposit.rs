@@ -68,7 +68,7 @@ impl Bits<'_> {
     ///
     /// # Panics
     ///
-    /// If there isn't one item per bit, or a value per set bit; `out` is unchanged.
+    /// Panics if there isn't one item per bit, or a value per set bit; `out` is then unchanged.
     #[doc(alias("expand", "masked_scatter", "put"))]
     #[track_caller]
     pub fn scatter_into<T: Value>(self, values: &[T], out: &mut [T]) -> usize {

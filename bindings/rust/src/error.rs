@@ -180,14 +180,14 @@ pub enum GroupError {
     Values {
         /// The number of values.
         values: usize,
-        /// The number of rows: of codes.
+        /// The number of rows, which is that of the codes.
         rows: usize,
     },
     /// The mask doesn't have one bit per row.
     Mask {
         /// The number of bits in the mask.
         bits: usize,
-        /// The number of rows: of codes.
+        /// The number of rows, which is that of the codes.
         rows: usize,
     },
     /// The code of this row is negative, or isn't below the number of groups. It is the first such
@@ -197,7 +197,7 @@ pub enum GroupError {
         row: usize,
         /// Its code; `i128::MAX` if it is above that.
         code: i128,
-        /// The number of groups: of counts, sums or bitmaps.
+        /// The number of groups, which is that of counts, sums, minima, maxima or bitmaps.
         groups: usize,
     },
 }
@@ -216,7 +216,8 @@ impl fmt::Display for GroupError {
 
 impl Error for GroupError {}
 
-/// The error of the first index that isn't below the number of bits of a new bitmap.
+/// The error of the first index that is negative, or isn't below the number of bits of a new
+/// bitmap.
 #[derive(Clone, Copy, Debug, PartialEq, Eq, Hash)]
 #[non_exhaustive]
 pub struct BadIndex {

@@ -117,7 +117,8 @@ pub fn retain<T: Value>(values: &mut [T], mask: impl Mask) -> usize {
 ///
 /// # Panics
 ///
-/// Panics if `mask` isn't as long as the values. `kept` is then unchanged.
+/// Panics if `mask` isn't as long as the values, and if a `Vec` can't have so many values. `kept`
+/// is then unchanged.
 #[doc(alias("compress", "concat"))]
 #[cfg(feature = "alloc")]
 #[track_caller]

@@ -5,11 +5,12 @@ use crate::group::{no_group, one_each};
 use crate::{BitIndex, Compare, Mask, portable};
 
 /// Updates the minimum of each group with the values that `mask` selects and whose code is the
-/// index of the group. The minimum of a group without values is None. If the mask is None, all rows
-/// are selected. Rows that it doesn't select may have any number as their code and their value.
+/// index of the group. None stands for a group without a value so far; a group without selected
+/// values keeps its minimum. If the mask is None, all rows are selected. Rows that it doesn't
+/// select may have any number as their code and their value.
 ///
-/// Values compare as Rust's operators say. It skips NaN, even if it is the given minimum. Among
-/// equal values, such as 0.0 and -0.0, it keeps the first one.
+/// Values compare as Rust's operators say. A NaN is skipped; a given NaN stays until a number
+/// replaces it. Among equal values, such as 0.0 and -0.0, the first one stays.
 ///
 /// ```
 /// use vortex_bits::{Bits, values};

@@ -6,7 +6,8 @@ use core::sync::atomic::{AtomicU8, Ordering};
 #[cfg(vortex_bits_native)]
 use crate::native::{Kernels, V2, V3};
 
-/// The code that calls run. Results don't depend on it.
+/// The code that runs in a call. Results don't depend on it, except for those that a call says are
+/// arbitrary or meaningless.
 #[derive(Clone, Copy, Debug, PartialEq, Eq, PartialOrd, Ord, Hash)]
 #[non_exhaustive]
 pub enum Level {
@@ -83,14 +84,16 @@ macro_rules! has {
 impl Level {
     /// Returns the level that calls use. It is the highest level whose code is linked and that the
     /// processor has, unless `make_current` set another. The build links the archives of both
-    /// levels or none: if one is missing, the level is [`Level::Portable`].
+    /// levels or none: if one is missing, the level is [`Level::Portable`]. Without the feature
+    /// `std` the compiler's target counts as the processor.
     #[inline]
     #[must_use]
     pub fn current() -> Level {
         FIXED.unwrap_or_else(chosen)
     }
 
-    /// Returns whether the code of the level is linked, and the processor has the level.
+    /// Returns whether the code of the level is linked, and the processor has the level. Without
+    /// the feature `std` the compiler's target counts as the processor.
     #[must_use]
     pub fn is_available(self) -> bool {
         match self {

@@ -20,22 +20,23 @@
 //!
 //! Bit `i` of some bytes is bit `i % 8` of byte `i / 8`. A window is the `len` bits starting at bit
 //! `offset`. [`Bits`] reads one, [`BitsMut`] writes one, and a [`Validity`] has one or none. No
-//! result depends on a bit outside of the windows, and no call changes one. Lengths, offsets and
-//! indices are in bits.
+//! result depends on a bit outside of the windows, and only a bitmap that grows changes one.
+//! Lengths, offsets and indices are in bits.
 //!
 //! The constructor of a window tests that it is in bounds of its bytes. Later calls panic, with a
-//! message, only for conditions that the constructor can't test, such as equal lengths of two
-//! windows, or an index in bounds. A call that returns or grows a `Bitmap` (bits with their bytes),
-//! a `BitmapsByCode`, a `TopK`, `AlignedBytes`, `SharedBytes` or a `Vec`, writes a bitmap with
-//! shared bytes, or returns a `Ranked` may allocate memory, and aborts if it runs out.
+//! message, only if a condition fails that the constructor can't test: two windows must have equal
+//! lengths, for example, and an index must be in bounds. A call that returns or grows a `Bitmap`
+//! (bits with their bytes), a `BitmapsByCode`, a `TopK`, `AlignedBytes`, `SharedBytes`, `SharedVec`
+//! or a `Vec`, writes a bitmap with shared bytes, or returns a `Ranked` may allocate memory. If it
+//! runs out, the program aborts, or panics without `std`.
 //!
 //! # What is proved
 //!
-//! On x86-64 Linux, calls over more than 64 bits run C functions. They are proved in Rattle to meet
-//! their definitions at every offset and length, at the level x86-64-v2 or x86-64-v3, depending on
-//! the processor. Comparisons, packing, unpacking, takes of bits and ranks run them at any length;
-//! takes of values, and counts and sums by group, run them for more than 16 items. The rest is Rust
-//! of this crate, which isn't proved, but tested against loops over single bits:
+//! On x86-64 Linux, most calls over more than 64 bits run C functions. They are proved in Rattle to
+//! meet their definitions at every offset and length, at the level x86-64-v2 or x86-64-v3,
+//! depending on the processor. Comparisons, packing, unpacking, takes of bits and ranks run them at
+//! any length; takes of values, and counts and sums by group, run them for more than 16 items. The
+//! rest is Rust of this crate, which isn't proved, but tested against loops over single bits:
 //!
 //! - single bits, other windows of at most 64, values at up to 16 indices, and the types of
 //!   values and indices that plain Rust processes: see [`Value`], [`Compare`], [`Summand`] and
@@ -46,7 +47,8 @@
 //!   and the first `k` values of an order;
 //! - iterators over unset bits and from the end, the building and growth of bitmaps, [`Validity`],
 //!   and `arrow`;
-//! - everything on other targets, under Miri, and if the archives of those functions are missing at
+//! - everything at [`Level::Portable`]: on other targets, on processors (without `std`: compiler
+//!   targets) below x86-64-v2, under Miri, and if the archives of those functions are missing at
 //!   build time.
 //!
 //! [`Level::current`] returns the level of the code that runs.
@@ -66,7 +68,7 @@
 //! - `arrow` (enables `alloc`): reads arrays and streams of Arrow's C interfaces in place, and
 //!   exports them. Only this part and the calls of proved functions use `unsafe`. A build that has
 //!   one of them also uses it to ask the processor for memory ahead.
-//! - `levels`: adds `Level::make_current`, for measurements and tests.
+//! - `levels`: adds `Level::make_current` and `Level::available`, for measurements and tests.
 #![no_std]
 #![cfg_attr(docsrs, feature(doc_cfg))]
 #![cfg_attr(not(any(vortex_bits_native, feature = "arrow")), forbid(unsafe_code))]

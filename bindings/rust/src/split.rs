@@ -10,8 +10,9 @@ impl BitsMut<'_> {
     ///
     /// `mid` must be a border between two bytes, where `(offset + mid) % 8` is 0, or one of the
     /// ends, 0 and [`len`](BitsMut::len). The first border at or after index `p` is
-    /// `p + (offset + p).wrapping_neg() % 8`. [`bytes_mut`](BitsMut::bytes_mut) of a part returns
-    /// only the bytes that have a bit of the part, and its [`offset`](BitsMut::offset) is below 8.
+    /// `p + (offset + p).wrapping_neg() % 8`, or `len` if that is less. A part has only the bytes
+    /// with a bit of it: [`bytes_mut`](BitsMut::bytes_mut) returns these, and its
+    /// [`offset`](BitsMut::offset) is below 8.
     ///
     /// ```
     /// use std::thread;

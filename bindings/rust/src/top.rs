@@ -10,8 +10,8 @@ use crate::{Compare, Mask, portable};
 /// NaN.
 ///
 /// A batch allocates only if it has one of the first `k` values. The `TopK` holds at most about
-/// twice `k` values, and 128 more. After the first sort, a value that doesn't come before the last
-/// of the first `k` is only compared with it. The values are sorted whenever there are `k` more, or
+/// twice `k` values, and 128 more. Once `k` values are sorted, a value that doesn't come before the
+/// last of them is only compared with it. The values are sorted whenever there are `k` more, or
 /// 64 more if `k` is smaller. At the end of a batch, up to 16 new ones are inserted; if there are
 /// more, all are sorted. So a batch with one of the first `k` values takes time in proportion to
 /// `k` too, however few rows it has.
@@ -94,13 +94,13 @@ impl<T: Compare> TopK<T> {
         self.rows = end;
     }
 
-    /// Returns the values with their rows, the best first.
+    /// Returns the values with their rows, in the order: the greatest first, or the least.
     #[must_use]
     pub fn rows(&self) -> &[(T, usize)] {
         &self.best
     }
 
-    /// Returns the values with their rows, the best first.
+    /// Returns the values with their rows, in the order: the greatest first, or the least.
     #[must_use]
     pub fn into_rows(self) -> Vec<(T, usize)> {
         self.best
@@ -108,8 +108,8 @@ impl<T: Compare> TopK<T> {
 }
 
 /// Returns the indices of the `k` greatest values that `mask` selects, the greatest first; of all
-/// values if it is None. There are fewer if fewer are selected. Among equal values it returns the
-/// first ones, and it never returns a NaN. [`TopK`] finds those of several batches.
+/// values if it is None. There are fewer if fewer numbers are selected. Among equal values it
+/// returns the first ones, and it never returns a NaN. [`TopK`] finds those of several batches.
 ///
 /// ```
 /// use vortex_bits::{Bits, values};

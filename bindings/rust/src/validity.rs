@@ -13,9 +13,10 @@ use crate::error::TakeError;
 use crate::{BitIndex, Bitmap, Grow};
 
 /// Which rows are valid: one bit per row, or no bits if all rows are valid. Arrow leaves out the
-/// validity of a column without nulls in the same way. Calls that return a new validity return None
-/// if there were no bits. Bits that are present may still be all true; only `==` tests that.
-/// Two validities are equal if they have the same valid rows, with bits or without.
+/// validity of a column without nulls in the same way. Calls that return an `Option<Bitmap>` return
+/// None if all resulting rows are valid because bits are missing. Bits that are present may still
+/// be all true; only `==` tests that. Two validities are equal if they have the same valid rows,
+/// with bits or without.
 ///
 /// Operators always return a `Bitmap`, as `is null` and `is not null` need: `!`
 /// returns which rows are null, `Bitmap::from` which are valid, and `&`, `|` and `^` accept a
@@ -214,8 +215,8 @@ impl From<Validity<'_>> for Bitmap {
     }
 }
 
-/// Calls that allocate. They return None if all rows are valid because the validity has no bits.
-/// None of them tests whether bits that are present are all true.
+/// Calls that allocate. Those with an `Option` return None if all resulting rows are valid because
+/// bits are missing. None of them tests whether bits that are present are all true.
 #[cfg(feature = "alloc")]
 impl Validity<'_> {
     /// Returns which rows are valid here and in `right`. To combine truth values that may be null,

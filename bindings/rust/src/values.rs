@@ -1,11 +1,12 @@
-//! Functions over slices of values. `take_into` writes values at indices to a slice, and `take` to
-//! a new `Vec`. `filter` selects values by a mask, and `retain` in place. `masked_sum`,
+//! Functions over slices of values. `take_into` writes values at indices to a slice, and `take`
+//! to a new `Vec`. `filter` selects values by a mask, and `retain` in place. `masked_sum`,
 //! `masked_min` and `masked_max` return the sum, the minimum and the maximum of the selected
-//! values; `masked_float_sum` and its like do so for floats. `group_counts`, `group_sums`,
-//! `group_min` and `group_max` aggregate rows by their codes, and `bitmaps_by_code` returns the
-//! rows of each code. `top_k` and `bottom_k` return the first rows of an order. `compare` compares
-//! values, into bits, and `is_in` looks them up in a set; `and_compare` and `and_is_in` do so into
-//! a mask. `and_kleene` and `or_kleene` combine truth values that may be null.
+//! values; `masked_float_sum`, `masked_float_min` and `masked_float_max` do so for floats.
+//! `group_counts`, `group_sums`, `group_min` and `group_max` aggregate rows by their codes, and
+//! `bitmaps_by_code` returns the rows of each code. `top_k` and `bottom_k` return the first
+//! rows of an order. `compare` compares values, into bits, and `is_in` looks them up in a set;
+//! `and_compare` and `and_is_in` unset the bits of a mask instead. `and_kleene` and `or_kleene`
+//! combine truth values that may be null.
 //!
 //! Each take has a form with a validity for the indices, and a `try_` form that returns an error
 //! instead of a panic.

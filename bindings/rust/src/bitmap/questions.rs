@@ -5,7 +5,8 @@ use super::Bitmap;
 use crate::Mask;
 
 impl<B: AsRef<[u8]>> Bitmap<B> {
-    /// Returns whether no bit is set both here and in `right`. Reads up to the first bit that is.
+    /// Returns whether no bit is set both here and in `right`. Stops after the first word that has
+    /// one.
     ///
     /// ```
     /// use vortex_bits::Bitmap;
@@ -25,7 +26,8 @@ impl<B: AsRef<[u8]>> Bitmap<B> {
         self.bits().is_disjoint(right)
     }
 
-    /// Returns whether each bit set here is set in `right`. Reads up to the first bit that isn't.
+    /// Returns whether each bit set here is set in `right`. Stops after the first word with one
+    /// that isn't.
     ///
     /// ```
     /// use vortex_bits::Bitmap;

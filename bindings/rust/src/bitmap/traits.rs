@@ -98,6 +98,10 @@ impl<'a> FromIterator<Bits<'a>> for Bitmap {
 }
 
 /// Joins a bit per row for each validity in turn: whether the row is valid.
+///
+/// # Panics
+///
+/// Panics if the number of rows isn't a `usize`.
 impl<'a> FromIterator<Validity<'a>> for Bitmap {
     fn from_iter<I: IntoIterator<Item = Validity<'a>>>(validities: I) -> Bitmap {
         let mut joined = Bitmap::growing(0);

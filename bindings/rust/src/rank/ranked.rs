@@ -38,7 +38,7 @@ impl<B: AsRef<[u8]>> Ranked<B> {
     ///
     /// # Panics
     ///
-    /// Panics as [`Bitmap::bits`] does, and so do all calls below.
+    /// Panics as [`Bitmap::bits`] does. So do all calls below that read bits.
     #[inline]
     #[must_use]
     #[track_caller]
