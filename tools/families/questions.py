@@ -197,8 +197,8 @@ OF_PAIRS = [
                 "Returns whether no index below `len` has a set bit in both windows: `left` from "
                 "bit `l` on, and `right` from bit `r` on (true for no bits). Reads up to the first "
                 "word that has such an index.",
-                "Returns whether no bit is set both here and in `right`. Stops after the first word "
-                "that has one.",
+                "Returns whether no bit is set both here and in `right`. Stops after the first "
+                "word that has one.",
                 "intersects",
                 "assert!(left.slice(..2).is_disjoint(right.slice(..2)) && "
                 "!left.is_disjoint(right));",
