@@ -4,8 +4,8 @@
 //! [`Stream`] reads the batches of another part of the program. The columns of an [`Array`] return
 //! slices of values, [`Bits`](crate::Bits) and a [`Validity`](crate::Validity). [`Export`] passes a
 //! [`Bitmap`](crate::Bitmap) and values to any consumer. Neither direction copies a value, except
-//! that exports copy texts. [`Array::filter`], [`Array::take`] and [`Export::concat`] copy rows of
-//! every type.
+//! that [`Export::texts`] and the like copy texts. [`Array::filter`], [`Array::take`] and
+//! [`Export::concat`] copy rows of every type.
 //!
 //! ```
 //! use vortex_bits::arrow::{Export, ExportStream, Field, Stream};
@@ -34,10 +34,10 @@
 //!
 //! The structs come from outside, so their numbers are tested: lengths, offsets, numbers of nulls,
 //! buffers and children, which buffers are present, formats, and that each child has enough items
-//! for its parent. With `unsafe` the caller promises the rest: each pointer leads to as much memory
-//! as the numbers say. A batch may have columns of fixed-size lists, list views, unions and
-//! run-end-encoded rows. No accessor returns their rows, but filter, take and concat copy them.
-//! [`Export::from`](Export) exports an [`Array`] of any type unchanged.
+//! for its parent, except those of list views. With `unsafe` the caller promises the rest: each
+//! pointer leads to as much memory as the numbers say. A batch may have columns of fixed-size
+//! lists, list views, unions and run-end-encoded rows. No accessor returns their rows, but filter,
+//! take and concat copy them. [`Export::from`](Export) exports an [`Array`] of any type unchanged.
 //!
 //! [Arrow C data interface]: https://arrow.apache.org/docs/format/CDataInterface.html
 

@@ -21,8 +21,8 @@ use crate::bits::within;
 use crate::error::{OutOfBounds, TakeValuesError, expect};
 use crate::{Bits, Validity};
 
-/// Rows of an array of the Arrow C data interface. The `Array` owns the producer's structs, and
-/// reads the values, bits and validity in place. Clones, columns and slices share the array.
+/// Rows of an array of the Arrow C data interface. The `Array` owns the producer's [`ArrowArray`],
+/// and reads the values, bits and validity in place. Clones, columns, slices and exports share it.
 /// Dropping the last of them releases it, on any thread.
 ///
 /// A column has one row per row of its struct, for any offset of the two.
@@ -65,8 +65,8 @@ impl Array {
     ///
     /// # Errors
     ///
-    /// Returns [`ArrowError::Malformed`] if a struct isn't as the interface requires. Both are then
-    /// released.
+    /// Returns [`ArrowError::Malformed`] if a struct isn't as the interface requires, or if the
+    /// type has more than 64 levels. Both structs are then released.
     ///
     /// # Safety
     ///
@@ -166,8 +166,9 @@ impl Array {
     }
 
     /// Returns the number of null rows: all rows of an array of the null type. For other types it
-    /// is the array's own count if that is 0 or if these are all of its rows; otherwise the call
-    /// counts the validity bits. Rows that name a null item of a dictionary are not counted.
+    /// is the producer's count if that is 0, or if there is one and these are all rows of the
+    /// array; otherwise the call counts the validity bits. Rows that name a null item of a
+    /// dictionary are not counted.
     ///
     /// # Errors
     ///

@@ -16,7 +16,7 @@ pub struct StreamError {
     /// A number of `errno.h`: 5 is EIO, 12 ENOMEM, 22 EINVAL. A producer's 0 reaches the consumer
     /// as 5.
     pub errno: i32,
-    /// A message for people.
+    /// A message for people. A consumer gets the part before the first character 0.
     pub text: String,
 }
 
@@ -81,12 +81,13 @@ pub enum ArrowError {
         /// The stream's error.
         error: StreamError,
     },
-    /// A struct isn't as the interface requires.
+    /// A struct isn't as the interface requires, or a format or a dictionary as the call requires.
     Malformed {
         /// The names of the columns from the outermost one on, with a point between two. A child
-        /// without a name, or with one that can't be read, has its index instead. For the array
-        /// itself it is empty if an import fails, otherwise its name, with which the names of its
-        /// columns begin too.
+        /// without a name, or with one that can't be read, has its index instead, and the items of
+        /// a dictionary are named `dictionary`. For the array itself it is empty if an import or a
+        /// change of its type fails, otherwise its name, with which the names of its columns begin
+        /// too.
         column: String,
         /// The fault of the struct.
         fault: Fault,
@@ -172,7 +173,7 @@ pub enum ArrowError {
         /// views, or items of lists, of a union or of a dictionary.
         what: &'static str,
         /// Their number. For offsets it counts up to the end of the first row that an offset can't
-        /// represent.
+        /// represent, for dictionaries up to the first index.
         number: usize,
         /// The greatest number that the type can represent.
         most: i64,
@@ -219,8 +220,9 @@ pub enum Fault {
         /// The number that the struct has.
         got: i64,
     },
-    /// A required buffer is null: the values, offsets, sizes, types or views if there are items,
-    /// the validity if there are nulls, or the bytes of texts if the rows have bytes.
+    /// A required buffer is null: the values, offsets, types, views or sizes of list views if there
+    /// are items, the sizes of the buffers of views if there are such buffers, the validity if
+    /// there are nulls, or the bytes of texts if the last row ends after byte 0.
     NoBuffer(&'static str),
     /// An offset of texts or lists is below the one before it, negative, or above `isize::MAX`; or
     /// a list view isn't in bounds of its items.
@@ -275,7 +277,7 @@ pub enum Fault {
         /// The number of items that there are.
         got: usize,
     },
-    /// The interface has no type with this format.
+    /// The interface has no type with this format, or `Field::new` doesn't make fields of the type.
     Format(String),
     /// This text isn't UTF-8.
     Utf8(&'static str),

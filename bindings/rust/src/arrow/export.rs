@@ -182,7 +182,8 @@ impl Export {
     ///
     /// - a child or the dictionary has another type,
     /// - a row is null, and the rows' own type allows nulls but the field doesn't: nulls in
-    ///   dictionaries and in the items of lists, runs and unions count even if no row has them,
+    ///   dictionaries, in the items of lists, runs and unions, and below null rows of a struct
+    ///   count even if no row has them,
     /// - the field has any other flag that the rows don't have.
     pub fn with_field(self, field: &Field) -> Result<Export, ArrowError> {
         let typed = self.with_format(field.format())?;
@@ -301,7 +302,8 @@ impl Export {
 }
 
 /// Exports the rows unchanged, of any type, such as a column that a query forwards or a slice of a
-/// batch. Both share the array, and the last of them releases it. If `from_raw` imports each export
+/// batch. The export shares the array with its clones, columns and slices, and the last of them
+/// releases it. If `from_raw` imports each export
 /// of a chain, all arrays stay, and a chain of thousands overflows the stack when it is dropped.
 ///
 /// ```

@@ -45,7 +45,8 @@ impl Stream {
     /// # Errors
     ///
     /// Returns [`ArrowError::Stream`] if the stream reports an error, and [`ArrowError::Malformed`]
-    /// if a struct isn't as the interface requires. The stream is released then.
+    /// if a struct isn't as the interface requires, or if the type has more than 64 levels. The
+    /// stream is released then.
     ///
     /// # Safety
     ///
@@ -181,14 +182,14 @@ impl ExportStream {
     /// it. The stream ends with the first None of the iterator, even if later calls would return
     /// more.
     ///
-    /// Each batch must have the names and the types of `field`. A column that may have nulls in
-    /// `field` may be one without nulls in a batch. The reverse is allowed too, if no row is null
-    /// (nulls in dictionaries and in the items of lists, runs and unions count even if no row has
-    /// them). The metadata may differ. If a batch doesn't match, the consumer gets EINVAL and a
-    /// text. It names the first column with another name or type or, if there is none, the first
-    /// with nulls; it names no column if the batch itself differs, as by its number of columns.
-    /// Code that makes batches from another producer's arrays can use `?`: an [`ArrowError`]
-    /// becomes a [`StreamError`].
+    /// Each batch must have the names, the types and the flags of `field`. A column that may have
+    /// nulls in `field` may be one without nulls in a batch. The reverse is allowed too, if no row
+    /// is null (nulls in dictionaries, in the items of lists, runs and unions, and below null rows
+    /// of a struct count even if no row has them). The metadata may differ. If a batch doesn't
+    /// match, the consumer gets EINVAL and a text. It names the first column with another name or
+    /// type or, if there is none, the first with nulls; it names no column if the batch itself
+    /// differs, as by its number of columns. Code that makes batches from another producer's arrays
+    /// can use `?`: an [`ArrowError`] becomes a [`StreamError`].
     ///
     /// If the iterator panics, the consumer gets EIO with the text of the panic, from this call and
     /// from each later one. Without the feature `std`, or with `panic = "abort"`, the program

@@ -35,7 +35,8 @@ impl Array {
     /// Decodes a column with a dictionary: returns the item of each row in new memory, and which
     /// rows are valid. A row is valid if its index and its item are. The validity is `None` if
     /// neither has validity bits: all rows are valid then. The values of null rows are arbitrary.
-    /// Their indices are not read, because the interface does not define them.
+    /// Their indices may be any numbers, since the interface doesn't define them. If the items have
+    /// a dictionary too, it returns their indices, and ignores the nulls of that dictionary.
     ///
     /// It is the same as [`values::take_valid`] of the items and [`Validity::take_valid`] of their
     /// validity, with [`values`](Array::values) of the column's index type.
@@ -119,7 +120,8 @@ impl Array {
     ///
     /// - Returns [`ArrowError::Type`] if the column has no dictionary.
     /// - Returns [`ArrowError::Unaligned`] if the buffer of the indices isn't aligned for them.
-    /// - Returns the errors of [`Array::texts`] of the items.
+    /// - Returns the errors of [`Array::texts`] of the items, but not for offsets of items that no
+    ///   row names.
     /// - Returns [`ArrowError::Take`] with the first valid index that names no item.
     /// - Returns [`ArrowError::LongTexts`] if the texts are longer together than 2^31 - 1 bytes and
     ///   their offsets have 32 bits, and [`ArrowError::Memory`] if memory can't hold them. A few

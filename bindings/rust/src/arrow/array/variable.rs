@@ -33,8 +33,8 @@ impl Array {
     /// Returns [`ArrowError::Type`] if the array isn't of texts or lists between offsets: views,
     /// list views and fixed-size lists aren't. Returns [`ArrowError::Malformed`] with
     /// [`Fault::Range`] if an offset is negative or below the one before it, with [`Fault::Short`]
-    /// if the rows end after the last item, and with [`Fault::Back`] if these rows are a slice and
-    /// end after the last row of the array.
+    /// if the rows end after the last item, and with [`Fault::Back`] if these rows are a slice
+    /// whose last offset is greater than that of the array.
     pub fn ranges(&self) -> Result<Ranges<'_>, ArrowError> {
         let ranges = self.offsets()?;
         if let Some(items) = self.node.as_ref().children().next() {
@@ -215,8 +215,8 @@ impl Array {
     /// # Errors
     ///
     /// Returns [`ArrowError::Type`] if the array isn't of texts or binary values between offsets.
-    /// Returns [`ArrowError::Malformed`] as [`ranges`](Array::ranges) does, or if the rows have
-    /// bytes and the buffer is null.
+    /// Returns [`ArrowError::Malformed`] as [`ranges`](Array::ranges) does, or if the last row ends
+    /// after byte 0 and the buffer is null.
     pub fn bytes(&self) -> Result<&[u8], ArrowError> {
         Ok(self.joined()?.1)
     }

@@ -61,7 +61,7 @@ impl Export {
     ///
     /// Returns [`ArrowError::Malformed`] if no type has the format. Returns [`ArrowError::Format`]
     /// if arrays of the format have other buffers, values of another width or another number of
-    /// children.
+    /// children, and if the values are indices of a dictionary and those of the format can't be.
     ///
     /// # Safety
     ///

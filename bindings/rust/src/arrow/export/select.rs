@@ -44,13 +44,14 @@ impl Array {
     ///
     /// It copies the selected rows into new memory: numbers, truth values and texts, the columns of
     /// structs, the items of lists and unions, and one value for each run that still has a row. It
-    /// shares the buffers of views, the items of list views and the dictionary; the whole array
-    /// then stays allocated as long as they are in use. Of a chain of such calls only the first
-    /// array stays, also through [`into_stream`](crate::arrow::ExportStream::into_stream). Through
-    /// `from_raw` all arrays stay, and a chain of thousands overflows the stack when it is dropped.
-    /// A batch without columns keeps its number of rows. Rows of the children of structs,
-    /// fixed-size lists and sparse unions are copied, and may cause errors, even if the row above
-    /// them is null or belongs to another child.
+    /// shares the buffers of views, the items of list views and the dictionary; the whole array,
+    /// for a column its whole batch, then stays allocated as long as they are in use. Of a chain of
+    /// such calls only the first array stays, also through
+    /// [`into_stream`](crate::arrow::ExportStream::into_stream). Through `from_raw` all arrays
+    /// stay, and a chain of thousands overflows the stack when it is dropped. A batch without
+    /// columns keeps its number of rows. Rows of the children of structs, fixed-size lists and
+    /// sparse unions are copied, and may cause errors, even if the row above them is null or
+    /// belongs to another child.
     ///
     /// ```
     /// use vortex_bits::arrow::Export;
@@ -79,11 +80,11 @@ impl Array {
     /// - Returns [`ArrowError::Mask`] if the mask has another number of bits than there are rows.
     /// - Returns [`ArrowError::Malformed`] if a selected text or list, except views, ends before it
     ///   begins or after the last byte or item of the array, if a row of a union names no child or
-    ///   item, or if a buffer that the rows need is null.
-    ///   Below lists, runs and unions, the row in the error counts from the first item that the
-    ///   selected rows have.
+    ///   item, or if a buffer that the rows need is null. Below lists, runs and dense unions, the
+    ///   row in the error counts from the first item that the selected rows have.
     /// - Returns [`ArrowError::TooLong`] if one child has more than 2^31 rows of a dense union, and
-    ///   the errors of [`take`](Array::take) if its rows share items.
+    ///   the errors of [`take`](Array::take) if its rows share items, or malformed texts share
+    ///   bytes.
     /// - Returns [`ArrowError::Memory`] if memory runs out for the copies.
     #[doc(alias("where", "compress", "select"))]
     pub fn filter(&self, mask: impl Mask) -> Result<Export, ArrowError> {
@@ -247,7 +248,8 @@ impl Export {
     /// views and the buffers of views. Otherwise it copies the dictionaries and the items of list
     /// views of the arrays with a valid row, array by array and each once, and adjusts the indices
     /// and offsets. The items of a joined dictionary are then in no order, whatever the field's
-    /// flags say.
+    /// flags say. If only one array has a valid row, its dictionary and its items are shared too.
+    /// The buffers of views are never copied: each array with a row then stays allocated.
     ///
     /// ```
     /// use vortex_bits::arrow::{Export, Field};
@@ -270,9 +272,10 @@ impl Export {
     ///
     /// Errors name the columns as the field does.
     ///
-    /// - Returns [`ArrowError::Field`] if an array doesn't have the type of the field, or has a
-    ///   null that its own type allows and the field doesn't. Nulls in dictionaries and in the
-    ///   items of lists, runs and unions count even if no row has them.
+    /// - Returns [`ArrowError::Field`] if an array has another type or other flags than the field,
+    ///   or a null that its own type allows and the field doesn't. Nulls in dictionaries, in the
+    ///   items of lists, runs and unions, and below null rows of a struct count even if no row has
+    ///   them.
     /// - Returns [`ArrowError::LongTexts`] or [`ArrowError::TooLong`] if offsets of 32 bits, the
     ///   ends of runs or the indices of a dictionary can't represent all rows.
     /// - Returns [`ArrowError::TooLong`] if there are 2^63 rows or items or more, and

@@ -74,7 +74,8 @@ impl Export {
     /// # Errors
     ///
     /// Returns the errors of [`Array::texts`], but not for offsets of rows that the mask doesn't
-    /// select. Returns [`ArrowError::Memory`] if memory runs out for the copies.
+    /// select, and [`ArrowError::LongTexts`] if malformed rows share bytes and are too long
+    /// together. Returns [`ArrowError::Memory`] if memory runs out for the copies.
     ///
     /// # Panics
     ///

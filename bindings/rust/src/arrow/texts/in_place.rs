@@ -10,9 +10,9 @@ use crate::portable::only_word;
 use crate::written::Written;
 
 /// Predicates that unset the bits of the rows in a mask that fail them. The result is that of `&=`
-/// with the bitmap of the predicate with the same name, but no bitmap is allocated: all terms of an
-/// `and` write one mask. They don't read a group of 64 rows without a set bit. A null row passes no
-/// predicate, so its bit is unset.
+/// with the bitmap of the predicate with the same name without `and_`, but no bitmap is allocated:
+/// all terms of an `and` write one mask. They don't read a group of 64 rows without a set bit. A
+/// null row passes no predicate, so its bit is unset.
 ///
 /// # Panics
 ///

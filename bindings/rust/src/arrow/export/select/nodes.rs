@@ -64,7 +64,7 @@ pub(super) struct Nodes {
 
 impl Nodes {
     /// Returns these nodes. `of` returns the memory of a node. Looks up each one among those before
-    /// it, in a tree.
+    /// it, in a map.
     pub(super) fn of<'a, K: Ord>(
         nodes: impl Iterator<Item = NodeRef<'a>>,
         of: impl Fn(NodeRef<'a>) -> K,
