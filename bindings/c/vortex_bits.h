@@ -4,13 +4,13 @@
  *
  *     cc -O2 app.c -I DIST/include DIST/lib/libvortex_bits.a
  *     cc -O2 app.c $(pkg-config --cflags --libs vortex_bits-static)
- *     cc -O2 app.c $(pkg-config --cflags --libs vortex_bits)
+ *     cc -O2 app.c $(pkg-config --cflags --libs vortex_bits) -Wl,-rpath,DIST/lib
  *
- * The last command links the shared library. In a checkout this file is in bindings/c, and
- * `bindings/build x86-64-v2 x86-64-v3` writes the libraries to bindings/out. This file includes
- * vortex_bits_gather.h (bits built from other bits), vortex_bits_ranks.h (ranks over a table of
- * counts), vortex_bits_values.h, vortex_bits_compare.h and vortex_bits_aggregate.h (values).
- * vortex_bits.hpp has C++ classes.
+ * DIST is an unpacked release. The last command links the shared library. In a checkout this file
+ * is in bindings/c, and `bindings/build x86-64-v2 x86-64-v3` writes the libraries to bindings/out.
+ * This file includes vortex_bits_gather.h (bits built from other bits), vortex_bits_ranks.h (ranks
+ * over a table of counts), vortex_bits_values.h, vortex_bits_compare.h and vortex_bits_aggregate.h
+ * (values). vortex_bits.hpp has C++ classes.
  *
  * libvortex_bits.a and libvortex_bits.so have code for x86-64-v2 and for x86-64-v3, and run the
  * higher one that the processor has. libvortex_bits_x86-64-v2.a and libvortex_bits_x86-64-v3.a have
@@ -20,9 +20,9 @@
  *
  * Bit i of some bytes is bit i % 8 of byte i / 8, least significant first. A window is the `len`
  * bits starting at bit `offset`. No result depends on a bit outside the windows that a call names,
- * and no such bit changes, except by calls that end in _padded. Lengths, offsets and indices are in
- * bits. A number whose name ends in `size` is in bytes, and one whose name ends in `count` is in
- * items.
+ * and no such bit changes, except by calls that end in _padded. Lengths, offsets and indices of
+ * bits are in bits; indices of values, and codes, count items. A number whose name ends in `size`
+ * is in bytes, and one whose name ends in `count` is in items.
  *
  * A call may load any of the `size` bytes that it is given to read. In a window that it writes, it
  * loads and stores only the bytes that have a bit of the window; the other bits of the first and
@@ -33,25 +33,26 @@
  * byte, such as the first 1,000 bits and the next 1,000.
  *
  * For every call, the caller must ensure: each pointer points to the number of items that the next
- * argument gives, and may be null if that is 0; the last pointer of a vb_try_ function, to the
- * result, is not null; the output overlaps no other argument (no function tests that, not even
- * those with `try`); during the call nothing else accesses the bytes that it stores, and nothing
- * writes the `size` bytes that it reads. For a call without `try` also: each window ends in its
- * bytes, and its end, offset + len, is at most SIZE_MAX.
+ * argument gives, and may be null if that is 0; if a vb_try_ function has a pointer to a result,
+ * its last argument, that is not null; the output overlaps no other argument (no function tests
+ * that, not even those with `try`); during the call nothing else accesses the bytes that it stores,
+ * and nothing writes the bytes and items that it reads. For a call without `try` also: each window
+ * ends in its bytes, its end, offset + len, is at most SIZE_MAX, and the conditions in its own
+ * comment hold, such as capacities.
  *
- * A vb_try_ function requires only what every call requires. It tests sizes, offsets, lengths and
- * capacities, and that no pointer is null unless its number is 0. So it detects a failed malloc. If
- * a test fails, it returns false and leaves everything unchanged. An index that is out of range is
- * not such a failure: takes and calls by group report the first one in the vb_taken that they
- * return; their vb_try_ forms write it to their last pointer. No function allocates memory or keeps
- * a pointer.
+ * A vb_try_ function, the checked form of the plain one before it, requires only what every call
+ * requires. It tests sizes, offsets, lengths and capacities, and that no pointer is null unless its
+ * number is 0. So it detects a failed malloc. If a test fails, it returns false and leaves
+ * everything unchanged. An index of a take or a code of a group that is out of range is not such a
+ * failure: these calls report the first one in the vb_taken that they return; their vb_try_ forms
+ * write it to their last pointer. No function allocates memory or keeps a pointer.
  *
  * For an Arrow array, `offset` is the array's plus those of the structs that it is a column of, and
- * `size` is (offset + len + 7) / 8; its values begin at `values + offset`. A missing validity, a
- * null pointer, means that all are valid: takes, vb_and_kleene and vb_or_kleene have an argument
- * for it. In place of a window, vb_and_validity, vb_and_validities, vb_count_valid and
- * vb_filter_validity accept NULL, 0, 0 for it; other functions don't. A macro can write the three
- * arguments of a window:
+ * `size` is (offset + len + 7) / 8; its values begin at `values + offset`, or, if they are bits, at
+ * bit `offset`. A missing validity, a null pointer, means that all are valid: takes, vb_and_kleene
+ * and vb_or_kleene have an argument for it. In place of a window, vb_and_validity,
+ * vb_and_validities, vb_count_valid and vb_filter_validity accept NULL, 0, 0 for it; other
+ * functions don't. A macro can write the three arguments of a window:
  *
  *     struct { const uint8_t *bytes; size_t size, offset; } a = {(const uint8_t[]){0xE8}, 1, 3};
  *     #define WINDOW(it) (it).bytes, (it).size, (it).offset
@@ -161,7 +162,7 @@ VB_CHECKED bool vb_try_get_bit(const uint8_t *bytes, size_t size, size_t offset,
  *     const uint8_t rows[] = {0xE8, 0x06};
  *     size_t ones;
  *     assert(vb_count_ones(rows, 2, 3, 10) == 6);
- *     assert(!vb_try_count_ones(rows, 2, 3, 14, &ones));    // they end behind the bytes
+ *     assert(!vb_try_count_ones(rows, 2, 3, 14, &ones));    // it ends after the bytes
  */
 size_t vb_count_ones(const uint8_t *bytes, size_t size, size_t offset, size_t len);
 VB_CHECKED bool vb_try_count_ones(const uint8_t *bytes, size_t size, size_t offset, size_t len,
@@ -347,7 +348,7 @@ VB_CHECKED bool vb_try_set_indices_u32(uint32_t *out, size_t out_count, const ui
 /*
  * Writes the runs of set bits, from front to end, each as long as possible, to the front of `out`,
  * up to its capacity, and returns the number written (`written`). Reads no page of memory after the
- * window's last one or, if it fills `out`, after the page of the bit behind the last written run.
+ * window's last one or, if it fills `out`, after the page of the bit after the last written run.
  *
  *     const uint8_t rows[] = {0xE8, 0x06};
  *     vb_run runs[4];

@@ -13,9 +13,9 @@
  * does not compile. Calls test lengths, single indices and capacity, and throw std::out_of_range
  * before a write, or abort without exceptions. Takes and calls by group instead return the position
  * of the first index or code out of range; set_indices_into and set_slices_into write items up to
- * the size of their output. No output may overlap an input or another output. A call may read all
- * bytes of its windows' containers: vortex_bits.h says what threads may do. All parts of a program
- * need one version of C++, and exceptions in all or in none.
+ * the size of their output. The container of an output may overlap no other argument. A call may
+ * read all bytes of its windows' containers: vortex_bits.h says what threads may do. All parts of a
+ * program need one version of C++, and exceptions in all or in none.
  */
 #ifndef VORTEX_BITS_HPP
 #define VORTEX_BITS_HPP
@@ -391,7 +391,7 @@ public:
         vb_move_bits(writable(), size_, offset_ + to, offset_ + from, len);
     }
 
-    /* Here and below `source` or `right` must have this window's length and none of its bytes. */
+    /* Here and below `source` or `right` has this window's length, and another container. */
     void copy_from(bits source) { by_another(vb_copy_bits, source); }
     void operator&=(bits right) { by_another(vb_and_bits, right); }
     void operator|=(bits right) { by_another(vb_or_bits, right); }
@@ -431,10 +431,11 @@ public:
 
     /*
      * Takes bits of `values`, as bits::take_into writes them, where `valid`, if there is one, is
-     * true; writes false at other positions. With dictionary codes as indices this is a semi-join.
-     * It is also one with other numbers, if `valid` is false at each that is out of range:
+     * true; writes false at other positions. Returns the first position that counts and whose index
+     * is out of range, if any; all bits are unspecified then. With dictionary codes as indices this
+     * is a semi-join. It is also one with other numbers, if `valid` is false at each out of range:
      *
-     *     bad = rows.take_of(selected_keys, codes, valid);    // the rows of these keys
+     *     bad = rows.take_of(selected_keys, codes, valid);    // rows: those with these keys
      */
     template <class Indices>
     [[nodiscard]] std::optional<std::size_t> take_of(bits values, const Indices &indices,

@@ -2,8 +2,8 @@
  * Sum, minimum and maximum of values that a mask selects; counts and sums by group. vortex_bits.h
  * includes this file; its first comment states what the caller must ensure for every call.
  *
- * Value k is selected if bit `mask_offset + k` of `mask` is set; the mask must have one bit for
- * each of the `values_count` values. Each call processes 64 values at a time, skips them if none is
+ * In calls with a mask, value or code k is selected if bit `mask_offset + k` of `mask` is set; the
+ * mask must have one bit for each. Such a call processes 64 at a time, skips them if none is
  * selected, and doesn't look at single bits if all are.
  */
 #ifndef VORTEX_BITS_AGGREGATE_H
@@ -251,7 +251,7 @@ VB_CHECKED bool vb_try_masked_max_i64(const int64_t *values, size_t values_count
 /*
  * Returns the sum of the selected floats, 0.0 if there are none. It starts from 0.0 and adds one
  * float after the other, in the order of the rows, each rounded as IEEE 754 says: the result is
- * that of a plain loop, bit by bit, unless it is NaN. The sums of several batches, added, may
+ * that of a plain loop, bit for bit, unless it is NaN. The sums of several batches, added, may
  * differ from that of one loop over all.
  *
  *     const double weights[] = {1e16, 7.0, 1.0, -1e16};
@@ -298,10 +298,10 @@ VB_CHECKED bool vb_try_masked_max_f64(const double *values, size_t values_count,
 /* To here. */
 
 /*
- * Counts by group: row k has the code `codes[k]`, the index of its count, as rows of a dictionary
- * array have. Adds to each count the number of selected rows with its code, modulo 2^64. If
- * `all_selected` is true, each row is selected, and the mask may be null, of no bytes. Else row k
- * is selected if bit `mask_offset + k` of `mask` is set; the codes of other rows may be any number.
+ * Counts by group: row k has the code `codes[k]`, the index of its count, as in a dictionary array.
+ * Adds to each count the number of selected rows with its code, modulo 2^64. If `all_selected` is
+ * true, each row is selected, and the mask may be a null pointer of size 0. Else row k is selected
+ * if bit `mask_offset + k` of `mask` is set; the codes of other rows may be any number.
  *
  * Returns the first selected row whose code isn't below `counts_count`, as `position`; the counts
  * are then unchanged. Signed codes may be passed as unsigned ones of that width, if there are at

@@ -182,7 +182,10 @@ template <class Values> [[nodiscard]] auto masked_sum(const Values &values, bits
     return detail::aggregate::of(values, mask, [](auto by, auto... all) { return by.sum(all...); });
 }
 
-/* Returns that sum as a value of their type; nullopt if it is out of the range of the type. */
+/*
+ * Returns the sum of whole numbers as a value of their type; nullopt if it is out of the range of
+ * the type.
+ */
 template <class Values> [[nodiscard]] auto masked_checked_sum(const Values &values, bits mask)
 {
     return detail::aggregate::of_whole(values, mask, [](auto by, auto... all) {

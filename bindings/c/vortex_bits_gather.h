@@ -181,7 +181,7 @@ VB_CHECKED bool vb_try_pack_truthy_padded(uint8_t *out, size_t out_size, const u
 /*
  * Unpacks bits: writes each bit of the window, as a `bool` or as a byte 0 or 1, to the front of
  * `out`. `out_count`, the capacity of `out`, must be at least `len`; the checked form tests it too.
- * The items after them are unchanged. Processes 64 bits at a time, by vectors.
+ * Items of `out` after the first `len` are unchanged. Processes 64 bits at a time, by vectors.
  *
  *     const uint8_t rows[] = {0xE8};
  *     bool bools[4];
@@ -202,12 +202,12 @@ VB_CHECKED bool vb_try_unpack_bytes(uint8_t *out, size_t out_count, const uint8_
 /*
  * Takes (gathers) bits: writes the bits of the window at the indices to the bits of `out` from bit
  * `out_offset` on, one for each index. If `all_valid` is true, each position counts, and the
- * validity may be null, of no bytes. Else a position counts if its bit of `validity`, from bit
- * `validity_offset` on, is true; the others get false, and their indices are ignored. Returns the
- * first position that counts and whose index is out of range (not below `len`), if there is one;
- * the checked form writes it to `taken`. Every other bit of `out` is unchanged. If a position is
- * returned, the bits of `out` for all indices are unspecified. Processes 64 indices at a time, or
- * single indices if the window has 2^32 - 9 bits or more.
+ * validity may be a null pointer of size 0. Else a position counts if its bit of `validity`, from
+ * bit `validity_offset` on, is true; the others get false, and their indices are ignored. Returns
+ * the first position that counts and whose index is out of range (not below `len`), if there is
+ * one; the checked form writes it to `taken`. Every other bit of `out` is unchanged. If a position
+ * is returned, the bits of `out` for all indices are unspecified. Processes 64 indices at a time,
+ * or single indices if the window has 2^32 - 9 bits or more.
  *
  * With the codes of rows as indices into a selection of keys, one call is a whole semi-join.
  *
@@ -258,10 +258,10 @@ VB_CHECKED bool vb_try_take_bits_u64(uint8_t *out, size_t out_size, size_t out_o
 
 /*
  * Filters bits: writes the bits that the mask selects to the bits of `out` from bit `out_offset`
- * on, in order. A bit among those of `bytes` from bit `offset` on is selected if its bit of `mask`,
- * from bit `mask_offset` on, is true. The bits to write must be in `out`; the checked form tests
- * that too. Returns their number (`written`). Every other bit of `out` is unchanged. Processes 64
- * bits at a time.
+ * on, in order. One of the `len` bits of `bytes` from bit `offset` on is selected if its bit of
+ * `mask`, from bit `mask_offset` on, is true. The bits to write must be in `out`; the checked form
+ * tests that too. Returns their number (`written`). Every other bit of `out` is unchanged.
+ * Processes 64 bits at a time.
  *
  *     uint8_t out[] = {0xFF};
  *     const uint8_t bits[] = {0x76}, mask[] = {0x4B};
@@ -311,16 +311,17 @@ VB_CHECKED bool vb_try_deposit_bits(uint8_t *out, size_t out_size, size_t out_of
 /*
  * Writes `left and right`, or `left or right`, of `len` truth values that may be null, by
  * three-valued logic, Kleene's, as in SQL: `and` is false if one of the two is false, and `or` is
- * true if one is true, even if the other one is null. Else the result is null if one is. The bits
- * of `trues` from bit `trues_offset` on say which results are true (false at nulls); those of
- * `valid` from bit `valid_offset` on say which are not null. Every other bit of both is unchanged.
+ * true if one is true, even if the other one is null. Else the result is null if one of the two is
+ * null. The bits of `trues` from bit `trues_offset` on say which results are true (false at nulls);
+ * those of `valid` from bit `valid_offset` on say which are not null. Every other bit of both is
+ * unchanged.
  *
  * The values are the bits of `left` from bit `left_offset` on, and of `right` from `right_offset`
- * on. If `left_all_valid` is true, none of `left` is null, and its validity may be null, of no
- * bytes. Else a value is null if its bit of `left_validity`, from bit `left_validity_offset` on, is
- * false, whatever the value is. The same holds for the right side. `not` needs no separate call:
- * negate the values by vb_negate_bits, and keep the validity. The negated values may be true at
- * nulls: before they select rows, combine them with the validity by vb_and_bits.
+ * on. If `left_all_valid` is true, none of `left` is null, and its validity may be a null pointer
+ * of size 0. Else a value is null if its bit of `left_validity`, from bit `left_validity_offset`
+ * on, is false, whatever the value is. The same holds for the right side. `not` needs no separate
+ * call: negate the values by vb_negate_bits, and keep the validity. The negated values may be true
+ * at nulls: before they select rows, combine them with the validity by vb_and_bits.
  *
  *     // True, true, false and null, with true, false, true and false.
  *     uint8_t trues[] = {0}, valid[] = {0};

@@ -221,7 +221,8 @@ template <class Bytes> void bits_mut::copy_from_truthy(const Bytes &truthy)
 
 /*
  * Packs bools into the first bytes of `out`, eight into each. The remaining bits of the last byte
- * are false. Doesn't accept std::vector<bool>, which stores no bools.
+ * written are false; later bytes are unchanged. Doesn't accept std::vector<bool>, which stores no
+ * bools.
  */
 template <class Bools, class Out> void pack_bools(const Bools &bools, Out &&out)
 {

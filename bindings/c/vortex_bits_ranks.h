@@ -29,9 +29,9 @@ VB_CHECKED bool vb_try_block_counts(size_t *table, size_t table_count, const uin
 /*
  * Returns the number of set bits among the first `index` bits of the window. `index` must be at
  * most `len`; the checked form tests it too. Reads one entry of the table and the bits of one
- * block. Here and below the table has ceil(len / 512) entries, which the checked forms test. They
- * cannot test that vb_block_counts wrote the entries: with others the result is meaningless, but
- * harmless.
+ * block. Here and below `table_count` must be exactly ceil(len / 512), even if the array is longer;
+ * the checked forms test that. They cannot test that vb_block_counts wrote the entries: with others
+ * the result is meaningless, but harmless.
  *
  *     uint8_t rows[128];
  *     memset(rows, 0x11, sizeof rows);

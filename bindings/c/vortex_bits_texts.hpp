@@ -342,7 +342,8 @@ texts(Offsets &&, Bytes &&) -> texts<std::remove_cv_t<detail::lent_of<Offsets>>>
  * The caller ensures that the buffers have offset + len + 1 offsets, and the bytes up to the last
  * one of these:
  *
- *     auto names = texts_of<std::int32_t>(array.buffers[1], array.buffers[2], offset, len);
+ *     auto names = vortex_bits::texts_of<std::int32_t>(array.buffers[1], array.buffers[2], offset,
+ *         len);
  */
 template <class Offset>
 texts<Offset> texts_of(const void *offsets, const void *bytes, std::size_t offset, std::size_t len)

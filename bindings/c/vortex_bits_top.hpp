@@ -20,7 +20,8 @@ namespace vortex_bits {
  * The greatest or the least `k` values of a column that comes in batches, with their rows, as
  * `order by .. limit k` of SQL. Of equal values, such as 0.0 and -0.0, it keeps those of the first
  * rows. It never keeps a NaN. Values are whole numbers of 8 to 64 bits, floats or doubles. A batch
- * with one of the first `k` values takes time in proportion to `k` too, however few rows it has.
+ * that adds one of the best `k` values takes time in proportion to `k` too, however few rows it
+ * has.
  */
 template <class Value> class top_k {
 public:

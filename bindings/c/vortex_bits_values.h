@@ -117,7 +117,7 @@ VB_CHECKED bool vb_try_retain_values(void *values, size_t values_count, size_t v
 
 /*
  * Undoes vb_filter_values (scatters): writes the values, in order, over those items of `out` whose
- * bit of `mask`, from bit `mask_offset` on, is true, and returns their number (`written`). The mask
+ * bit of `mask`, from bit `mask_offset` on, is set, and returns their number (`written`). The mask
  * has `out_count` bits. `values_count` must be at least the number of set bits; the checked form
  * tests it too. Values after those are ignored, and the other items of `out` are unchanged.
  * Processes 64 items at a time.
@@ -174,11 +174,11 @@ VB_CHECKED bool vb_try_scatter_values(void *out, size_t out_count, const void *v
 /*
  * Takes (gathers) values: writes the values at the indices to the front of `out`, one each.
  * `out_count`, the capacity of `out`, must be at least the number of indices. If `all_valid` is
- * true, each position counts, and the validity may be null, of no bytes. Else a position counts if
- * its bit of `validity`, from bit `validity_offset` on, is true; the others get 0, and their
- * indices are ignored. Returns the first position that counts and whose index is out of range (not
- * below `values_count`), if there is one; the checked form writes it to `taken`. If a position is
- * returned, the items of `out` for all indices are unspecified. Later items are unchanged.
+ * true, each position counts, and the validity may be a null pointer of size 0. Else a position
+ * counts if its bit of `validity`, from bit `validity_offset` on, is true; the others get 0, and
+ * their indices are ignored. Returns the first position that counts and whose index is out of range
+ * (not below `values_count`), if there is one; the checked form writes it to `taken`. If a position
+ * is returned, the items of `out` for all indices are unspecified. Later items are unchanged.
  *
  * vb_take_values_u64_u32 takes values of 64 bits at indices of 32. For values of another type of
  * the size, cast the pointers, or call vb_take_values. Signed indices can be cast too, if
