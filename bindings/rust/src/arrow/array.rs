@@ -19,7 +19,7 @@ use super::primitive::{Primitive, Unaligned};
 use super::texts::View;
 use crate::bits::within;
 use crate::error::{OutOfBounds, TakeValuesError, expect};
-use crate::{Bits, Validity};
+use crate::{Bits, Validity, prefetch};
 
 /// Rows of an array of the Arrow C data interface. The `Array` owns the producer's [`ArrowArray`],
 /// and reads the values, bits and validity in place. Clones, columns, slices and exports share it.
@@ -351,6 +351,25 @@ impl Array {
     /// Panics if there is no such child.
     pub(super) fn part(&self, place: usize) -> Array {
         self.part_of(self.node.as_ref().child(place), self.children_have_rows())
+    }
+
+    /// Asks for the memory of a few rows of all columns, which a call then copies one column after
+    /// the other.
+    pub(super) fn ask_for(&self, rows: &[usize]) {
+        /// Loads of more rows of a column overlap by themselves.
+        const FEW: usize = 64;
+        if rows.len() > FEW {
+            return;
+        }
+        for column in self.node.as_ref().children() {
+            let (start, width) = (column.offset + self.start, column.field.layout.widest().0);
+            let is_bits = column.field.layout == Layout::Bits;
+            for row in rows.iter().map(|row| start + row) {
+                let place = if is_bits { row / 8 } else { row * width };
+                prefetch::line(column.values.wrapping_add(place));
+                prefetch::line(column.validity.wrapping_add(row / 8));
+            }
+        }
     }
 
     fn children_have_rows(&self) -> bool {

@@ -225,8 +225,9 @@ struct Found {
     left: u64,
 }
 
-/// The number of blocks of a group. Many more would have more lines than the smallest cache.
-pub(super) const GROUP: usize = 8;
+/// The number of blocks of a group. Few candidates of each block, one line each, fit in the
+/// smallest cache.
+pub(super) const GROUP: usize = 16;
 
 /// Returns the blocks of up to 64 rows that a group has.
 #[inline]

@@ -136,6 +136,9 @@ impl Made {
         rows: Rows<'_>,
     ) -> Result<(), ArrowError> {
         if let [one] = of {
+            if let Rows::Places(places, _) = rows {
+                one.ask_for(places);
+            }
             return self.children(field, |place| [one.part(place)], |_| rows);
         }
         let column = |place| of.iter().map(|it| it.part(place)).collect::<Vec<_>>();
