@@ -178,14 +178,14 @@ impl Texts<'_> {
         if let (Rows::Joined(ranges, bytes), true) = (&self.rows, wanted.count_ones() >= T::MANY) {
             if let Some(block) = Block::new(*ranges, rows, bytes, spans.get_or_insert_default()) {
                 wanted = test.candidates(block, wanted);
-                if !leaves || wanted.count_ones() >= T::MANY {
+                if !leaves || wanted.count_ones() > RARE {
                     let passed = test.of_candidates(block, wanted) & wanted;
                     return Found { passed, left: 0 };
                 }
             }
         }
         match &self.rows {
-            Rows::Joined(ranges, bytes) if leaves => {
+            Rows::Joined(ranges, bytes) if leaves && wanted.count_ones() <= RARE => {
                 each_set(wanted, |row| {
                     let range = ranges.get(start + row).unwrap_or_default();
                     prefetch::line(bytes.as_ptr().wrapping_add(range.start));
@@ -228,6 +228,10 @@ struct Found {
 /// The number of blocks of a group. Few candidates of each block, one line each, fit in the
 /// smallest cache.
 pub(super) const GROUP: usize = 16;
+
+/// The greatest number of candidates of a block that are left for later. More candidates are near
+/// one another, and the processor finds their lines by itself.
+const RARE: u32 = 8;
 
 /// Returns the blocks of up to 64 rows that a group has.
 #[inline]
