@@ -8,7 +8,7 @@ use crate::arrow::error::ArrowError;
 use crate::arrow::field::Field;
 use crate::arrow::primitive::Primitive;
 use crate::bytes::AlignedBytes;
-use crate::{Bits, BitsMut, Validity, Value, values};
+use crate::{Bits, BitsMut, Validity, Value, kernels, values};
 
 /// Returns the validity of the rows and the number of nulls; None if all are valid.
 pub(super) fn validity<'a>(
@@ -50,7 +50,10 @@ fn kept_bits(
     let mut bytes = zeroed(field, len.div_ceil(8), 1)?;
     let mut out = BitsMut::new(&mut bytes, 0, len);
     match (rows, of) {
-        (Rows::Mask(mask, _), [Some(bits)]) => bits.filter_into(mask, out),
+        (Rows::Mask(mask, _), [Some(bits)]) => {
+            assert!(bits.len() == mask.len());
+            kernels::filter(&mut out.written(), *bits, mask);
+        }
         (Rows::Places(places, valid), [Some(bits)]) if !of_null || !rows.has_nulls() => {
             bits.take_valid_into(places, valid, out);
         }
@@ -127,7 +130,11 @@ fn by_kernel<T: Primitive + Value>(bytes: &[u8], rows: Rows<'_>, out: &mut [u8])
         return false;
     };
     match rows {
-        Rows::Mask(mask, _) => drop(mask.keep_into(of, out)),
+        // The set bits were counted once for all columns.
+        Rows::Mask(mask, kept) => {
+            assert!((of.len(), out.len()) == (mask.len(), kept));
+            kernels::keep(out, of, mask);
+        }
         Rows::Places(places, valid) => values::take_valid_into(of, places, valid, out),
         Rows::Runs(..) => return false,
     }
