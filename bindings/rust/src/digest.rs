@@ -5,6 +5,6 @@
 /// The output of tools/digest. tools/write-lists writes it here.
 macro_rules! digest {
     () => {
-        "63dd65095b0e267513884864ef4fd14fff0d35591b7bcb5291a1ae6db172a15f"
+        "0e6ad74bb60a2cf568eb56f26d84dbff3d15858e4ff7591b1ee1877821cad384"
     };
 }

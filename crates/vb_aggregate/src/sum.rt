@@ -72,13 +72,13 @@ pub fn masked_wrapping_sum<T: Summand>(values: &[T], mask: BitBufferView<'_>) ->
 /// an `i128` for signed ones.
 ///
 /// The mask must have one bit for each value. Does not allocate.
-// A view would be passed in memory.
 #[inline(always)]
 pub fn masked_sum<T: WideSummand>(values: &[T], mask: BitBufferView<'_>) -> T::Total
     requires same_len { length values.now ≡ length (bits_of mask) }
     ensures { T.total_number result
         ≡ int_sum (map T.number (kept_by (bits_of mask.entry) values.now)) }
 {
+    // It is inlined, since a caller would pass the view in memory.
     fold_few_or_kept::<T, Sum>(T::no_total(), values, mask)
 }
 

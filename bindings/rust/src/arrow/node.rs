@@ -127,11 +127,13 @@ impl Node {
         unsafe { read::all(array, field, origin) }.map(Node::first)
     }
 
+    /// Returns the first array of a tree.
     fn first(all: Vec<Tested>) -> Node {
         let (tree, place) = (all.into(), 0);
         Node { tree, place }
     }
 
+    /// Returns a reference to the array and its tree, which counts no owner.
     #[inline]
     pub fn as_ref(&self) -> NodeRef<'_> {
         let (tree, place) = (&self.tree, self.place);
@@ -158,11 +160,13 @@ impl Deref for NodeRef<'_> {
 }
 
 impl<'a> NodeRef<'a> {
+    /// Returns the numbers and the buffers.
     #[inline]
     pub fn get(self) -> &'a Tested {
         &self.tree[self.place]
     }
 
+    /// Returns an owner of the tree.
     #[inline]
     pub fn to_node(self) -> Node {
         Node {
@@ -194,6 +198,7 @@ impl<'a> NodeRef<'a> {
         self.at(node.below + place)
     }
 
+    /// Returns the dictionary; None if there is none.
     pub fn dictionary(self) -> Option<NodeRef<'a>> {
         let node = self.get();
         let place = node.below + node.field.children.len();

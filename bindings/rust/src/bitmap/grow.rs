@@ -6,8 +6,7 @@ use crate::kernels;
 use crate::{Bits, BitsMut, Grow, Validity};
 
 /// Calls that write. If the bytes have another owner, all but `truncate` and `clear` allocate a
-/// copy of the bits first. A bitmap that grows past its capacity moves to new bytes, at least twice
-/// as many.
+/// copy of the bits first. A bitmap that grows past its capacity moves to new bytes.
 impl<B: Grow> Bitmap<B> {
     /// Returns the bytes, the index of the first bit, and the length. Copies the bits if the bytes
     /// have other owners.
