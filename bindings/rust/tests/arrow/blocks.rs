@@ -17,7 +17,7 @@ impl Rows {
     /// rows each block has its own share of nulls, and of rows of one length.
     fn random(maker: &mut Maker, text: &[u8]) -> Rows {
         let few = [0, 1, 7, 17, 63, 64, 65, 66, 127, 130, 200];
-        let many = [511, 512, 513, 576, 577, 1025];
+        let many = [513, 960, 1023, 1024, 1025, 1089, 2049];
         let number = if maker.below(6) > 0 {
             maker.one_of(&few)
         } else {

@@ -332,16 +332,9 @@ fn tree(spoil: impl Fn(&str, &mut Array)) -> String {
 #[test]
 fn arrays_at_each_level_are_named() {
     assert_eq!(tree(|_, _| ()), "");
-    for (place, column) in [
-        ("a", "a"),
-        ("b", "b"),
-        ("a.x", "a.x"),
-        ("b.x", "b.x"),
-        ("a.x.dictionary", "a.x.dictionary"),
-        ("b.x.dictionary", "b.x.dictionary"),
-    ] {
+    for place in ["a", "b", "a.x", "b.x", "a.x.dictionary", "b.x.dictionary"] {
         let said = tree(|at, it| it.offset = if at == place { -1 } else { 0 });
-        assert_eq!(said, format!("column \"{column}\": offset is -1"));
+        assert_eq!(said, format!("column \"{place}\": offset is -1"));
     }
 }
 
